@@ -10,6 +10,8 @@ pub mod Wholes
 pub mod Views
 pub mod Returns
 pub mod Restoring
+pub mod CutLogs
+pub mod Fitting
 pub mod Logging
 pub mod TenantNames
 pub mod SeenHistories

@@ -67,12 +67,12 @@ records_of_steps tenants (e ∷ es) =
     ap (λ bytes. step_bytes tenants e.event ++ bytes) (records_of_steps tenants es)
     ∙ change_first tenants (change_of tenants e.event) (changes_of tenants (steps_of es))
 
-records_of : (p : LogPolicy) (tenants : List Tenant) (history : List (Entry Step)) → has_log p ≡ true →
+pub history_records : (p : LogPolicy) (tenants : List Tenant) (history : List (Entry Step)) → has_log p ≡ true →
     encode (recorded_bytes p tenants) history ≡ records_bytes (logged_changes tenants (steps_of history))
-records_of policy.NoLog tenants history some = absurd cc
-records_of policy.Never tenants history some = records_of_steps tenants history
-records_of policy.Closes tenants history some = records_of_steps tenants history
-records_of policy.Each tenants history some = records_of_steps tenants history
+history_records policy.NoLog tenants history some = absurd cc
+history_records policy.Never tenants history some = records_of_steps tenants history
+history_records policy.Closes tenants history some = records_of_steps tenants history
+history_records policy.Each tenants history some = records_of_steps tenants history
 
 -- ---- the durable state
 
@@ -82,7 +82,7 @@ restorable names history s opens leads returned formed =
     let all = returned_as_taken names history s opens leads returned formed in
     record {
       leads = leads;
-      records = records_of names.policy names.setting.tenants history;
+      records = history_records names.policy names.setting.tenants history;
       agrees = logs_extend fmap.empty (opening_state names) (initial_state names.opening) (steps_of history) s opening leads all;
       opens = opens;
       opening = opening;

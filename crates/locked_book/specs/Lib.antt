@@ -11,3 +11,4 @@ pub mod Logging
 pub mod Recording
 pub mod Durability
 pub mod Restoring
+pub mod CutLogs

@@ -20,6 +20,7 @@ mod droppable_desk;
 mod durable_state;
 mod history;
 mod kept;
+pub mod laws;
 mod locked;
 mod log;
 mod names;

@@ -1,0 +1,355 @@
+-- Each change of a legal history fits into a record, and is the change that its description describes.
+use Rattle.std.proofs.Common.{◌≡◌, ◌≤◌, ◌<◌, ◌+◌, ◌∙◌, ℕ, Bool, true, false, not, List, [], ◌∷◌, ◌++◌, Option, Some, None, Ok, Err, IfSome, ap, arith, length, length-append, refl, subst, sym}
+use Rattle.std.proofs.lemmas.List.{take-append-drop}
+use Rattle.std.specs.Prelude.{◌^◌, ◌==◌, drop, map, position, take, nat_le, nat_lt, if◌then◌else◌, sum_by}
+use Rattle.std.specs.FinMap.{get}
+use Rattle.std.specs.FinMap as fmap
+use Rattle.std.specs.List.{AllByRecursion, before_first, cons_option, prefix_len}
+use Rattle.std.specs.Option.{option_map_or}
+use Rattle.std.proofs.lemmas.Bool.{and_parts, leb-false, not-false, or_parts}
+use Rattle.std.proofs.Common.{codes}
+use Rattle.std.proofs.lemmas.Bool.{ltb-false}
+use Rattle.std.proofs.lemmas.Slice.Eq.{bytes_eq-Decides}
+use Rattle.hex.specs.Hex.{encode_lower, lower_digits}
+use Rattle.hex.proofs.HexLemmas.{length-encode_with}
+use Rattle.sha2.specs.Sha256.{sha256}
+use Rattle.sha2.specs.Sha512.{sha512}
+use Rattle.sha2.proofs.Facts256.{length-sha256}
+use Rattle.sha2.proofs.Facts512.{length-sha512}
+use Rattle.ghost_log.specs.declared.view.Entry.{Entry}
+use Rattle.blob_digest.specs.Digests.{algorithm_of, hash_text, is_digest_of, sha256_text, sha512_text}
+use Rattle.blob_digest.specs.declared.algorithm.Algorithm.{Algorithm}
+use Rattle.blob_digest.specs.declared.algorithm.Algorithm.TheVariants.{Sha256, Sha512}
+use Rattle.blob_digest.specs.Names.{tenant_name}
+use Rattle.blob_digest.specs.declared.refusal.Refusal.TheVariants.{BlobUnknown, DigestInvalid, LimitReached, ManifestUnknown, NameUnknown, SizeInvalid}
+use Rattle.log_records.specs.Changes as logged
+use Rattle.log_records.specs.Changes.{HaveRoom, IsChange, parts}
+use Rattle.log_records.specs.declared.kind.Kind.{Kind}
+use Rattle.log_records.specs.declared.kind.Kind.TheVariants as kind
+use Rattle.oci_manifest.specs.Manifests.{max_manifest}
+use Rattle.spec_lib.specs.Outcomes.{refuse}
+use Rattle.spec_lib.specs.Texts.{Text, same_text}
+use Rattle.spec_lib.proofs.Outcomes.{bound_ok, not_refused, some_of_ok}
+use Rattle.store_model.specs.Catalog.{Catalog, CheckedOutWith, Chunks, HandRecord, Session, SessionNumber, Tenant, charged_length, holds, next_number_of, open_sessions, tenant_of}
+use Rattle.store_model.specs.Commands as commands
+use Rattle.store_model.specs.Commands.{Outcome}
+use Rattle.store_model.specs.Durable.{Agrees, AreReturnedAsTaken, BlobLinked, BlobStored, BlobUnlinked, Change, ChunkReceived, DurableState, ManifestDeleted, ManifestPut, NumberSet, RepoAdded, SessionDropped, SessionOpened, SessionSealed, TakenChunks, change_of, changes_of, chunk_change, command_change, filled_chunk, mount_change, session_key, taken_after_step}
+use Rattle.store_model.specs.Histories.{AreSteps, CommandCall, FinishCall, MayLeadTo, PutBackCall, State, Step, SweepCall, TakeCall, initial_state}
+use Rattle.store_model.specs.Invariant.{Sound, WellFormed}
+use Rattle.store_model.specs.Recovery.{FillsReserve, IsWellFormedStep}
+use Rattle.store_model.specs.Runs as runs
+use Rattle.store_model.specs.Runs.{Answer, Command, outcome, repo_of}
+use Rattle.store_model.specs.Sessions.{hand_content, session_of_hand}
+use Rattle.store_model.specs.declared.mount.Mount.{Mount}
+use Rattle.store_model.specs.declared.mount.Mount.TheVariants as mounting
+use Rattle.store_model.proofs.Commands.Accepted.{answer_by, session_found}
+use Rattle.store_model.proofs.Commands.Hands.{checked_home, taken_found}
+use Rattle.store_model.proofs.Commands.Mount.{source_of}
+use Rattle.store_model.proofs.Durable.Agreement.{after_record}
+use Rattle.store_model.proofs.Durable.Commands.{answered_ok}
+use Rattle.store_model.proofs.Durable.Crashes.{step_sound}
+use Rattle.store_model.proofs.Durable.Histories.{after_record_tenants, step_agrees}
+use Rattle.store_model.proofs.Invariant.SessionTenants.{session_owner}
+use Rattle.locked_book.specs.CutLogs.{changes_in}
+use Rattle.locked_book.specs.Logging.{logged_change, name_at}
+use Rattle.locked_book.specs.History.{steps_of}
+use Rattle.locked_book.specs.Names.{StoreNames}
+use Rattle.locked_book.specs.Restoring.{IsRestorable, opening_state}
+use Rattle.locked_book.proofs.TenantNames.{known_name}
+
+-- ---- lengths
+
+room : (k : Kind) (name digest : List ℕ) (number : ℕ) (body : List ℕ) → length name ≤ 255 → length digest ≤ 135 → number < 2 ^ 32 → length body ≤ 2 ^ 40 → HaveRoom (parts k name digest number body)
+room k name digest number body short text small fits = record {
+  name = omega (arith, short);
+  digest = omega (arith, text);
+  number = omega (arith, small);
+  body = omega (arith, fits);
+}
+
+before_first_short : (p : ℕ → Bool) (xs : List ℕ) → length (before_first p xs) ≤ length xs
+before_first_short p xs =
+    let n = prefix_len (λ x. not (p x)) xs in
+    let less : length (take n xs) ≤ length xs = omega (arith, ap length (take-append-drop n xs), length-append (take n xs) (drop n xs)) in
+    less
+
+seven : length (codes "sha256:") ≡ 7
+seven = refl
+
+seven_too : length (codes "sha512:") ≡ 7
+seven_too = refl
+
+sha256_short : (bytes : List ℕ) → length (sha256_text bytes) ≤ 135
+unfolding sha256_text
+sha256_short bytes = omega (arith, seven, length-append (codes "sha256:") (encode_lower (sha256 bytes)), length-encode_with lower_digits (sha256 bytes), length-sha256 bytes)
+
+sha512_short : (bytes : List ℕ) → length (sha512_text bytes) ≤ 135
+unfolding sha512_text
+sha512_short bytes = omega (arith, seven_too, length-append (codes "sha512:") (encode_lower (sha512 bytes)), length-encode_with lower_digits (sha512 bytes), length-sha512 bytes)
+
+hash_short : (a : Algorithm) (bytes : List ℕ) → length (hash_text a bytes) ≤ 135
+hash_short Sha256 bytes = sha256_short bytes
+hash_short Sha512 bytes = sha512_short bytes
+
+digest_short : (digest bytes : List ℕ) → is_digest_of digest bytes ≡ true → length digest ≤ 135
+digest_short digest bytes is =
+    let same : digest ≡ hash_text (algorithm_of digest) bytes = (bytes_eq-Decides digest (hash_text (algorithm_of digest) bytes)).0 is in
+    omega (arith, ap length same, hash_short (algorithm_of digest) bytes)
+
+-- ---- descriptions
+
+-- the key is of the tenant of some repository
+abbrev pub IsOwned : List Tenant → SessionNumber → Type 0
+IsOwned tenants key = (repo : Text) × (tenant_of tenants repo ≡ Some key.0)
+
+-- the key of the change is the one that its description names
+abbrev pub IsKeyed : List Tenant → Change → Type 0
+IsKeyed tenants (SessionOpened repo key) = key ≡ session_key tenants repo key.1
+IsKeyed tenants (ChunkReceived key bytes) = IsOwned tenants key
+IsKeyed tenants (SessionSealed key digest last) = IsOwned tenants key
+IsKeyed tenants (SessionDropped key) = IsOwned tenants key
+IsKeyed tenants (NumberSet t n) = IsOwned tenants (t, n)
+IsKeyed tenants change = Unit {0}
+
+-- the description of the change fits into a record, and names its key
+abbrev pub Describes : List Tenant → Change → Type 0
+Describes tenants c = IsChange (logged_change tenants c) × IsKeyed tenants c
+
+-- the place of the tenant with this name
+abbrev place : List Tenant → Text → ℕ
+place tenants name = option_map_or (λ t. t) (position (λ x. same_text x.name name) tenants) 0
+
+-- the change that is described
+abbrev described : List Tenant → logged.Change → Change
+described tenants (logged.SessionOpened repo n) = SessionOpened repo (session_key tenants repo n)
+described tenants (logged.ChunkReceived tenant n bytes) = ChunkReceived (place tenants tenant, n) bytes
+described tenants (logged.SessionSealed tenant n digest last) = SessionSealed (place tenants tenant, n) digest last
+described tenants (logged.SessionDropped tenant n) = SessionDropped (place tenants tenant, n)
+described tenants (logged.BlobLinked repo digest) = BlobLinked repo digest
+described tenants (logged.BlobUnlinked repo digest) = BlobUnlinked repo digest
+described tenants (logged.ManifestPut repo bytes) = ManifestPut repo bytes
+described tenants (logged.ManifestDeleted repo digest) = ManifestDeleted repo digest
+described tenants (logged.RepoAdded repo) = RepoAdded repo
+described tenants (logged.NumberSet tenant n) = NumberSet (place tenants tenant) n
+described tenants (logged.BlobStored digest bytes) = BlobStored digest bytes
+
+place_owned : (tenants : List Tenant) (key : SessionNumber) → IsOwned tenants key → place tenants (name_at tenants key.0) ≡ key.0
+place_owned tenants key owned = ap (place tenants) (known_name tenants owned.0 key.0 owned.1) ∙ ap (λ o. option_map_or (λ t. t) o 0) owned.1
+
+described_is : (tenants : List Tenant) (c : Change) → IsKeyed tenants c → described tenants (logged_change tenants c) ≡ c
+described_is tenants (SessionOpened repo key) keyed = ap (SessionOpened repo) (sym keyed)
+described_is tenants (ChunkReceived key bytes) keyed = ap (λ t. ChunkReceived (t, key.1) bytes) (place_owned tenants key keyed)
+described_is tenants (SessionSealed key digest last) keyed = ap (λ t. SessionSealed (t, key.1) digest last) (place_owned tenants key keyed)
+described_is tenants (SessionDropped key) keyed = ap (λ t. SessionDropped (t, key.1)) (place_owned tenants key keyed)
+described_is tenants (BlobLinked repo digest) keyed = refl
+described_is tenants (BlobUnlinked repo digest) keyed = refl
+described_is tenants (ManifestPut repo bytes) keyed = refl
+described_is tenants (ManifestDeleted repo digest) keyed = refl
+described_is tenants (RepoAdded repo) keyed = refl
+described_is tenants (NumberSet t n) keyed = ap (λ m. NumberSet m n) (place_owned tenants (t, n) keyed)
+described_is tenants (BlobStored digest bytes) keyed = refl
+
+all_described : (tenants : List Tenant) (cs : List Change) → AllByRecursion (Describes tenants) cs → map (described tenants) (map (logged_change tenants) cs) ≡ cs
+all_described tenants [] all = refl
+all_described tenants (c ∷ cs) all = λ i. described_is tenants c all.0.1 i ∷ all_described tenants cs all.1 i
+
+-- changes with the same descriptions are the same
+pub same_changes : (tenants : List Tenant) (some others : List Change) → AllByRecursion (Describes tenants) some → AllByRecursion (Describes tenants) others → map (logged_change tenants) some ≡ map (logged_change tenants) others → some ≡ others
+same_changes tenants some others a b same = sym (all_described tenants some a) ∙ ap (map (described tenants)) same ∙ all_described tenants others b
+
+pub all_fit : (tenants : List Tenant) (cs : List Change) → AllByRecursion (Describes tenants) cs → AllByRecursion IsChange (map (logged_change tenants) cs)
+all_fit tenants [] all = tt
+all_fit tenants (c ∷ cs) all = (all.0.0, all_fit tenants cs all.1)
+
+pub first_described : (tenants : List Tenant) (first rest : List Change) → AllByRecursion (Describes tenants) (first ++ rest) → AllByRecursion (Describes tenants) first
+first_described tenants [] rest all = tt
+first_described tenants (c ∷ first) rest all = (all.0, first_described tenants first rest all.1)
+
+-- ---- what a catalog has
+
+module _ (C : Catalog) (lawful : WellFormed C) where
+  abbrev Fits : Change → Type 0
+  Fits c = Describes C.tenants c
+
+  session_fits : (key : SessionNumber) (s : Session) → get C.sessions key ≡ Some s → (length (name_at C.tenants key.0) ≤ 255) × (key.1 < 2 ^ 32) × IsOwned C.tenants key
+  session_fits key s found =
+      let law = lawful.sessions key s found in
+      let owner = session_owner C lawful key s found in
+      let name = known_name C.tenants s.repo key.0 owner in
+      let less : length (tenant_name s.repo) ≤ length s.repo = before_first_short (λ b. b == 47) s.repo in
+      let short = lawful.repositories.short_names s.repo law.repo in
+      let few = lawful.numbering.few key.0 in
+      (omega (arith, ap length name, less, short), omega (arith, law.number, few), (s.repo, owner))
+
+  link_short : (repo digest : Text) → holds C repo digest ≡ true → length digest ≤ 135
+  link_short repo digest has =
+      let kept = (lawful.links (repo, digest) has).kept in
+      digest_short digest kept.0.bytes (lawful.content digest kept.0 kept.1)
+
+  manifest_short : (repo name bytes : Text) → get C.manifests (repo, name) ≡ Some bytes → length name ≤ 135
+  manifest_short repo name bytes found = omega (arith, ap length (lawful.manifests (repo, name) bytes found).name, sha256_short bytes)
+
+  keyed : (r : Text) (t n : ℕ) → tenant_of C.tenants r ≡ Some t → session_key C.tenants r n ≡ (t, n)
+  keyed r t n known = ap (λ o. (option_map_or (λ t. t) o 0, n)) known
+
+  -- ---- changes of sessions
+
+  chunk_fits : (key : SessionNumber) (s : Session) → get C.sessions key ≡ Some s → (bytes : Text) → length bytes ≤ 2 ^ 40 → IfSome (chunk_change key bytes) Fits
+  chunk_fits key s found [] small = tt
+  chunk_fits key s found (x ∷ bytes) small =
+      let f = session_fits key s found in
+      (room kind.ChunkReceived (name_at C.tenants key.0) [] key.1 (x ∷ bytes) f.0 (omega arith) f.1 small, f.2)
+
+  seal_fits : (key : SessionNumber) (s : Session) → get C.sessions key ≡ Some s → (digest whole last : Text) → commands.is_digest_accepted C digest whole ≡ true → length last ≤ 2 ^ 40 → Fits (SessionSealed key digest last)
+  seal_fits key s found digest whole last accepted small =
+      let f = session_fits key s found in
+      let is = and_parts (is_digest_of digest whole) (commands.has_same_bytes (get C.residents digest) whole) accepted in
+      (room kind.SessionSealed (name_at C.tenants key.0) digest key.1 last f.0 (digest_short digest whole is.0) f.1 small, f.2)
+
+  drop_fits : (key : SessionNumber) (s : Session) → get C.sessions key ≡ Some s → Fits (SessionDropped key)
+  drop_fits key s found = let f = session_fits key s found in (room kind.SessionDropped (name_at C.tenants key.0) [] key.1 [] f.0 (omega arith) f.1 (omega arith), f.2)
+
+  open_fits : (r : Text) (n : ℕ) (X : Catalog) → commands.start C r ≡ Ok (n, X) → length r ≤ 255 → Fits (SessionOpened r (session_key C.tenants r n))
+  open_fits r n X is short =
+      let b = bound_ok (commands.tenant C r) _ (n, X) is in
+      let c = bound_ok (refuse (commands.lacks_room_for C b.0 r) LimitReached) _ (n, X) b.2 in
+      let d = bound_ok (refuse (commands.cannot_open C b.0) LimitReached) _ (n, X) c.2 in
+      let number : next_number_of C b.0 ≡ n = answer_by d.2 in
+      let room_left = or_parts (nat_le 64 (open_sessions C b.0)) (nat_le (2 ^ 32) (next_number_of C b.0)) (not_refused (commands.cannot_open C b.0) LimitReached d.0 d.1) in
+      let small = leb-false (2 ^ 32) (next_number_of C b.0) room_left.1 in
+      (room kind.SessionOpened r [] n [] short (omega arith) (omega (arith, number, small)) (omega arith), refl)
+
+  mount_fits : (r d : Text) (from : Option Text) (m : Mount) (X : Catalog) → commands.mount C r d from ≡ Ok (m, X) → length r ≤ 255 → Fits (mount_change C.tenants r d m)
+  mount_fits r d from m X is short =
+      let b = bound_ok (commands.tenant C r) _ (m, X) is in
+      elim (commands.has_source C b.0 d from) as (λ x. commands.has_source C b.0 d from ≡ x → (if x then commands.mounted_outcome C b.0 r d else commands.started_outcome C r) ≡ Ok (m, X) → Fits (mount_change C.tenants r d m)) [
+        | true ↦ λ has h.
+            let c = bound_ok (refuse (commands.lacks_room_for C b.0 r) LimitReached) _ (m, X) h in
+            let source = source_of C b.0 d from has in
+            let answer : mounting.Mounted ≡ m = answer_by c.2 in
+            subst (λ (y : Mount). Fits (mount_change C.tenants r d y)) answer (room kind.BlobLinked r d 0 [] short (link_short source.0 d source.2) (omega arith) (omega arith), tt)
+        | false ↦ λ has h.
+            let c = bound_ok (commands.start C r) _ (m, X) h in
+            let answer : mounting.Session c.0.0 ≡ m = answer_by c.2 in
+            subst (λ (y : Mount). Fits (mount_change C.tenants r d y)) answer (open_fits r c.0.0 c.0.1 c.1 short)
+      ] refl b.2
+
+  -- ---- commands
+
+  command_fits : (command : Command) (x : Answer) (X : Catalog) → outcome false C command ≡ Ok (x, X) → length (repo_of command) ≤ 255 → IfSome (command_change C.tenants command x) Fits
+  command_fits (runs.Start r) x X is short =
+      let h = answered_ok runs.Number (commands.start C r) x X is in
+      subst (λ y. IfSome (command_change C.tenants (runs.Start r) y) Fits) h.2 (open_fits r h.0 X h.1 short)
+  command_fits (runs.Status r n) x X is short = tt
+  command_fits (runs.Append r n g b) x X is short =
+      let h = answered_ok runs.Number (commands.append C r n g b) x X is in
+      let t = bound_ok (commands.tenant C r) _ (h.0, X) h.1 in
+      let checked = bound_ok (commands.chunk_length_check C t.0 r n g (length b)) _ (h.0, X) t.2 in
+      let c = checked_home C t.0 n r g (length b) checked.0 checked.1 in
+      subst (λ (k : SessionNumber). IfSome (chunk_change k b) Fits) (sym (keyed r t.0 n (some_of_ok (tenant_of C.tenants r) NameUnknown t.0 t.1)))
+      (chunk_fits (t.0, n) c.s c.found b (omega (arith, c.fits, lawful.limits.max_blob)))
+  command_fits (runs.Close r n d g b) x X is short =
+      let h = answered_ok runs.Number (commands.close C r n d g b) x X is in
+      let t = bound_ok (commands.tenant C r) _ (h.0, X) h.1 in
+      let checked = bound_ok (commands.chunk_length_check C t.0 r n g (length b)) _ (h.0, X) t.2 in
+      let paid = bound_ok (commands.check_quota C t.0 (length b)) _ (h.0, X) checked.2 in
+      let whole = commands.content_in C.sessions (t.0, n) b in
+      let named = bound_ok (refuse (not (commands.is_digest_accepted C d whole)) DigestInvalid) _ (h.0, X) paid.2 in
+      let accepted = not-false (commands.is_digest_accepted C d whole) (not_refused (not (commands.is_digest_accepted C d whole)) DigestInvalid named.0 named.1) in
+      let c = checked_home C t.0 n r g (length b) checked.0 checked.1 in
+      subst (λ (k : SessionNumber). Fits (SessionSealed k d b)) (sym (keyed r t.0 n (some_of_ok (tenant_of C.tenants r) NameUnknown t.0 t.1)))
+      (seal_fits (t.0, n) c.s c.found d whole b accepted (omega (arith, c.fits, lawful.limits.max_blob)))
+  command_fits (runs.Abandon r n) x X is short =
+      let h = answered_ok runs.Number (commands.abandon C r n) x X is in
+      let t = bound_ok (commands.tenant C r) _ (h.0, X) h.1 in
+      let s = bound_ok (commands.session C t.0 r n) _ (h.0, X) t.2 in
+      subst (λ (k : SessionNumber). Fits (SessionDropped k)) (sym (keyed r t.0 n (some_of_ok (tenant_of C.tenants r) NameUnknown t.0 t.1)))
+      (drop_fits (t.0, n) s.0 (session_found (get C.sessions (t.0, n)) r s.0 s.1).0)
+  command_fits (runs.Mount r d from) x X is short =
+      let h = answered_ok runs.Mounting (commands.mount C r d from) x X is in
+      subst (λ y. IfSome (command_change C.tenants (runs.Mount r d from) y) Fits) h.2 (mount_fits r d from h.0 X h.1 short)
+  command_fits (runs.Delete r d) x X is short =
+      let h = answered_ok (λ _. runs.Done) (commands.delete C r d) x X is in
+      let t = bound_ok (commands.tenant C r) _ (h.0, X) h.1 in
+      let l = bound_ok (commands.check_link C r d) _ (h.0, X) t.2 in
+      (room kind.BlobUnlinked r d 0 [] short (link_short r d (not-false (holds C r d) (not_refused (not (holds C r d)) BlobUnknown l.0 l.1))) (omega arith) (omega arith), tt)
+  command_fits (runs.PutManifest r b) x X is short =
+      let h = answered_ok runs.Bytes (commands.put_manifest C r b) x X is in
+      let t = bound_ok (commands.tenant C r) _ (h.0, X) h.1 in
+      let size = bound_ok (refuse (nat_lt max_manifest (length b)) SizeInvalid) _ (h.0, X) t.2 in
+      let small = ltb-false max_manifest (length b) (not_refused (nat_lt max_manifest (length b)) SizeInvalid size.0 size.1) in
+      (room kind.ManifestPut r [] 0 b short (omega arith) (omega arith) (omega (arith, small)), tt)
+  command_fits (runs.GetManifest r m) x X is short = tt
+  command_fits (runs.DeleteManifest r m) x X is short =
+      let h = answered_ok (λ _. runs.Done) (commands.delete_manifest C r m) x X is in
+      let t = bound_ok (commands.tenant C r) _ (h.0, X) h.1 in
+      let there = bound_ok (commands.manifest C r m) _ (h.0, X) t.2 in
+      (room kind.ManifestDeleted r m 0 [] short (manifest_short r m there.0 (some_of_ok (get C.manifests (r, m)) ManifestUnknown there.0 there.1)) (omega arith) (omega arith), tt)
+  command_fits (runs.Lease r d) x X is short = tt
+
+  -- ---- checked-out sessions
+
+  hand_small : (h : HandRecord) (s : Session) → get C.sessions h.key ≡ Some s → s.chunks ≡ CheckedOutWith (sum_by length h.chunks) h.reserved → FillsReserve h → length (filled_chunk h) ≤ 2 ^ 40
+  hand_small h s found out fills = by h.last fills
+    where
+      reserved : h.reserved ≤ 2 ^ 40
+      reserved =
+          let charged : charged_length s ≡ sum_by length h.chunks + h.reserved = ap (λ (c : Chunks). charged_length (record { repo = s.repo; chunks = c })) out in
+          let small = (lawful.sessions h.key s found).small in
+          omega (arith, charged, small, lawful.limits.max_blob)
+
+      by : (last : Option Text) → IfSome last (λ b. length b ≡ h.reserved) → length (option_map_or (λ b. b) last []) ≤ 2 ^ 40
+      by None f = omega arith
+      by (Some b) f = omega (arith, f, reserved)
+
+  put_back_fits : (h : HandRecord) (n : ℕ) (X : Catalog) → commands.put_back C h ≡ Ok (n, X) → FillsReserve h → IfSome (chunk_change h.key (filled_chunk h)) Fits
+  put_back_fits h n X is fills =
+      let b = bound_ok (commands.put_back_outcome_in C.sessions h) _ (n, X) is in
+      let c = bound_ok (session_of_hand (get C.sessions h.key) h) _ b.0 b.1 in
+      let f = taken_found (get C.sessions h.key) h c.0 c.1 in
+      chunk_fits h.key c.0 f.0 (filled_chunk h) (hand_small h c.0 f.0 f.1 fills)
+
+  finish_fits : (h : HandRecord) (d : Text) (n : ℕ) (X : Catalog) → commands.finish C h d ≡ Ok (n, X) → FillsReserve h → Fits (SessionSealed h.key d (filled_chunk h))
+  finish_fits h d n X is fills =
+      let b = bound_ok (session_of_hand (get C.sessions h.key) h) _ (n, X) is in
+      let c = bound_ok (refuse (not (commands.is_digest_accepted C d (hand_content h))) DigestInvalid) _ (n, X) b.2 in
+      let accepted = not-false (commands.is_digest_accepted C d (hand_content h)) (not_refused (not (commands.is_digest_accepted C d (hand_content h))) DigestInvalid c.0 c.1) in
+      let f = taken_found (get C.sessions h.key) h b.0 b.1 in
+      seal_fits h.key b.0 f.0 d (hand_content h) (filled_chunk h) accepted (hand_small h b.0 f.0 f.1 fills)
+
+-- ---- histories
+
+-- the change of a step, if it has one, is described
+abbrev StepFits : List Tenant → Step → Type 0
+StepFits tenants step = IfSome (change_of tenants step) (Describes tenants)
+
+step_fits : (s : State) (step : Step) (X : Catalog) → MayLeadTo s step X → IsWellFormedStep step → WellFormed s.catalog → StepFits s.catalog.tenants step
+step_fits s (CommandCall command (Ok x)) X leaves right lawful = command_fits s.catalog lawful command x X leaves right
+step_fits s (CommandCall command (Err e)) X leaves right lawful = tt
+step_fits s (SweepCall swept) X leaves right lawful = tt
+step_fits s (TakeCall r n g len reply) X leaves right lawful = tt
+step_fits s (PutBackCall h (Ok n)) X leaves right lawful = put_back_fits s.catalog lawful h n X leaves right
+step_fits s (PutBackCall h (Err e)) X leaves right lawful = tt
+step_fits s (FinishCall h d (Ok n)) X leaves right lawful = finish_fits s.catalog lawful h d n X leaves right.0
+step_fits s (FinishCall h d (Err e)) X leaves right lawful = tt
+
+cons_fits : (tenants : List Tenant) (o : Option Change) (cs : List Change) → IfSome o (Describes tenants) → AllByRecursion (Describes tenants) cs → AllByRecursion (Describes tenants) (cons_option o cs)
+cons_fits tenants None cs one rest = rest
+cons_fits tenants (Some c) cs one rest = (one, rest)
+
+steps_fit : (tenants : List Tenant) (steps : List Step) (taken : TakenChunks) (D : DurableState) (s s' : State) → Agrees taken D s.catalog → D.tenants ≡ tenants → Sound s.catalog → AreSteps s steps s' → AreReturnedAsTaken taken steps →
+    AllByRecursion IsWellFormedStep steps → AllByRecursion (Describes tenants) (changes_of tenants steps)
+steps_fit tenants [] taken D s s' a same sound run returned right = tt
+steps_fit tenants (step ∷ steps) taken D s s' a same sound run returned right =
+    let mid : State = run.0 in
+    let leaves = run.1.leaves in
+    let change = change_of s.catalog.tenants step in
+    cons_fits tenants (change_of tenants step) (changes_of tenants steps)
+    (subst (λ ts. StepFits ts step) (sym a.tenants ∙ same) (step_fits s step mid.catalog leaves right.0 sound.lawful))
+    (steps_fit tenants steps (taken_after_step taken step) (after_record D change) mid s' (step_agrees taken D s step mid.catalog a leaves returned.0) (after_record_tenants D change ∙ same)
+    (step_sound taken D s step mid.catalog a leaves returned.0 right.0 sound) run.2 returned.1 right.1)
+
+-- every change of a history that its log restores is described
+pub history_described : (names : StoreNames) (history : List (Entry Step)) (s : State) → IsRestorable names history s → AllByRecursion (Describes names.setting.tenants) (changes_in names history)
+history_described names history s r =
+    steps_fit names.setting.tenants (steps_of history) fmap.empty (opening_state names) (initial_state names.opening) s r.opening refl r.opens.sound r.leads r.returned r.formed
