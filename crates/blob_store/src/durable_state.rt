@@ -1,7 +1,7 @@
 //! What the log of a store restores.
 
-ghost use Rattle.std.specs.Prelude.{◌≡◌};
-ghost use Rattle.blob_store.specs.DurableStates.{HasSomeDurableState, IsOnSomeDisk};
+ghost use Rattle.std.specs.Prelude.{◌≡◌, true};
+ghost use Rattle.blob_store.specs.DurableStates.{HasSomeDurableState, IsOnSomeDisk, IsWholeOnSomeDisk};
 
 use crate::store::Store;
 use durable_log::IdleDevice;
@@ -33,5 +33,21 @@ impl<S: Naming> Store<S> {
         let mut device = idle.into_device();
         self.locked(rt).reveal_disk(&mut device);
         IdleDevice::new(device)
+    }
+
+    /// Returns the device unchanged, and whether its disk has the whole log of the store, as `LockedBook::is_on_disk` does.
+    ///
+    /// A start asks this after a replay: the store's history then has the records on the disk, and no others.
+    pub fn is_on_disk<D: Disk>(
+        &self,
+        rt: &impl Wait,
+        idle: IdleDevice<Step, StoreLog<S>, D>,
+    ) -> (IdleDevice<Step, StoreLog<S>, D>, bool)
+        ensures same { result.0 ≡ idle }
+        ensures whole { result.1 ≡ true → IsWholeOnSomeDisk S.names idle }
+    {
+        let mut device = idle.into_device();
+        let whole = self.locked(rt).is_on_disk(&mut device);
+        (IdleDevice::new(device), whole)
     }
 }

@@ -47,3 +47,9 @@ pub record IsOnDisk (names : StoreNames) (k : StoreContent) (d : DeviceView Step
   pub restores : IsRestorable names history (state_of k)
   pub taken : IsPrefix d.taken history
   pub in_order : IsPrefix d.written (names.log.base ++ records_of names history)
+
+-- The log of a history restores this content. The disk has the whole log, after what it had before, and no more.
+pub record IsWholeOnDisk (names : StoreNames) (k : StoreContent) (d : DeviceView Step) : Type 0 where
+  pub history : List (Entry Step)
+  pub restores : IsRestorable names history (state_of k)
+  pub whole : d.written ≡ names.log.base ++ records_of names history

@@ -1,7 +1,7 @@
 //! What the log of a store restores.
 
-ghost use Rattle.std.specs.Prelude.{◌≡◌};
-ghost use Rattle.locked_book.specs.Restoring.{HasDurableState, IsOnDisk};
+ghost use Rattle.std.specs.Prelude.{◌≡◌, [], true};
+ghost use Rattle.locked_book.specs.Restoring.{HasDurableState, IsOnDisk, IsWholeOnDisk};
 
 use crate::locked::LockedBook;
 use crate::names::{Naming, StoreLog};
@@ -29,5 +29,16 @@ impl<S: Naming> LockedBook<S> {
     {
         self.history.reveal_durable_state();
         self.history.reveal_disk(device);
+    }
+
+    /// Returns whether the disk has the whole log that `reveal_durable_state` describes: the log records, no record waits,
+    /// and no call on the disk has failed.
+    pub fn is_on_disk<D: Disk>(&mut self, device: &mut LogDevice<Step, StoreLog<S>, D>) -> bool
+        requires { device.old.buffer ≡ [] }
+        ensures same { (self.new ≡ self.old) × (device.new ≡ device.old) }
+        ensures whole { result ≡ true → IsWholeOnDisk S.names self.old device.old }
+    {
+        self.history.reveal_durable_state();
+        self.history.is_on_disk(device)
     }
 }

@@ -158,6 +158,23 @@ impl<S: Naming> History<S> {
         device.reveal_order(&mut self.backlog);
     }
 
+    /// Returns whether the disk has the whole log of the history: the log records, no record waits, and no call on the disk
+    /// has failed.
+    pub fn is_on_disk<D: Disk>(&mut self, device: &mut LogDevice<Step, StoreLog<S>, D>) -> bool
+        requires { device.old.buffer ≡ [] }
+        ensures same { (self.new ≡ self.old) × (device.new ≡ device.old) }
+        ensures whole { result ≡ true → device.old.written ≡ S.names.log.base ++ records_of S.names self.old }
+    {
+        device.reveal_order(&mut self.backlog);
+        if device.check().is_err() {
+            return false;
+        }
+        if !self.backlog.is_recording() {
+            return false;
+        }
+        self.backlog.pending_len() == 0
+    }
+
     /// Adds the step that a call is, under the writer's number. The writer has then seen the whole history.
     ///
     /// The record is made from the call. If there is no memory for it, the log is closed.
