@@ -17,11 +17,10 @@ use Rattle.store_model.specs.Durable.{Agrees, Change, after_changes, change_of, 
 use Rattle.store_model.specs.Histories.{Step}
 use Rattle.store_model.proofs.Durable.Crashes.{stores_survive_crashes}
 use Rattle.locked_book.specs.CutLogs.{CutLogsRestore, SameLogsRestart, changes_in}
-use Rattle.locked_book.specs.Durability.{records_of}
 use Rattle.locked_book.specs.History.{steps_of}
 use Rattle.locked_book.specs.Logging.{has_log, logged_change}
 use Rattle.locked_book.specs.Names.{StoreNames}
-use Rattle.locked_book.specs.Restoring.{opening_state}
+use Rattle.locked_book.specs.Restoring.{opening_state, records_of}
 use Rattle.locked_book.proofs.Fitting.{Describes, all_fit, first_described, history_described, same_changes}
 use Rattle.locked_book.proofs.Restoring.{history_records}
 

@@ -7,11 +7,10 @@ use Rattle.log_records.specs.Laws.{AreChangesIn}
 use Rattle.store_model.specs.Durable.{Agrees, Change, TakenChunks, after_changes, changes_of, taken_after_steps}
 use Rattle.store_model.specs.Histories.{State, Step}
 use Rattle.store_model.specs.Recovery.{SurvivesCrash}
-use Rattle.locked_book.specs.Durability.{records_of}
 use Rattle.locked_book.specs.History.{steps_of}
 use Rattle.locked_book.specs.Logging.{has_log, logged_change}
 use Rattle.locked_book.specs.Names.{StoreNames}
-use Rattle.locked_book.specs.Restoring.{IsRestorable, opening_state}
+use Rattle.locked_book.specs.Restoring.{IsRestorable, opening_state, records_of}
 
 -- the changes of these entries
 abbrev pub changes_in : StoreNames → List (Entry Step) → List Change

@@ -2,19 +2,14 @@
 use Rattle.std.specs.Prelude.{◌≡◌, ℕ, List, ◌++◌}
 use Rattle.ghost_log.specs.declared.view.Entry.{Entry}
 use Rattle.ghost_log.specs.Entries.{IsPrefix, events_by}
-use Rattle.durable_log.specs.Encoding.{encode}
 use Rattle.durable_log.specs.Views as durable
 use Rattle.store_model.specs.Histories.{Step}
 use Rattle.locked_book.specs.Counting.{StoreContent}
 use Rattle.locked_book.specs.Found.{IsContentOf}
-use Rattle.locked_book.specs.History.{DeskView, LogLeadsTo, Trace, state_of}
-use Rattle.locked_book.specs.Logging.{promises, recorded_bytes}
+use Rattle.locked_book.specs.History.{DeskView, Trace, state_of}
+use Rattle.locked_book.specs.Logging.{promises}
 use Rattle.locked_book.specs.Names.{StoreNames}
-use Rattle.locked_book.specs.Returns.{AreReturned}
-
--- the records of a history, in order
-abbrev pub records_of : StoreNames → List (Entry Step) → List ℕ
-records_of names history = encode (recorded_bytes names.policy names.setting.tenants) history
+use Rattle.locked_book.specs.Restoring.{IsRestorable, records_of}
 
 -- a desk's trace as the trace of a writer of the log
 abbrev pub log_trace : Trace → durable.Trace Step
@@ -43,12 +38,11 @@ LearnsDurable names old new = IsConfirmed names old.trace new.trace
 
 -- ---- after a crash
 
--- The bytes have the records of all steps that a desk knows to be durable. They are a prefix of the records of a history that leads to this content,
--- begins with those steps, and in which hands were returned as they were taken.
+-- The bytes have the records of all steps that a desk knows to be durable. They are a prefix of the records of a
+-- history that begins with those steps, and whose log restores this content.
 pub record Survives (names : StoreNames) (k : StoreContent) (trace : Trace) (left : List ℕ) : Type 0 where
   pub history : List (Entry Step)
-  pub leads : LogLeadsTo names.opening history (state_of k)
-  pub returned : AreReturned history
+  pub restores : IsRestorable names history (state_of k)
   pub known : IsPrefix trace.durable history
   pub durable : IsPrefix (names.log.base ++ records_of names trace.durable) left
   pub in_order : IsPrefix left (names.log.base ++ records_of names history)

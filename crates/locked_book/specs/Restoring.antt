@@ -3,6 +3,7 @@ use Rattle.std.specs.Prelude.{◌≡◌, ◌++◌, ℕ, true, List, map}
 use Rattle.std.specs.FinMap as fmap
 use Rattle.ghost_log.specs.declared.view.Entry.{Entry}
 use Rattle.ghost_log.specs.Entries.{IsPrefix}
+use Rattle.durable_log.specs.Encoding.{encode}
 use Rattle.durable_log.specs.Views.{DeviceView}
 use Rattle.log_records.specs.Changes as logged
 use Rattle.log_records.specs.Records.{records_bytes}
@@ -10,11 +11,14 @@ use Rattle.store_model.specs.Catalog.{Tenant}
 use Rattle.store_model.specs.Durable.{Agrees, AgreesAfter, AreReturnedAsTaken, DurableState, changes_of, initial_durable}
 use Rattle.store_model.specs.Histories.{State, Step}
 use Rattle.locked_book.specs.Counting.{StoreContent}
-use Rattle.locked_book.specs.Durability.{records_of}
 use Rattle.locked_book.specs.History.{LogLeadsTo, state_of, steps_of}
-use Rattle.locked_book.specs.Logging.{has_log, logged_change}
+use Rattle.locked_book.specs.Logging.{has_log, logged_change, recorded_bytes}
 use Rattle.locked_book.specs.Names.{OpensNew, StoreNames}
 use Rattle.locked_book.specs.Returns.{AreWellFormed}
+
+-- the records of a history, in order
+abbrev pub records_of : StoreNames → List (Entry Step) → List ℕ
+records_of names history = encode (recorded_bytes names.policy names.setting.tenants) history
 
 -- the changes of steps, as the log describes them
 abbrev pub logged_changes : List Tenant → List Step → List logged.Change

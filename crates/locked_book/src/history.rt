@@ -6,11 +6,11 @@ ghost use Rattle.durable_log.specs.Views.{IsReady, IsSynced, KeepsDisk, Waits};
 ghost use Rattle.store_model.specs.Histories.{IsLegal, State};
 ghost use Rattle.locked_book.specs.Calls.{step_of};
 ghost use Rattle.locked_book.specs.History.{Adds, Allows, IsPart, LeadsOn, LogLeadsTo, SeesAll, steps_of};
-ghost use Rattle.locked_book.specs.Durability.{IsConfirmed, log_trace, records_of};
+ghost use Rattle.locked_book.specs.Durability.{IsConfirmed, log_trace};
 ghost use Rattle.locked_book.specs.Logging.{IsSmall, IsUnrecorded, NamesTenant, promises, recorded_bytes};
 ghost use Rattle.locked_book.specs.Names.{OpensNew};
 ghost use Rattle.locked_book.specs.Recording.{IsRecord};
-ghost use Rattle.locked_book.specs.Restoring.{IsRestorable};
+ghost use Rattle.locked_book.specs.Restoring.{IsRestorable, records_of};
 ghost use Rattle.locked_book.specs.Returns.{AreReturned, AreWellFormed, MayReturn, ReturnsFilledHand};
 
 use crate::call::Call;

@@ -3,7 +3,8 @@
 ghost use Rattle.std.specs.Prelude.{◌≡◌, [], length, IfOk, IfSome, OnErr, OnOk, true, false};
 ghost use Rattle.ghost_log.specs.Entries.{IsPrefix};
 ghost use Rattle.durable_log.specs.Views.{IsReady, IsSynced, IsUnconfirmed, KeepsDisk};
-ghost use Rattle.locked_book.specs.Durability.{IsDurable, LearnsDurable, OnlyLearns, Survives, log_trace, records_of};
+ghost use Rattle.locked_book.specs.Durability.{IsDurable, LearnsDurable, OnlyLearns, Survives, log_trace};
+ghost use Rattle.locked_book.specs.Restoring.{records_of};
 ghost use Rattle.locked_book.specs.Found.{IsContentOf};
 ghost use Rattle.locked_book.specs.Logging.{promises, recorded_bytes};
 
@@ -136,6 +137,7 @@ impl<S: Naming> LockedBook<S> {
         ensures survives { Survives S.names self.old desk.old.trace left.now }
     {
         self.reveal_invariant();
+        self.history.reveal_durable_state();
         self.history
             .reveal_survivors(device, &mut desk.writer, left);
     }

@@ -3,7 +3,7 @@ use Rattle.ghost_log.specs.Entries.{IsPrefix}
 use Rattle.durable_log.proofs.Encodings.{encode_prefix}
 use Rattle.durable_log.proofs.Prefixes.{prefix_after, prefix_trans}
 use Rattle.locked_book.specs.Logging.{recorded_bytes}
-use Rattle.locked_book.specs.Durability.{records_of}
+use Rattle.locked_book.specs.Restoring.{records_of}
 use Rattle.locked_book.proofs.history.History.reveal_disk.Goals as goal
 
 pub returns-clause-taken : goal.returns-clause-taken
