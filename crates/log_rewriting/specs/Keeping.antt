@@ -1,12 +1,15 @@
 -- What a filter keeps of a log, and the changes that it gives in place of one.
-use Rattle.std.specs.Prelude.{if◌then◌else◌, ℕ, Bool, false, List, [], ◌∷◌, Option, Some, codes, slice_get}
+use Rattle.std.specs.Prelude.{◌≡◌, true, if◌then◌else◌, ℕ, Bool, false, List, [], ◌∷◌, Option, Some, codes, slice_get}
+use Rattle.std.specs.List.{list_all}
 use Rattle.std.specs.Option.{option_map_or}
+use Rattle.std.specs.declared.cmp.Ordering.{Ordering}
 use Rattle.std.specs.BTreeMap as tree
 use Rattle.std.specs.BTreeSet as tree_set
 use Rattle.std.specs.Cmp.Lexicographic.{slice_cmp}
 use Rattle.std.specs.Ordering.{nat_cmp, ordering_then}
 use Rattle.blob_digest.specs.Names.{tenant_name}
 use Rattle.log_records.specs.Changes.{BlobLinked, BlobUnlinked, Change, ChunkReceived, ManifestDeleted, ManifestPut, SessionDropped, SessionOpened, SessionSealed, change_view}
+use Rattle.log_rewriting.specs.declared.blobs.Blob.{Blob}
 use Rattle.log_rewriting.specs.declared.filter.Filter.{Filter}
 use Rattle.log_rewriting.specs.declared.kept.Kept.{Kept}
 use Rattle.log_rewriting.specs.declared.kept.Kept.TheVariants as kept
@@ -19,11 +22,31 @@ kept_view kept.Nothing = []
 kept_view (kept.One c) = change_view c ∷ []
 kept_view (kept.Two c d) = change_view c ∷ change_view d ∷ []
 
+-- the order of sessions: by the number of the tenant, then by their own
+abbrev pub session_cmp : ℕ × ℕ → ℕ × ℕ → Ordering
+session_cmp x y = ordering_then (nat_cmp x.0 y.0) (nat_cmp x.1 y.1)
+
+-- the set has the session
+abbrev pub HasSession : tree_set.BTreeSet (ℕ × ℕ) → ℕ × ℕ → Type 0
+HasSession s k = tree_set.contains session_cmp s k ≡ true
+
+-- the set has each of the sessions
+abbrev pub HasSessions : tree_set.BTreeSet (ℕ × ℕ) → List (ℕ × ℕ) → Type 0
+HasSessions s ks = list_all (tree_set.contains session_cmp s) ks ≡ true
+
+-- the session whose seal made a blob: the number of its tenant, and its own
+abbrev pub blob_session : (ℕ × List ℕ) × Blob → ℕ × ℕ
+blob_session e = (e.0.0, e.1.number)
+
+-- the second set has each session of the first
+abbrev pub KeepsSessions : tree_set.BTreeSet (ℕ × ℕ) → tree_set.BTreeSet (ℕ × ℕ) → Type 0
+KeepsSessions s t = (k : ℕ × ℕ) → HasSession s k → HasSession t k
+
 -- whether a tenant's session is kept
 abbrev pub is_kept : Filter → List ℕ → ℕ → Bool
 is_kept F tenant number =
     option_map_or
-    (λ t. tree_set.contains_by (λ k. ordering_then (nat_cmp t k.0) (nat_cmp number k.1)) F.sessions)
+    (λ t. tree_set.contains session_cmp F.sessions (t, number))
     (tree.get_by (λ k. slice_cmp nat_cmp tenant k.items) F.tenants) false
 
 -- what is kept in place of the record at an offset

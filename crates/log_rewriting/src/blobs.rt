@@ -1,4 +1,5 @@
 //! The blobs that tenants hold, with the links to them.
+ghost use Rattle.std.specs.Prelude.{◌≡◌};
 
 use crate::error::InventoryError;
 use crate::lengths::{digest_len, record_len};
@@ -66,7 +67,9 @@ impl Blobs {
     }
 
     /// Returns the blobs.
-    pub fn map(&self) -> &BTreeMap<BlobKey, Blob> {
+    pub fn map(&self) -> &BTreeMap<BlobKey, Blob>
+        ensures { result.now ≡ self.now.blobs }
+    {
         &self.blobs
     }
 

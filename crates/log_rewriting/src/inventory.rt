@@ -1,21 +1,26 @@
 //! The first pass: what of a log is still needed.
-ghost use Rattle.std.specs.Prelude.{◌≡◌, Err, false};
+ghost use Rattle.std.specs.Prelude.{◌≡◌, Err, IfOk, false};
 ghost use Rattle.blob_digest.specs.Digests.{is_digest_text};
 ghost use Rattle.log_records.specs.Changes.{change_view};
+ghost use Rattle.log_rewriting.specs.Held.{held_sessions, open_sessions};
+ghost use Rattle.log_rewriting.specs.Keeping.{HasSessions};
 ghost use Rattle.log_rewriting.specs.Refused.{HasInvalidDigest, IsForeign};
 ghost use Rattle.log_rewriting.specs.declared.error.InventoryError.TheVariants.{DigestInvalid, KindUnexpected};
 
 use crate::blobs::{BlobKey, Blobs, Link, Session};
+use crate::collect::{
+    add_held, add_links, add_manifests, add_open, add_repos, names_of, numbers_of,
+};
 use crate::empty_index::{EMPTY_INDEX, EMPTY_INDEX_DIGEST};
 use crate::error::InventoryError;
 use crate::filter::Filter;
-use crate::filter_maker::FilterMaker;
 use crate::lengths::{change_len, digest_len, record_len};
 use crate::names::{Names, Tenant};
+use crate::place::Place;
 use blob_digest::{Algorithm, Digest};
 use log_records::Change;
 use std::alloc::{AllocError, Global};
-use std::collections::BTreeMap;
+use std::collections::{BTreeMap, BTreeSet};
 
 /// An open session: the number of its tenant, and its own.
 pub type SessionKey = (usize, u64);
@@ -139,14 +144,28 @@ impl Inventory {
     /// # Cost
     ///
     /// Linear in the repositories, links, manifests and open sessions that exist, times a logarithm.
-    pub fn filter(&self) -> Result<Filter, AllocError> {
-        let mut maker = FilterMaker::new(self.alloc);
-        maker.add_sessions(&self.sessions)?;
-        maker.add_blobs(self.blobs.map())?;
-        maker.add_manifests(&self.manifests)?;
-        maker.add_repos(self.alloc, self.names.repos())?;
-        maker.add_tenants(self.names.tenants())?;
-        Ok(maker.finish())
+    pub fn filter(&self) -> Result<Filter, AllocError>
+        ensures open { IfOk result (λ F. HasSessions F.sessions (open_sessions self.now)) }
+        ensures held { IfOk result (λ F. HasSessions F.sessions (held_sessions self.now)) }
+    {
+        let mut sessions = BTreeSet::new(self.alloc);
+        add_open(&mut sessions, &self.sessions)?;
+        add_held(&mut sessions, self.blobs.map())?;
+        Ok(Filter {
+            names: names_of(self.alloc, self.names.repos())?,
+            tenants: numbers_of(self.alloc, self.names.tenants())?,
+            sessions,
+            places: self.places()?,
+        })
+    }
+
+    /// Returns what is kept of links, manifests and repositories.
+    fn places(&self) -> Result<BTreeMap<u64, Place>, AllocError> {
+        let mut places = BTreeMap::new(self.alloc);
+        add_links(&mut places, self.blobs.map())?;
+        add_manifests(&mut places, &self.manifests)?;
+        add_repos(&mut places, self.names.repos())?;
+        Ok(places)
     }
 
     /// Returns whether another log leaves the same state: the same repositories, session numbers, links and manifests, and the

@@ -6,10 +6,10 @@
 #![tactic(auto)]
 
 mod blobs;
+mod collect;
 mod empty_index;
 mod error;
 mod filter;
-mod filter_maker;
 mod inventory;
 mod kept;
 mod lengths;
