@@ -42,6 +42,10 @@ blob_session e = (e.0.0, e.1.number)
 abbrev pub KeepsSessions : tree_set.BTreeSet (ℕ × ℕ) → tree_set.BTreeSet (ℕ × ℕ) → Type 0
 KeepsSessions s t = (k : ℕ × ℕ) → HasSession s k → HasSession t k
 
+-- the filter keeps each of the sessions
+abbrev pub KeepsEach : Filter → List (ℕ × ℕ) → Type 0
+KeepsEach F ks = HasSessions F.sessions ks
+
 -- whether a tenant's session is kept
 abbrev pub is_kept : Filter → List ℕ → ℕ → Bool
 is_kept F tenant number =
@@ -102,7 +106,8 @@ kept_changes F (SessionOpened repo number) offset = kept_opened F repo number
 kept_changes F (ChunkReceived tenant number bytes) offset =
     if_kept (is_kept F tenant number) (ChunkReceived tenant number bytes) []
 kept_changes F (SessionSealed tenant number digest last) offset =
-    if_kept (is_kept F tenant number) (SessionSealed tenant number digest last) (kept_link F (place_at F offset) digest)
+    if_kept (is_kept F tenant number) (SessionSealed tenant number digest last)
+    (kept_link F (place_at F offset) digest)
 kept_changes F (BlobLinked repo digest) offset = kept_mount F (place_at F offset) repo digest
 kept_changes F (ManifestPut repo bytes) offset = kept_manifest (place_at F offset) repo bytes
 kept_changes F change offset = []

@@ -3,7 +3,7 @@ ghost use Rattle.std.specs.Prelude.{◌≡◌, Err, IfOk, false};
 ghost use Rattle.blob_digest.specs.Digests.{is_digest_text};
 ghost use Rattle.log_records.specs.Changes.{change_view};
 ghost use Rattle.log_rewriting.specs.Held.{held_sessions, open_sessions};
-ghost use Rattle.log_rewriting.specs.Keeping.{HasSessions};
+ghost use Rattle.log_rewriting.specs.Keeping.{KeepsEach};
 ghost use Rattle.log_rewriting.specs.Refused.{HasInvalidDigest, IsForeign};
 ghost use Rattle.log_rewriting.specs.declared.error.InventoryError.TheVariants.{DigestInvalid, KindUnexpected};
 
@@ -145,8 +145,8 @@ impl Inventory {
     ///
     /// Linear in the repositories, links, manifests and open sessions that exist, times a logarithm.
     pub fn filter(&self) -> Result<Filter, AllocError>
-        ensures open { IfOk result (λ F. HasSessions F.sessions (open_sessions self.now)) }
-        ensures held { IfOk result (λ F. HasSessions F.sessions (held_sessions self.now)) }
+        ensures open { IfOk result (λ F. KeepsEach F (open_sessions self.now)) }
+        ensures held { IfOk result (λ F. KeepsEach F (held_sessions self.now)) }
     {
         let mut sessions = BTreeSet::new(self.alloc);
         add_open(&mut sessions, &self.sessions)?;
