@@ -49,6 +49,18 @@ def header(number, version=1):
     return front + struct.pack("<Q", log_sum(FNV_BASIS, front))
 
 
+def framed(number, payloads):
+    """Returns a log with this id of frames with these payloads. No frame states a sync."""
+    found = header(number)
+    chained = log_sum(FNV_BASIS, found[:24])
+    for payload in payloads:
+        fields = struct.pack("<QQQ", len(found), HEADER, len(payload))
+        begun = fields + struct.pack("<Q", log_sum(number, fields)) + payload
+        chained = log_sum(chained, begun)
+        found += begun + struct.pack("<Q", chained)
+    return found
+
+
 Frame = collections.namedtuple("Frame", "place synced length")
 
 
@@ -88,9 +100,12 @@ class LogReading:
         later = (self.head_at(data, place) for place in range(self.place, len(data)))
         return "damaged" if any(head and head.synced > self.place for head in later) else "torn"
 
-    def payloads(self, since=0):
-        """Returns the number of bytes of records in the frames after a place."""
-        return sum(frame.length for frame in self.frames if frame.place >= since)
+    def records(self, data, start=0, end=WORD):
+        """Returns the bytes of records in the frames between two places."""
+        return b"".join(
+            data[frame.place + 32:frame.place + 32 + frame.length]
+            for frame in self.frames if start <= frame.place and frame.place + MARK + frame.length <= end
+        )
 
 
 def stated_syncs(data):
