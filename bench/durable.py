@@ -3,7 +3,7 @@
 logs, and a push of small layers next to Debian's docker-registry.
 
 A connection is a pair of named pipes, and has a tenant of its own. bench/durable/player.c sends requests on 1, 4 and 16 of them, each
-after the reply to the one before. The library of crates/blobd/crash_shim.c counts the syncs, and can make each last longer. The folder
+after the reply to the one before. The library of crates/blobd/crashes/shim.c counts the syncs, and can make each last longer. The folder
 is in the temporary folder (TMPDIR), whose disk matters. The output has for each number of connections and policy: requests a
 second, requests a sync, and the median and the 99th percentile of the time of a request in milliseconds.
 
@@ -15,7 +15,6 @@ order of magnitude only.
 It needs a built blobd and cc, and docker-registry for the push. With --scale 0.1 each measure has a tenth of its requests."""
 import argparse
 import http.client
-import os
 import pathlib
 import random
 import shutil
@@ -26,7 +25,7 @@ import time
 
 TOP = pathlib.Path(__file__).resolve().parent.parent
 sys.dont_write_bytecode = True
-sys.path.insert(0, str(TOP / "crates/blobd"))
+sys.path[:0] = [str(TOP / "crates/blobd/crashes"), str(TOP / "crates/blobd")]
 import data_folder
 import registry
 from data_folder import Blobd, Trace

@@ -3,11 +3,7 @@ depends on nobody else. The rules are those of docs/SEMANTICS.md."""
 import collections
 import hashlib
 import re
-import struct
-import sys
 
-sys.dont_write_bytecode = True
-import frames
 from data_folder import Ended
 from frames import ABANDON, APPEND, BLOB_UNKNOWN, CLOSE, DELETE, DELETE_MANIFEST, DIGEST_INVALID, FETCH, GET_MANIFEST, GIVE_BACK, LEASE
 from frames import MANIFEST_UNKNOWN, MOUNT, PUT_MANIFEST, READ, REFERENCED, START, STATUS, SWEEP, UPLOAD_UNKNOWN, USAGE, reply, request

@@ -8,10 +8,8 @@ import select
 import signal
 import struct
 import subprocess
-import sys
 import time
 
-sys.dont_write_bytecode = True
 import frames
 from frames import GREETING
 
@@ -121,9 +119,9 @@ def stated_syncs(data):
 
 
 def build_shim(room):
-    """Compiles crash_shim.c. Returns the path of the library."""
-    library = room / "crash_shim.so"
-    subprocess.run(["cc", "-O1", "-shared", "-fPIC", "-o", library, HERE / "crash_shim.c", "-ldl"], check=True)
+    """Compiles shim.c. Returns the path of the library."""
+    library = room / "shim.so"
+    subprocess.run(["cc", "-O1", "-shared", "-fPIC", "-o", library, HERE / "shim.c", "-ldl"], check=True)
     return library
 
 

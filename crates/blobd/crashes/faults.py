@@ -1,0 +1,192 @@
+"""Disks that fail, folders and programs in the way, signals, options, and memory."""
+import os
+import signal
+import subprocess
+import threading
+import time
+
+from data_folder import PATIENCE, Trace
+from frames import GREETING, SWEEP
+from kills import lose_power
+from model import MIB, Client
+from room import NOBODY, all_there, clients, compares, counts, ends_well, fault, looks, stops, together
+
+# The bound for the peak memory of a start from a log of 100 MiB, of which 3 MiB are live.
+MOST_MEMORY = 48 * MIB
+
+
+def wrong_options(room):
+    """Tests options that are wrong. Then nothing is made in the folder."""
+    folder = room.fresh()
+    for options in (
+        ["--data"], ["--data", folder, "--sync"], ["--data", folder, "--sync", "often"], ["--sync", "each"],
+        ["--data", folder, "--accept-loss-after", "x"], ["--data", folder, "--accept-loss-after", "-1"],
+        ["--data", folder, "--data", folder], ["--data", folder, "--other"],
+    ):
+        ended = subprocess.run([room.program, *options, "4", "100", "acme=1"], input=GREETING, capture_output=True, timeout=PATIENCE)
+        found = ended.returncode, ended.stdout, ended.stderr[:7]
+        compares(f"the options {options}", found, (2, b"", b"usage: "))
+    compares("a folder after wrong options", list(folder.iterdir()), [])
+
+
+def failing(room, name, status, settings=None, around=(), lost=False):
+    """Lets a disk fail while the clients work. The program must end with the status. All that was replied to is there after a restart,
+    also if the kernel has dropped what was not synced."""
+    folder, everybody, trace = room.fresh(), clients(room), room.path / "trace"
+    trace.unlink(missing_ok=True)
+    settings = {"CRASH_TRACE": str(trace), **(settings or {})}
+    # nobody uses the last connection, which must not keep the program from ending
+    blobd = room.starts(folder, "--sync", "each", connections=len(everybody) + 1, around=around, settings=settings)
+    lines = blobd.opens()
+    timer = threading.Timer(PATIENCE, blobd.process.kill)
+    timer.start()
+    together(everybody, lines, "each")
+    blobd.process.wait()
+    timer.cancel()
+    ended = blobd.ends()
+    stops(name, (ended[0], b"", ended[1]), status, folder / "log")
+    if lost:
+        lose_power(room, folder, b"")
+    all_there(room, folder, everybody)
+
+
+def failing_disks(room):
+    """Tests calls on the log that fail: each once, at several places."""
+    for number in (4, 5, 40):
+        for lost in (False, True):
+            failing(room, f"a failed sync {number}", 9, {"CRASH_FAIL_SYNC": str(number)}, lost=lost)
+        failing(room, f"a failed write {number}", 9, {"CRASH_FAIL_WRITE": str(number)})
+    limited = ["env", "--ignore-signal=XFSZ", "prlimit"]
+    for size in (40_000, 300_000):
+        failing(room, f"a file of at most {size} bytes", 9, around=[*limited, f"--fsize={size}"])
+
+
+def full_disk(room):
+    """Tests a disk without room, if one can be mounted."""
+    folder, everybody = room.fresh(), clients(room)
+    if subprocess.run(["mount", "-t", "tmpfs", "-o", "size=1m", "tmpfs", folder], capture_output=True).returncode:
+        print("crash_tests: a full disk is left out, since no file system can be mounted")
+        return
+    try:
+        blobd = room.starts(folder, "--sync", "closes", connections=len(everybody))
+        together(everybody, blobd.opens(), "closes")
+        ended = blobd.ends()
+        stops("a full disk", (ended[0], b"", ended[1]), 9, folder / "log")
+        full = room.runs(folder)
+        compares("the status of a start on a full disk", full[0] in (0, 9), True)
+        subprocess.run(["mount", "-o", "remount,size=32m", folder], check=True)
+        all_there(room, folder, everybody)
+        subprocess.run(["mount", "-o", "remount,ro", folder], check=True)
+        stops("a file system that is read-only", room.runs(folder), 6, folder)
+    finally:
+        subprocess.run(["umount", folder], check=True)
+
+
+def folders(room):
+    """Tests folders and logs that cannot be read, written or made."""
+    user = NOBODY if os.getuid() == 0 else None
+    file = room.fresh() / "file"
+    file.write_bytes(b"")
+    for name, path in {"a file for a folder": file, "a folder in a file": file / "folder"}.items():
+        stops(name, room.runs(path), 6, path)
+    closed, unread, unwritten, other = (room.fresh() for _ in range(4))
+    closed.chmod(0o555)
+    stops("a folder that may not be written", room.runs(closed, user=user), 6, closed)
+    for folder, rights in ((unread, 0o000), (unwritten, 0o444)):
+        compares("a first start", room.runs(folder)[:2], (0, GREETING))
+        folder.chmod(0o777)
+        (folder / "lock").chmod(0o666)
+        (folder / "log").chmod(rights)
+        stops(f"a log with the rights {rights:o}", room.runs(folder, user=user), 6, folder / "log")
+    (other / "log").mkdir()
+    stops("a folder for a log", room.runs(other), 6, other / "log")
+
+
+def two_programs(room):
+    """Tests two programs on one folder: the second ends after 5 s, or starts as soon as the first has ended."""
+    folder, (client, *_) = room.fresh(), clients(room)
+    first = room.starts(folder)
+    (line,) = first.opens()
+    begun = time.monotonic()
+    stops("a second program", room.runs(folder), 7, folder)
+    took = time.monotonic() - begun
+    if not 4.5 < took < 15:
+        fault(f"a second program ends after {took:.1f} s")
+    together([client], [line], "closes", 100)
+    second = room.starts(folder)
+    time.sleep(0.5)
+    begun = time.monotonic()
+    first.kills()
+    (line,) = second.opens()
+    took = time.monotonic() - begun
+    if took > 4:
+        fault(f"a second program starts {took:.1f} s after the first has ended")
+    looks([client], second)
+    ends_well("a second program", second)
+
+
+def signals(room):
+    """Tests that SIGTERM and SIGINT are ignored if the program's parent ignored them, as registryd does. Else they kill."""
+    folder, (client, *_) = room.fresh(), clients(room)
+    blobd = room.starts(folder, around=["env", "--ignore-signal=TERM", "--ignore-signal=INT"])
+    lines = blobd.opens()
+    for number in (signal.SIGTERM, signal.SIGINT):
+        blobd.process.send_signal(number)
+        together([client], lines, "closes", 50)
+    ends_well("a program with ignored signals", blobd)
+    for number in (signal.SIGTERM, signal.SIGINT):
+        blobd = room.starts(folder)
+        lines = blobd.opens()
+        looks([client], blobd)
+        together([client], lines, "closes", 50)
+        blobd.process.send_signal(number)
+        compares("the status of a program that a signal kills", blobd.ends()[0], -number)
+    all_there(room, folder, [client])
+
+
+def policies(room):
+    """Tests how many syncs each policy makes for 10 chunks and for a close, and that chunks without a close are written all the same."""
+    trace = room.path / "trace"
+    for policy, chunks, closes in (("closes", 0, 1), ("each", 10, 1), ("never", 0, 0)):
+        folder = room.fresh()
+        trace.unlink(missing_ok=True)
+        client = Client("t0", room.rng)
+        blobd = room.starts(folder, "--sync", policy, settings={"CRASH_TRACE": str(trace)})
+        (line,) = blobd.opens()
+        client.plays(line, client.state.starts("t0/one"))
+        found = [len(Trace(trace).syncs())]
+        for _ in range(10):
+            client.plays(line, client.state.appends(1, room.rng.randbytes(MIB // 2)), policy)
+        found.append(len(Trace(trace).syncs()))
+        length = (folder / "log").stat().st_size
+        client.plays(line, client.state.closes(1, b""))
+        found.append(len(Trace(trace).syncs()))
+        compares(f"the syncs with {policy}", [after - before for before, after in zip(found, found[1:])], [chunks, closes])
+        compares(f"a log with chunks of 5 MiB, of which 2 MiB may wait, with {policy}", length > 3 * MIB, True)
+        ends_well("a program with a policy", blobd)
+
+
+def memory(room):
+    """Tests that a start keeps only what is live: 100 blobs of a MiB were stored, of which all but three were deleted at once. The store
+    has 5 slots."""
+    folder, words = room.fresh(), {"slots": 5, "most": 2 * MIB}
+    blobd = room.starts(folder, "--sync", "never", **words)
+    (line,) = blobd.opens()
+    (client, *_) = clients(room)
+    for number in range(100):
+        client.plays(line, client.state.starts("t0/one"))
+        client.plays(line, client.state.closes(number + 1, room.rng.randbytes(MIB)))
+        if number >= 3:
+            client.plays(line, client.state.deletes("t0/one", list(client.state.links)[-1][1]))
+            line.calls(SWEEP)
+    ends_well("a store with few slots", blobd)
+    compares("a log that is long", (folder / "log").stat().st_size > 100 * MIB, True)
+    begun = time.monotonic()
+    blobd = room.starts(folder, **words)
+    (line,) = blobd.opens()
+    took, peak = time.monotonic() - begun, 1024 * blobd.peak()
+    counts["comparisons"] += client.looks(line)
+    ends_well("a start from a long log", blobd)
+    if peak > MOST_MEMORY:
+        fault(f"a start from a log of 100 MiB takes {peak // MIB} MiB")
+    print(f"crash_tests: a log of 100 MiB with 3 live ones: {took:.1f} s, {peak // MIB} MiB")
