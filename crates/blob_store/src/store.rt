@@ -194,6 +194,13 @@ impl<S: Naming> Store<S> {
         self.book.lock(rt)
     }
 
+    /// Returns when the store's changes become durable.
+    pub fn policy(&self) -> LogPolicy
+        ensures { result ≡ S.names.policy }
+    {
+        self.policy
+    }
+
     /// Makes `count` desks with empty shares.
     ///
     /// # Errors
