@@ -1,3 +1,4 @@
+pub mod Flagging
 pub mod Partings
 pub mod Sending
 pub mod Through

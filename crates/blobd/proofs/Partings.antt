@@ -39,13 +39,15 @@ module _ (p : Text → Bool) where
         sym (drop_all (position_or_len p (map string_bytes words) + 1) (map string_bytes words) (omega (arith, whole))),
       )
 
--- the first three arguments, of which the second and the third are these, and the others
-pub first_three : (words : List (String Global)) (second third : String Global) → 3 ≤ length words → second ≡ get_or words 1 second → third ≡ get_or words 2 third
-    → (first : String Global) × (map string_bytes words ≡ string_bytes first ∷ string_bytes second ∷ string_bytes third ∷ map string_bytes (take (length words - 3) (drop 3 words)))
-first_three [] second third many is_second is_third = absurd (omega (arith, many))
-first_three (x ∷ []) second third many is_second is_third = absurd (omega (arith, many))
-first_three (x ∷ y ∷ []) second third many is_second is_third = absurd (omega (arith, many))
-first_three (x ∷ y ∷ z ∷ words) second third many is_second is_third = (
-  x,
-  λ i. string_bytes x ∷ string_bytes (sym is_second i) ∷ string_bytes (sym is_third i) ∷ map string_bytes (sym (take_all (length (x ∷ y ∷ z ∷ words) - 3) words (omega arith)) i),
-)
+-- the first two arguments, and the others
+pub first_two : (words : List (String Global)) (first second : String Global) → 2 ≤ length words → first ≡ get_or words 0 first → second ≡ get_or words 1 second
+    → map string_bytes words ≡ string_bytes first ∷ string_bytes second ∷ map string_bytes (take (length words - 2) (drop 2 words))
+first_two [] first second many is_first is_second = absurd (omega (arith, many))
+first_two (x ∷ []) first second many is_first is_second = absurd (omega (arith, many))
+first_two (x ∷ y ∷ words) first second many is_first is_second =
+    λ i. string_bytes (sym is_first i) ∷ string_bytes (sym is_second i) ∷ map string_bytes (sym (take_all (length (x ∷ y ∷ words) - 2) words (omega arith)) i)
+
+-- the first argument, and the others
+pub first_one : (words : List (String Global)) → 1 ≤ length words → (first : String Global) × (map string_bytes words ≡ string_bytes first ∷ map string_bytes (take (length words - 1) (drop 1 words)))
+first_one [] many = absurd (omega (arith, many))
+first_one (x ∷ words) many = (x, λ i. string_bytes x ∷ map string_bytes (sym (take_all (length (x ∷ words) - 1) words (omega arith)) i))

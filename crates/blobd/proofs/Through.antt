@@ -19,7 +19,9 @@ use Rattle.wire_server.specs.Requests.{ends_of, request_command}
 use Rattle.wire_server.specs.Connections.{Frame, ServesConnection, ServesRequests, ServesFrames}
 use Rattle.wire_server.specs.Steps.{CommandStep, FetchesPiece, FetchStep, GiveBackStep, LeaseStep, LeasesBlob, NoVerbStep, ReadStep, RequestStep, VerbStep}
 use Rattle.locked_book.specs.History.{DeskView, IsPart}
+use Rattle.locked_book.specs.Durability.{IsDurable}
 use Rattle.locked_book.specs.Names.{StoreNames}
+use Rattle.locked_book.specs.declared.policy.LogPolicy.TheVariants.{NoLog}
 use Rattle.atomic_table.specs.Seated.{TableId}
 use Rattle.lease_table.specs.Histories.{LeaseTrace}
 use Rattle.lease_table.specs.Histories as leased
@@ -145,12 +147,14 @@ module _ {S T U V : Type 0} (shown : S → U) (lent : T → V)
 -- a connection that is served with a new desk and a new writer
 pub served_at : (names : StoreNames) (log : TableId) (old new : DeskView) (was is : LeaseTrace) (line held holds : Option (List ℕ)) (ending : Ending) → work_of old ≡ zero_work → was.own ≡ []
     → ServesConnection WorkActs (λ _ catalog. IsFound names catalog) AddsTableEvent (work_of old, was.own) (work_of new, is.own) line held holds ending
-    → IsPart names.opening new.trace → leased.IsLeaseHistoryPart log is → ending ≢ NotDurable → IsServedConnection names log line held holds ending
-served_at names log old new was is line held holds ending fresh unwritten served part leases_part committed = record {
+    → IsPart names.opening new.trace → leased.IsLeaseHistoryPart log is → (ending ≡ NotDurable → names.policy ≢ NoLog) → (ending ≢ NotDurable → IsDurable names new.trace)
+    → IsServedConnection names log line held holds ending
+served_at names log old new was is line held holds ending fresh unwritten served part leases_part committed durable = record {
   desk = new;
   leases = is;
   served = subst (λ (from : Work × List TableEvent). ServesConnection WorkActs (λ _ catalog. IsFound names catalog) AddsTableEvent from (work_of new, is.own) line held holds ending) (λ i. (fresh i, unwritten i)) served;
   part = part;
   leases_part = leases_part;
   committed = committed;
+  durable = durable;
 }

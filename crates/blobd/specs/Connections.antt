@@ -9,7 +9,9 @@ use Rattle.wire_server.specs.Connections.{EndsByRead, ServesConnection}
 use Rattle.wire_server.specs.declared.ending.Ending.{Ending}
 use Rattle.wire_server.specs.declared.ending.Ending.TheVariants.{NotDurable}
 use Rattle.locked_book.specs.History.{DeskView, IsPart}
+use Rattle.locked_book.specs.Durability.{IsDurable}
 use Rattle.locked_book.specs.Names.{StoreNames}
+use Rattle.locked_book.specs.declared.policy.LogPolicy.TheVariants.{NoLog}
 use Rattle.blob_store.specs.Parts.{PartsView, names_of}
 use Rattle.blob_store.specs.StoreBackends.{IsFound, WorkActs, work_of}
 use Rattle.blob_store.specs.Workers.{zero_work}
@@ -26,15 +28,17 @@ AddsTableEvent old event new = new ≡ old ++ event ∷ []
 abbrev pub IsOpen : {I O : Type 0} → Connection I O → I → O → Type 0
 IsOpen {I} line input output = (watched : Watched I) × (line.ends ≡ Some (watched, output)) × (inner_of watched ≡ input) × (has_failed watched ≡ false)
 
--- A connection was served by a new desk, and no commit failed. The steps of its requests are the desk's part in a legal history of the store, and
--- their events of leases are its part in the history of this log.
+-- A connection was served by a new desk. The steps of its requests are the desk's part in a legal history of the store, and their events of leases
+-- are its part in the history of this log. Only a store with a log can fail to make its steps durable. Unless it did, the desk's steps are durable,
+-- as far as the store promises that.
 pub record IsServedConnection (names : StoreNames) (log : TableId) (line held holds : Option (List ℕ)) (ending : Ending) : Type 0 where
   pub desk : DeskView
   pub leases : LeaseTrace
   pub served : ServesConnection WorkActs (λ _ catalog. IsFound names catalog) AddsTableEvent (zero_work, []) (work_of desk, leases.own) line held holds ending
   pub part : IsPart names.opening desk.trace
   pub leases_part : leased.IsLeaseHistoryPart log leases
-  pub committed : ending ≢ NotDurable
+  pub committed : ending ≡ NotDurable → names.policy ≢ NoLog
+  pub durable : ending ≢ NotDurable → IsDurable names desk.trace
 
 -- the connection was served from its old output to the new one, and ended so
 abbrev pub ServesStreams : {I O : Type 0} → StoreNames → TableId → (I → Option (List ℕ)) → (O → Option (List ℕ)) → Watched I → O → O → Ending → Type 0

@@ -2,3 +2,4 @@ pub mod Connections
 pub mod Stops
 pub mod Totals
 pub mod Arguments
+pub mod Flags

@@ -3,9 +3,10 @@ ghost use Rattle.std.specs.Prelude.{◌≡◌, ◌⊎◌, IfErr, IfOk, length, m
 ghost use Rattle.std.specs.List.{after_first, before_first, position};
 ghost use Rattle.store_book.specs.Openings.{IsSized};
 ghost use Rattle.blobd.specs.Stops.{tenant_stop};
-ghost use Rattle.blobd.specs.Arguments.{IsNumberWithin, IsWithin, RefusesArguments, SpellsOptions, is_end_of_tenants, texts_of};
+ghost use Rattle.blobd.specs.Arguments.{IsNumberWithin, IsWithin, RefusesArguments, RefusesSettings, SpellsOptions, SpellsSettings, is_end_of_tenants, texts_of};
 ghost use Rattle.blobd.specs.declared.stop.Stop.TheVariants.{Memory, Usage};
 
+use crate::flags::{LogOptions, read_flags};
 use crate::stop::Stop;
 use blob_digest::decimal;
 use std::alloc::Global;
@@ -17,6 +18,8 @@ use tenant_args::read_tenants;
 pub struct Options<'w> {
     /// The store's limits and tenants.
     pub store: Config,
+    /// How the store is made durable. `None` for a store in memory.
+    pub log: Option<LogOptions<'w>>,
     /// Two paths for each connection: the file of its requests and the file of its replies.
     pub paths: &'w [String],
 }
@@ -55,23 +58,13 @@ fn split_at_end(words: &[String]) -> (&[String], &[String])
     }
 }
 
-/// Returns the options that the arguments spell. The first argument is the program's name.
-///
-/// # Errors
-///
-/// - `Stop::Usage`, if there are too few arguments, a number is missing or past its limit, a tenant is wrong, or the number
-///   of paths is odd.
-/// - `Stop::Memory`.
-///
-/// # Cost
-///
-/// It allocates the tenants' names. The paths are borrowed.
-pub fn read_arguments(alloc: Global, words: &[String]) -> Result<Options<'_>, Stop<'_>>
-    ensures spelled { IfOk result (SpellsOptions (texts_of words.now)) }
-    ensures within { IfOk result IsWithin }
-    ensures refused { IfErr result (RefusesArguments (texts_of words.now)) }
+/// Returns the store's limits and tenants, and the paths, that the arguments after the options spell.
+fn read_settings(alloc: Global, words: &[String]) -> Result<(Config, &[String]), Stop<'_>>
+    ensures spelled { IfOk result (λ r. SpellsSettings (texts_of words.now) r.0 (texts_of r.1.now)) }
+    ensures within { IfOk result (λ r. IsWithin r.0) }
+    ensures refused { IfErr result (RefusesSettings (texts_of words.now)) }
 {
-    let [_, slots, max_blob, rest @ ..] = words else {
+    let [slots, max_blob, rest @ ..] = words else {
         return Err(Stop::Usage);
     };
     let Some(slots) = number(slots.as_str(), u64::from(MAX_SLOTS)) else {
@@ -95,5 +88,36 @@ pub fn read_arguments(alloc: Global, words: &[String]) -> Result<Options<'_>, St
         tenants,
         first_generation: 0,
     };
-    Ok(Options { store, paths })
+    Ok((store, paths))
+}
+
+/// Returns the options that the arguments spell. The first argument is the program's name.
+///
+/// # Errors
+///
+/// - `Stop::Usage`, if there are too few arguments, an option is wrong, is there twice or needs `--data`, a number is missing
+///   or past its limit, a tenant is wrong, or the number of paths is odd.
+/// - `Stop::Memory`.
+///
+/// # Cost
+///
+/// It allocates the tenants' names. The paths are borrowed.
+pub fn read_arguments(alloc: Global, words: &[String]) -> Result<Options<'_>, Stop<'_>>
+    ensures spelled { IfOk result (SpellsOptions (texts_of words.now)) }
+    ensures within { IfOk result (λ o. IsWithin o.store) }
+    ensures refused { IfErr result (RefusesArguments (texts_of words.now)) }
+{
+    let [_, words @ ..] = words else {
+        return Err(Stop::Usage);
+    };
+    let Some((flags, words)) = read_flags(words) else {
+        return Err(Stop::Usage);
+    };
+    let Some(log) = flags.log() else {
+        return Err(Stop::Usage);
+    };
+    match read_settings(alloc, words) {
+        Ok((store, paths)) => Ok(Options { store, log, paths }),
+        Err(stop) => Err(stop),
+    }
 }

@@ -1,6 +1,7 @@
-//! Keeps a store in memory, and serves it on connections.
+//! Keeps a store, in memory or with a log in a folder, and serves it on connections.
 //!
-//!     blobd SLOTS MAX_BLOB TENANT=QUOTA.. [-- IN OUT [IN OUT]..]
+//!     blobd [--data DIR [--sync closes|each|never] [--accept-loss-after BYTE]]
+//!           SLOTS MAX_BLOB TENANT=QUOTA.. [-- IN OUT [IN OUT]..]
 //!
 //! A connection is a pair of files, such as the ends of two pipes. Requests are read from `IN` and replies written to
 //! `OUT`, in the frames of `docs/PROTOCOL.md`. Without files there is one connection: standard input and output. Each
@@ -8,13 +9,18 @@
 //! ended. The program depends on `wire_server` for a connection, on `blob_store` for the store, on `lease_table` for the
 //! leases, and on `tenant_args` for the tenants.
 //!
-//! It guarantees of the function `serve_new`, for each connection:
+//! With `--data` the changes of the store are kept in the file `DIR/log`. A start replays them: it depends on `store_replay`
+//! for that, and on `framed_disk` for the frames of the file. If the log cannot be written any more, the program ends at
+//! once. So it serves in a second thread, and the first one waits for the end of the service or for that failure.
 //!
-//! - The output is the greeting and one reply for each request that was read, in order, unless a write failed.
+//! It guarantees of the functions `serve_new` and `serve_log`, for each connection:
+//!
+//! - The output is the greeting and one reply for each request that was read, in order, unless a write or the log failed.
 //! - The requests' steps are part of a legal sequential history of the store, with these replies.
+//! - Each reply was written only after the steps that the store promises to be durable were so, in the sense of its log.
 //! - The requests' events of leases are part of a legal history of one table of leases.
 //! - The bytes of a read of a lease are of a content that has the digest in the request.
-//! - The connection ended with `ReadFailed` if and only if a read failed.
+//! - The connection ended with `ReadFailed` if and only if a read failed, and with `NotDurable` only if the store has a log.
 #![tactic(auto)]
 
 ghost use Rattle.std.specs.Prelude.{◌≡◌, IfErr, IfOk};
@@ -23,6 +29,14 @@ ghost use Rattle.blobd.specs.Arguments.{IsWithin};
 
 mod arguments;
 mod connection;
+mod damage;
+mod data_folder;
+mod durable_serving;
+mod flags;
+mod guard;
+mod opening;
+mod progress;
+mod service_end;
 mod serving;
 mod shared;
 mod stop;
@@ -30,16 +44,24 @@ mod totals;
 
 use crate::arguments::{Options, read_arguments};
 use crate::connection::Connection;
+use crate::damage::{Damage, Need};
+use crate::data_folder::{DataFolder, folder_stop};
+use crate::durable_serving::{ServeFault, serve_log};
+use crate::flags::LogOptions;
+use crate::opening::{OpenLog, accept_loss, open_log, seek_frames};
+use crate::progress::Progress;
+use crate::service_end::{EndCell, ServiceEnd};
 use crate::serving::serve_new;
 use crate::stop::Stop;
 use crate::totals::TotalsLine;
-use blob_store::Parts;
+use blob_store::{Parts, Totals};
 use std::env;
 use std::fs::File;
 use std::io::{self, BufReader, BufWriter, ErrorKind, Read, Write};
 use std::process::ExitCode;
-use std::sync::Wait;
-use std::thread::Threads;
+use std::sync::{Arc, Wait};
+use std::thread::{self, Threads};
+use store_replay::Cause;
 
 /// A connection whose files are read and written through buffers.
 type Buffered<I, O> = Connection<BufReader<I>, BufWriter<O>>;
@@ -99,14 +121,12 @@ fn open_connections<'w>(
     Ok(lines)
 }
 
-/// Serves connections on a store of these parts, and prints its totals.
-fn serve_all<I: Read + Send + Drop, O: Write + Send + Drop>(
+/// Prints the totals of a store whose connections have ended. Fails with `Stop::Memory` if one was not served.
+fn conclude<I: Read + Drop, O: Write + Drop>(
     rt: &HostRuntime,
-    threads: &(impl Threads + Wait + Sync),
-    parts: Parts,
-    lines: &mut [Connection<I, O>],
+    totals: Totals,
+    lines: &[Connection<I, O>],
 ) -> Result<(), Stop<'static>> {
-    let totals = serve_new(threads, rt.alloc(), parts, lines)?;
     let _ = eprint!(rt; "{}", TotalsLine { totals });
     if lines.iter().all(|l| matches!(l.served(), Some(Ok(_)))) {
         Ok(())
@@ -115,13 +135,24 @@ fn serve_all<I: Read + Send + Drop, O: Write + Send + Drop>(
     }
 }
 
-/// Serves the connections of the options on a new store.
-fn run<'w>(
+/// Serves connections on a store of these parts, and prints its totals.
+fn serve_all<I: Read + Send + Drop, O: Write + Send + Drop>(
+    rt: &HostRuntime,
+    threads: &(impl Threads + Wait + Sync),
+    parts: Parts,
+    lines: &mut [Connection<I, O>],
+) -> Result<(), Stop<'static>> {
+    let totals = serve_new(threads, rt.alloc(), parts, lines)?;
+    conclude(rt, totals, lines)
+}
+
+/// Serves the connections of the options on a new store in memory.
+fn run_in_memory<'w>(
     rt: &HostRuntime,
     threads: &(impl Threads + Wait + Sync),
     options: &Options<'w>,
 ) -> Result<(), Stop<'w>>
-    requires { IsWithin options.now }
+    requires { IsWithin (options.now).store }
 {
     let Ok(parts) = Parts::new(rt.alloc(), &options.store) else {
         return Err(Stop::Memory);
@@ -132,6 +163,108 @@ fn run<'w>(
     }
     let mut lines = open_connections(rt, options.paths)?;
     serve_all(rt, threads, parts, lines.as_mut_slice())
+}
+
+/// Returns the stop for a log that was not served.
+fn fault_stop<'w>(folder: &'w str, fault: ServeFault) -> Stop<'w> {
+    match fault {
+        ServeFault::Memory => Stop::Memory,
+        ServeFault::Read(kind) => folder_stop("read", folder, "/log", io::Error::from(kind)),
+        ServeFault::Log(error) => Stop::LogFailed { folder, error },
+        ServeFault::Record { place, cause } => match cause {
+            Cause::Refused { name, refusal } => match Need::of_refusal(refusal) {
+                Some(need) => Stop::Settings {
+                    folder,
+                    place,
+                    name,
+                    need,
+                },
+                None => Stop::Damaged {
+                    folder,
+                    place,
+                    damage: Damage::Record(Cause::Refused { name, refusal }),
+                },
+            },
+            cause => Stop::Damaged {
+                folder,
+                place,
+                damage: Damage::Record(cause),
+            },
+        },
+    }
+}
+
+/// Replays the log of a folder into a new store, serves connections on it, and prints its totals.
+fn serve_folder<'w, I: Read + Send + Drop, O: Write + Send + Drop>(
+    rt: &HostRuntime,
+    threads: &(impl Threads + Wait + Sync),
+    folder: &'w str,
+    parts: Parts,
+    mut log: OpenLog,
+    end: &EndCell,
+    lines: &mut [Connection<I, O>],
+) -> Result<(), Stop<'w>> {
+    let (copy, length) = seek_frames(folder, &mut log.file)?;
+    let progress = Progress::new(rt, folder, copy, length);
+    let Ok(mut input) = BufReader::new(rt.alloc(), progress) else {
+        return Err(Stop::Memory);
+    };
+    match serve_log(threads, rt.alloc(), parts, &mut input, log, end, lines) {
+        Ok(totals) => conclude(rt, totals, lines),
+        Err(fault) => Err(fault_stop(folder, fault)),
+    }
+}
+
+/// Serves the connections of the options on a store with the log of a folder.
+fn run_once<'w>(
+    rt: &HostRuntime,
+    threads: &(impl Threads + Wait + Sync),
+    options: &Options<'w>,
+    folder: &DataFolder<'w>,
+    how: LogOptions<'w>,
+    end: &EndCell,
+) -> Result<(), Stop<'w>>
+    requires { IsWithin (options.now).store }
+{
+    let log = open_log(rt, folder, how.accepted_loss)?;
+    let Ok(parts) = Parts::with_policy(rt.alloc(), &options.store, how.policy) else {
+        return Err(Stop::Memory);
+    };
+    if options.paths.is_empty() {
+        let line = buffered(rt, rt.reader(), io::writer(rt))?;
+        return serve_folder(rt, threads, folder.path, parts, log, end, &mut [line]);
+    }
+    let mut lines = open_connections(rt, options.paths)?;
+    serve_folder(
+        rt,
+        threads,
+        folder.path,
+        parts,
+        log,
+        end,
+        lines.as_mut_slice(),
+    )
+}
+
+/// Serves the connections of the options on a store with a log. If the log has a record that cannot be replayed and its loss
+/// was accepted, it is cut, and the store made again.
+fn run_with_log<'w>(
+    rt: &HostRuntime,
+    threads: &(impl Threads + Wait + Sync),
+    options: &Options<'w>,
+    how: LogOptions<'w>,
+    end: &EndCell,
+) -> Result<(), Stop<'w>>
+    requires { IsWithin (options.now).store }
+{
+    let folder = DataFolder::lock(rt, how.folder)?;
+    match run_once(rt, threads, options, &folder, how, end) {
+        Err(Stop::Damaged { place, .. }) if how.accepted_loss == Some(place) => {
+            accept_loss(rt, &folder, place)?;
+            run_once(rt, threads, options, &folder, how, end)
+        }
+        done => done,
+    }
 }
 
 /// Returns the stop for arguments that cannot be read: memory ran out, or one of them is not UTF-8.
@@ -148,16 +281,6 @@ fn words_of(rt: &HostRuntime) -> io::Result<Vec<String>> {
     Ok(words)
 }
 
-/// Runs with these arguments.
-fn run_with<'w>(
-    rt: &HostRuntime,
-    threads: &(impl Threads + Wait + Sync),
-    words: &'w [String],
-) -> Result<(), Stop<'w>> {
-    let options = read_arguments(rt.alloc(), words)?;
-    run(rt, threads, &options)
-}
-
 /// Prints why the program stops, and returns its exit status.
 fn report(rt: &HostRuntime, stop: Stop<'_>) -> u8
     ensures { result ≡ stop_status stop.entry }
@@ -166,15 +289,81 @@ fn report(rt: &HostRuntime, stop: Stop<'_>) -> u8
     stop.status()
 }
 
+/// Prints why the program stops, if it does, and returns its exit status.
+fn status_of(rt: &HostRuntime, done: Result<(), Stop<'_>>) -> u8 {
+    match done {
+        Ok(()) => 0,
+        Err(stop) => report(rt, stop),
+    }
+}
+
+/// Serves a store with a log as the arguments say, and returns how the service ended.
+fn serve_words(
+    rt: &HostRuntime,
+    threads: &(impl Threads + Wait + Sync),
+    words: &[String],
+    end: &EndCell,
+) -> ServiceEnd {
+    let options = match read_arguments(rt.alloc(), words) {
+        Ok(options) => options,
+        Err(stop) => return ServiceEnd::Ended(report(rt, stop)),
+    };
+    let done = match options.log {
+        Some(how) => run_with_log(rt, threads, &options, how, end),
+        None => run_in_memory(rt, threads, &options),
+    };
+    match done {
+        Err(Stop::LogFailed { folder: _, error }) => ServiceEnd::Failed(error),
+        done => ServiceEnd::Ended(status_of(rt, done)),
+    }
+}
+
+/// Serves a store with a log in a thread, and waits until the service ends or the log fails. Returns the exit status. If no
+/// thread can be started, it serves in this one.
+fn run_beside<W: Threads + Wait + Sync + Copy + Send + 'static>(
+    rt: &HostRuntime,
+    threads: &W,
+    words: &Vec<String>,
+    folder: &str,
+) -> u8 {
+    let Ok(end) = Arc::new(rt.alloc(), EndCell::new()) else {
+        return report(rt, Stop::Memory);
+    };
+    let Ok(theirs) = Arc::try_clone(&end) else {
+        return report(rt, Stop::Memory);
+    };
+    let Ok(words) = words.clone() else {
+        return report(rt, Stop::Memory);
+    };
+    let here = *rt;
+    let handle = *threads;
+    let job = move || {
+        let ended = serve_words(&here, &handle, words.as_slice(), &theirs);
+        theirs.end(&handle, ended);
+    };
+    match thread::spawn(threads, job) {
+        Ok(_thread) => {}
+        Err(refused) => (refused.value)(),
+    }
+    match end.wait(threads) {
+        ServiceEnd::Failed(error) => report(rt, Stop::LogFailed { folder, error }),
+        ServiceEnd::Ended(status) => status,
+    }
+}
+
 /// Runs with the arguments of the command line, and returns the exit status.
-fn run_here(rt: &HostRuntime, threads: &(impl Threads + Wait + Sync)) -> u8 {
+fn run_here<W: Threads + Wait + Sync + Copy + Send + 'static>(rt: &HostRuntime, threads: &W) -> u8 {
     let words = match words_of(rt) {
         Ok(words) => words,
         Err(error) => return report(rt, arguments_stop(error)),
     };
-    match run_with(rt, threads, words.as_slice()) {
-        Ok(()) => 0,
-        Err(stop) => report(rt, stop),
+    let options = match read_arguments(rt.alloc(), words.as_slice()) {
+        Ok(options) => options,
+        Err(stop) => return report(rt, stop),
+    };
+    match options.log {
+        Some(how) => run_beside(rt, threads, &words, how.folder),
+        None => status_of(rt, run_in_memory(rt, threads, &options)),
     }
 }
 

@@ -9,49 +9,59 @@ ghost use Rattle.wire_server.specs.Connections.{EndsByRead};
 ghost use Rattle.wire_server.specs.ReplyStreams.{output_of};
 
 use crate::connection::{Connection, EndedConnection};
+use crate::guard::StoreGuard;
+use crate::service_end::{EndCell, ServiceEnd};
 use crate::shared::SharedLeases;
 use blob_digest::Refusal;
-use blob_store::{Desk, MAX_DESKS, Naming, Parts, Store, StoreBackend, Totals};
+use blob_store::{Desk, MAX_DESKS, Naming, Parts, SharedLogDevice, Store, StoreBackend, Totals};
 use ghost_log::SharedLog;
 use lease_table::{LeaseEvent, LeaseNaming, LeaseWriter, LockedLeaseTable};
 use locked_book::StorePins;
+use log_disk::{Disk, FileDisk};
 use std::alloc::{AllocError, Global};
 use std::io::{Read, Write};
 use std::marker::Brand;
 use std::sync::{Mutex, Wait};
 use std::thread::{self, Threads};
 use watched_reader::Watched;
-use wire_server::{Ending, NoLog, ReplyStream, serve};
+use wire_server::{Ending, ReplyStream, serve};
 
 /// Serves a connection with a new desk and a new writer of the table's history. Returns why the connection ended, and the
-/// desk. The store is in memory, so no commit fails and no connection ends with `NotDurable`.
-fn serve_with_desk<'s, W: Wait, S: Naming, L: LeaseNaming, I: Read, O: Write>(
+/// desk. If a commit fails, the connection ends with `NotDurable`, and so does the service, with the error of the log.
+fn serve_with_desk<'s, 'd, W: Wait, S: Naming, L: LeaseNaming, D: Disk, I: Read, O: Write>(
     rt: &'s W,
     alloc: Global,
     store: &'s Store<S>,
+    device: Option<&'d SharedLogDevice<S, D>>,
+    end: &EndCell,
     table: &Mutex<LockedLeaseTable<'s, StorePins<S>, L>>,
     desk: Desk<S>,
     writer: LeaseWriter<L>,
     input: &mut Watched<I>,
-    output: &mut ReplyStream<NoLog, O>,
+    output: &mut ReplyStream<StoreGuard<'d, S, D>, O>,
 ) -> (Ending, Desk<S>)
     requires fresh { work_of desk ≡ zero_work }
     requires unwritten { writer.own ≡ [] }
+    requires undurable { desk.trace.durable ≡ [] }
     ensures served { ServesStreams S.names L.log I.remaining O.contents
         input.old (output_of output.old) (output_of output.new) result.0 }
     ensures failed { EndsByRead result.0 input.old input.new }
 {
+    let mut guard = StoreGuard::new(store, device);
     let mut backend = StoreBackend { rt, store, desk };
     let mut leases = SharedLeases { rt, table, writer };
     let ending = serve(
         rt,
         alloc,
-        &mut NoLog,
+        &mut guard,
         &mut backend,
         &mut leases,
         input,
         output,
     );
+    if let Some(error) = guard.failure() {
+        end.end(rt, ServiceEnd::Failed(error));
+    }
     let StoreBackend {
         rt: _,
         store: _,
@@ -70,13 +80,15 @@ fn serve_with_desk<'s, W: Wait, S: Naming, L: LeaseNaming, I: Read, O: Write>(
 ///
 /// - `LimitReached`, if 1,024 desks exist.
 /// - `Memory`, if the desk cannot be allocated.
-pub fn serve_streams<'s, W: Wait, S: Naming, L: LeaseNaming, I: Read, O: Write>(
+pub fn serve_streams<'s, 'd, W: Wait, S: Naming, L: LeaseNaming, D: Disk, I: Read, O: Write>(
     rt: &'s W,
     alloc: Global,
     store: &'s Store<S>,
+    device: Option<&'d SharedLogDevice<S, D>>,
+    end: &EndCell,
     table: &Mutex<LockedLeaseTable<'s, StorePins<S>, L>>,
     input: &mut Watched<I>,
-    output: &mut ReplyStream<NoLog, O>,
+    output: &mut ReplyStream<StoreGuard<'d, S, D>, O>,
 ) -> Result<Ending, Refusal>
     ensures served { IfOk result (ServesStreams S.names L.log I.remaining O.contents
         input.old (output_of output.old) (output_of output.new)) }
@@ -89,17 +101,30 @@ pub fn serve_streams<'s, W: Wait, S: Naming, L: LeaseNaming, I: Read, O: Write>(
         unreachable!()
     };
     let writer = table.lock(rt).writer();
-    let (ending, desk) = serve_with_desk(rt, alloc, store, table, desk, writer, input, output);
+    let (ending, desk) = serve_with_desk(
+        rt, alloc, store, device, end, table, desk, writer, input, output,
+    );
     desks.push_reserved(desk);
     store.settle(rt, desks);
     Ok(ending)
 }
 
 /// Serves a connection until it ends, and then drops its input and output.
-fn serve_connection<'s, W: Wait, S: Naming, L: LeaseNaming, I: Read + Drop, O: Write + Drop>(
+fn serve_connection<
+    's,
+    'd,
+    W: Wait,
+    S: Naming,
+    L: LeaseNaming,
+    D: Disk,
+    I: Read + Drop,
+    O: Write + Drop,
+>(
     rt: &'s W,
     alloc: Global,
     store: &'s Store<S>,
+    device: Option<&'d SharedLogDevice<S, D>>,
+    end: &EndCell,
     table: &Mutex<LockedLeaseTable<'s, StorePins<S>, L>>,
     line: &mut Connection<I, O>,
 )
@@ -107,7 +132,16 @@ fn serve_connection<'s, W: Wait, S: Naming, L: LeaseNaming, I: Read + Drop, O: W
 {
     if let Some((mut input, output)) = line.ends.take() {
         let mut replies = ReplyStream::new(output);
-        let served = serve_streams(rt, alloc, store, table, &mut input, &mut replies);
+        let served = serve_streams(
+            rt,
+            alloc,
+            store,
+            device,
+            end,
+            table,
+            &mut input,
+            &mut replies,
+        );
         let output = replies.into_output();
         line.ended = Some(EndedConnection::new(input, output, served));
     }
@@ -117,16 +151,20 @@ fn serve_connection<'s, W: Wait, S: Naming, L: LeaseNaming, I: Read + Drop, O: W
 /// it serves them one after another.
 fn serve_connections<
     's,
+    'd,
     'l,
     W: Threads + Wait + Sync,
     S: Naming + Send + Sync,
     L: LeaseNaming + Send + Sync,
+    D: Disk + Send,
     I: Read + Send + Drop,
     O: Write + Send + Drop,
 >(
     rt: &'s W,
     alloc: Global,
     store: &'s Store<S>,
+    device: Option<&'d SharedLogDevice<S, D>>,
+    end: &EndCell,
     table: &'l Mutex<LockedLeaseTable<'s, StorePins<S>, L>>,
     lines: &mut [Connection<I, O>],
 )
@@ -136,23 +174,27 @@ fn serve_connections<
         rt,
         lines,
         MAX_DESKS as usize,
-        &|_, line| serve_connection(rt, alloc, store, table, line),
+        &|_, line| serve_connection(rt, alloc, store, device, end, table, line),
     );
 }
 
 /// Serves all connections on a store with one new table of leases, gives back the remaining leases, and returns the
-/// store's totals.
-fn serve_on<
+/// store's totals. With a device, no reply is sent before what the store promises is durable on it.
+pub fn serve_on<
     's,
+    'd,
     W: Threads + Wait + Sync,
     S: Naming + Send + Sync,
     L: LeaseNaming + Send + Sync,
+    D: Disk + Send,
     I: Read + Send + Drop,
     O: Write + Send + Drop,
 >(
     rt: &'s W,
     alloc: Global,
     store: &'s Store<S>,
+    device: Option<&'d SharedLogDevice<S, D>>,
+    end: &EndCell,
     log: SharedLog<LeaseEvent>,
     lines: &mut [Connection<I, O>],
 ) -> Totals
@@ -161,7 +203,7 @@ fn serve_on<
     ensures totals { result.received ≡ result.in_sessions + result.closed + result.abandoned }
 {
     let table = Mutex::new(LockedLeaseTable::<'s, StorePins<S>, L>::new(alloc, log));
-    serve_connections(rt, alloc, store, &table, lines);
+    serve_connections(rt, alloc, store, device, end, &table, lines);
     table.into_inner().end();
     store.totals(rt)
 }
@@ -187,7 +229,8 @@ fn serve_parts<
     ensures totals { result.received ≡ result.in_sessions + result.closed + result.abandoned }
 {
     let store = Store::<S>::new(parts);
-    serve_on::<W, S, L, I, O>(rt, alloc, &store, log, lines)
+    let end = EndCell::new();
+    serve_on::<W, S, L, FileDisk, I, O>(rt, alloc, &store, None, &end, log, lines)
 }
 
 /// Serves all connections on a new store of these parts until they end, and returns the store's totals.

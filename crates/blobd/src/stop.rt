@@ -3,12 +3,14 @@ ghost use Rattle.std.specs.Prelude.{◌≡◌};
 ghost use Rattle.blobd.specs.Stops.{stop_status, stop_text, tenant_stop};
 ghost use Rattle.blobd.specs.declared.stop.Stop.TheVariants.{Memory};
 
+use crate::damage::{Damage, Need};
+use durable_log::CommitError;
 use std::alloc::AllocError;
 use std::{fmt, io};
 use tenant_args::TenantFault;
 
 /// The reason why the program stops before it serves all connections.
-#[derive(Clone, Copy, Drop)]
+#[derive(Drop)]
 pub enum Stop<'w> {
     /// The arguments are wrong.
     Usage,
@@ -21,6 +23,49 @@ pub enum Stop<'w> {
     },
     /// Memory ran out.
     Memory,
+    /// The folder of the log or a file in it cannot be used.
+    Folder {
+        /// What cannot be done, as a verb.
+        action: &'static str,
+        /// The folder.
+        folder: &'w str,
+        /// The name of the file in it, with a slash before it. Empty for the folder.
+        file: &'static str,
+        /// The error of the operating system.
+        error: io::Error,
+    },
+    /// Another process has the folder of the log.
+    Held {
+        /// The folder.
+        folder: &'w str,
+    },
+    /// The log is damaged, or is no log of this version.
+    Damaged {
+        /// The folder of the log.
+        folder: &'w str,
+        /// The offset in the log, in bytes.
+        place: u64,
+        /// What is wrong there.
+        damage: Damage,
+    },
+    /// The log cannot be written any more.
+    LogFailed {
+        /// The folder of the log.
+        folder: &'w str,
+        /// The reason.
+        error: CommitError,
+    },
+    /// The store that wrote the log had other settings.
+    Settings {
+        /// The folder of the log.
+        folder: &'w str,
+        /// The offset of the first frame that needs other settings, in bytes.
+        place: u64,
+        /// The name of the repository or tenant whose change was refused.
+        name: String,
+        /// The setting that it needs.
+        need: Need,
+    },
 }
 
 impl From<AllocError> for Stop<'_> {
@@ -43,14 +88,19 @@ impl From<TenantFault> for Stop<'_> {
 }
 
 impl Stop<'_> {
-    /// Returns the exit status: 2 for wrong arguments, 3 for a file, 5 for out of memory.
-    pub fn status(self) -> u8
-        ensures { result ≡ stop_status self.entry }
+    /// Returns the exit status, 2 to 10. `docs/OPERATIONS.md` lists them.
+    pub fn status(&self) -> u8
+        ensures { result ≡ stop_status self.now }
     {
         match self {
             Stop::Usage => 2,
             Stop::File { .. } => 3,
             Stop::Memory => 5,
+            Stop::Folder { .. } => 6,
+            Stop::Held { .. } => 7,
+            Stop::Damaged { .. } => 8,
+            Stop::LogFailed { .. } => 9,
+            Stop::Settings { .. } => 10,
         }
     }
 }
@@ -61,11 +111,38 @@ impl fmt::Display for Stop<'_> {
 
     fn fmt<W: fmt::Write>(&self, f: &mut fmt::Formatter<W>) -> fmt::Result {
         match self {
-            Stop::Usage => {
-                f.write_str("usage: blobd SLOTS MAX_BLOB TENANT=QUOTA.. [-- IN OUT [IN OUT]..]\n")
-            }
+            Stop::Usage => f.write_str(
+                "usage: blobd [--data DIR [--sync closes|each|never] [--accept-loss-after BYTE]] SLOTS MAX_BLOB TENANT=QUOTA.. [-- IN OUT [IN OUT]..]\n",
+            ),
             Stop::File { path, error } => write!(f, "blobd: cannot open {path}: {error}\n"),
             Stop::Memory => f.write_str("blobd: out of memory\n"),
+            Stop::Folder {
+                action,
+                folder,
+                file,
+                error,
+            } => write!(f, "blobd: cannot {action} {folder}{file}: {error}\n"),
+            Stop::Held { folder } => write!(f, "blobd: another process has {folder}/lock\n"),
+            Stop::Damaged {
+                folder,
+                place,
+                damage,
+            } => write!(
+                f,
+                "blobd: {folder}/log is damaged at byte {place}: {damage}\n"
+            ),
+            Stop::LogFailed { folder, error } => {
+                write!(f, "blobd: cannot write {folder}/log: {error}\n")
+            }
+            Stop::Settings {
+                folder,
+                place,
+                name,
+                need,
+            } => write!(
+                f,
+                "blobd: {folder}/log needs other settings at byte {place}: {name}: {need}\n"
+            ),
         }
     }
 }
