@@ -19,5 +19,5 @@ pub use observer::{ChangeSink, NoSink};
 pub use player::Player;
 pub use prefix::PrefixSink;
 pub use replay::Replay;
-pub use replayed::{ContinueError, Replayed, continue_on, replay_log};
+pub use replayed::{ContinueError, Replayed, continue_on, continue_on_file, replay_log};
 pub use scan::{Scan, scan_log};
