@@ -129,9 +129,9 @@ class Trace:
     """What the shim has written about the calls on a log."""
 
     def __init__(self, path):
-        lines = [line.split() for line in path.read_text().splitlines()] if path.exists() else []
-        self.calls = [(line[0], line[1]) for line in lines]
-        self.lengths = [int(line[2]) if line[0] == "sync" else 0 for line in lines]
+        lines = [line.split(" ") for line in path.read_text().splitlines()] if path.exists() else []
+        self.calls = [(call, " ".join(name)) for call, *name, _ in lines]
+        self.lengths = [int(last) if call == "sync" else 0 for call, *_, last in lines]
 
     def renamed(self):
         """Returns the place of the last call that gave a new log its name, or -1."""
@@ -144,8 +144,9 @@ class Trace:
         return [length for call, name, length in zip(self.calls, named, self.lengths) if call == name]
 
     def is_name_sure(self):
-        """Returns whether the folder was synced after the last rename."""
-        return ("sync", ".") in self.calls[self.renamed():] or self.renamed() < 0
+        """Returns whether a folder was synced after the last rename."""
+        later = self.calls[self.renamed():]
+        return self.renamed() < 0 or any(call == "sync" and name.startswith("/") for call, name in later)
 
 
 Reply = collections.namedtuple("Reply", "status first second digest body")

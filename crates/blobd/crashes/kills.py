@@ -159,26 +159,37 @@ def finds_losses(room):
             found += 1
     compares("whether losses are found with `--sync never`", found > 0, True)
 
-# The calls that make a new log.
-NEW_LOG = [("sync", "log.new"), ("rename", "log.new"), ("sync", ".")]
-
-
 def in_order(found, wanted):
     """Returns whether some of the values found are those wanted, in this order."""
     rest = iter(found)
     return all(value in rest for value in wanted)
 
 
-def first_starts(room):
-    """Tests that a new log is synced before it gets its name, and its folder after that, before the greeting. Then tests starts after a
-    first start that was interrupted."""
-    folder, trace = room.fresh(), room.path / "trace"
+def calls_of_start(room, folder, settings=None):
+    """Starts a program, and returns the calls on its log and its folder before the greeting."""
+    trace = room.path / "trace"
     trace.unlink(missing_ok=True)
-    blobd = room.starts(folder, settings={"CRASH_TRACE": str(trace)})
-    blobd.opens()
+    blobd = room.starts(folder, settings={"CRASH_TRACE": str(trace), **(settings or {})})
+    try:
+        blobd.opens()
+    except Ended:
+        pass
     calls = Trace(trace).calls
-    ends_well("a first start", blobd)
-    compares(f"the order of {calls}", in_order(calls, NEW_LOG), True)
+    blobd.kills()
+    return calls
+
+
+def first_starts(room):
+    """Tests that a new log is synced before it gets its name, and its folder after that, before the greeting; and that a start after one
+    that was killed before it synced the folder does so. Then tests starts after a first start that was interrupted."""
+    folder, killed = room.fresh() / "new", room.fresh()
+    calls = calls_of_start(room, folder)
+    wanted = [("sync", "log.new"), ("rename", "log.new"), ("sync", str(folder))]
+    compares(f"a sync of the folder of a new folder in {calls}", ("sync", str(folder.parent)) in calls, True)
+    compares(f"the order of {calls}", in_order(calls, wanted), True)
+    compares("the calls of a start that is killed", calls_of_start(room, killed, {"CRASH_KILL": "1"}), wanted[:2])
+    calls = calls_of_start(room, killed)
+    compares(f"a sync of the folder in {calls}", ("sync", str(killed)) in calls, True)
     header = (folder / "log").read_bytes()[:HEADER]
     for left in (b"", header[:1], header[:31], header, bytes(HEADER), b"something else" * 10):
         folder = room.fresh()

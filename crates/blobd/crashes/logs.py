@@ -146,10 +146,13 @@ def accepted_losses(room):
         reading = LogReading(data)
         if reading.ending != "damaged":
             continue
+        for other in (0, reading.place - 1, reading.place + 1, len(data)):
+            found, _ = small.runs(data, small.at(0), "--accept-loss-after", str(other))
+            stops(f"an accepted loss after {other}", found, 8, small.log, reading.place)
         accept = "--accept-loss-after", str(reading.place)
         small.starts_with(f"an accepted loss after {reading.place}", data, small.at(reading.place), reading.place, *accept)
         left = small.log.read_bytes()
-        small.starts_with("a start after an accepted loss", left, small.at(reading.place), len(left))
+        small.starts_with("a start after an accepted loss", left, small.at(reading.place), len(left), *accept)
 
 
 def other_frames(room):

@@ -2,8 +2,9 @@
 
    The environment says what it does:
      CRASH_TRACE=PATH      appends a line for each call that succeeded: `sync NAME LENGTH` (of the file when the call began),
-                           `cut NAME LENGTH` or `rename OLD NEW`. NAME is `log`, `log.new` or `.`, the folder. The line is written
-                           before the call returns
+                           `cut NAME LENGTH` or `rename OLD NEW`. NAME is `log`, `log.new` or the path of a folder. The line is
+                           written before the call returns
+     CRASH_KILL=1          kills the program after a log was renamed
      CRASH_SYNC_MS=MS      each sync of the log takes MS milliseconds longer
      CRASH_FAIL_SYNC=N     the N-th sync of the log, counted from 1, fails with EIO
      CRASH_FAIL_WRITE=N    the N-th write to the log writes one half of its bytes, and the write after it fails with ENOSPC */
@@ -11,6 +12,7 @@
 #include <dlfcn.h>
 #include <errno.h>
 #include <fcntl.h>
+#include <signal.h>
 #include <stdatomic.h>
 #include <stdio.h>
 #include <stdlib.h>
@@ -37,21 +39,19 @@ static const char *log_name(const char *path) {
     return !strcmp(name, "log") || !strcmp(name, "log.new") ? name : NULL;
 }
 
-/* The name of an open log or of a folder, or NULL. `path` has room for 4096 bytes. Writes its length. */
+/* The name of an open log, the path of a folder, or NULL. `path` has room for 4096 bytes. Writes its length. */
 static const char *name_of(int fd, char *path, long long *length) {
     struct stat file;
     char link[64];
     if (fstat(fd, &file) || (!S_ISREG(file.st_mode) && !S_ISDIR(file.st_mode)))
         return NULL;
     *length = file.st_size;
-    if (S_ISDIR(file.st_mode))
-        return ".";
     snprintf(link, sizeof link, "/proc/self/fd/%d", fd);
     ssize_t count = readlink(link, path, 4095);
     if (count < 0)
         return NULL;
     path[count] = 0;
-    return log_name(path);
+    return S_ISDIR(file.st_mode) ? path : log_name(path);
 }
 
 /* Whether a descriptor is that of a log. */
@@ -59,7 +59,7 @@ static int is_log(int fd) {
     char path[4096];
     long long length;
     const char *name = name_of(fd, path, &length);
-    return name && *name != '.';
+    return name && *name != '/';
 }
 
 /* Appends a line to the trace. A test without its trace would be wrong, so the program ends if that fails. */
@@ -75,12 +75,12 @@ static void traces(const char *line) {
 }
 
 static int sync_by(int (*real)(int), int fd) {
-    char path[4096], line[128];
+    char path[4096], line[4200];
     long long length;
     const char *name = name_of(fd, path, &length);
     if (!name)
         return real(fd);
-    if (*name != '.') {
+    if (*name != '/') {
         long pause = number_of("CRASH_SYNC_MS");
         nanosleep(&(struct timespec){pause / 1000, pause % 1000 * 1000000}, NULL);
         if (++syncs == number_of("CRASH_FAIL_SYNC")) {
@@ -99,7 +99,7 @@ int fdatasync(int fd) { return sync_by(REAL(fdatasync), fd); }
 int fsync(int fd) { return sync_by(REAL(fsync), fd); }
 
 static int cut_by(int (*real)(int, off_t), int fd, off_t length) {
-    char path[4096], line[128];
+    char path[4096], line[4200];
     long long before;
     const char *name = name_of(fd, path, &before);
     int result = real(fd, length);
@@ -120,6 +120,8 @@ int rename(const char *from, const char *to) {
     if (result == 0 && old && new) {
         snprintf(line, sizeof line, "rename %s %s\n", old, new);
         traces(line);
+        if (number_of("CRASH_KILL"))
+            kill(getpid(), SIGKILL);
     }
     return result;
 }
