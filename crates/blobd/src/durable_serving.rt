@@ -1,5 +1,6 @@
 //! Serves connections on a store whose log is replayed and continued.
 ghost use Rattle.std.specs.Prelude.{◌≡◌, ◌+◌, [], IfOk, OnOk};
+ghost use Rattle.blob_store.specs.DurableStates.{IsWholeOnSomeDisk};
 ghost use Rattle.blob_store.specs.Parts.{names_of};
 ghost use Rattle.blobd.specs.Connections.{AreServed, AreServedOn};
 
@@ -131,6 +132,20 @@ fn replay_on<W: Wait, S: Naming, R: Read>(
     }
 }
 
+/// Returns the device of a log whose file has the records of the store's history, and no others. This is so after a replay.
+fn whole_log<W: Wait, S: Naming>(
+    rt: &W,
+    store: &Store<S>,
+    device: FileLog<S>,
+) -> Result<FileLog<S>, ServeFault>
+    ensures { IfOk result (λ d. IsWholeOnSomeDisk S.names d) }
+{
+    match store.is_on_disk(rt, device) {
+        (device, true) => Ok(device),
+        (_, false) => Err(ServeFault::Log(CommitError::Closed)),
+    }
+}
+
 /// Writes what waits, syncs it unless the log is never synced, and marks the end of the log.
 fn finish_log<W: Wait, S: Naming>(
     rt: &W,
@@ -177,7 +192,8 @@ fn serve_log_parts<
 {
     let replayed = ReplayedDisk::new(alloc)?;
     let (store, device) = Store::<S>::with_log(parts, replayed);
-    let device = LeaderCell::new(replay_on(rt, alloc, &store, device, input, log)?);
+    let device = replay_on(rt, alloc, &store, device, input, log)?;
+    let device = LeaderCell::new(whole_log(rt, &store, device)?);
     let totals = serve_on::<W, S, L, FramedDisk<FileDisk>, I, O>(
         rt,
         alloc,
