@@ -1,52 +1,16 @@
--- What a replay has taken after frames.
-use Rattle.std.proofs.Common.{◌≡◌, ℕ, Bool, true, false, List, [], ◌∷◌, ◌++◌, ◌∙◌, ap, refl, sym, append_assoc, append-nil, Option}
-use Rattle.log_frames.specs.Endings.{FramesAreRead, LeavesSink, Takes}
-use Rattle.log_frames.specs.Frames.{Frame, payloads}
+-- What a replay has taken.
+use Rattle.std.proofs.Common.{◌≡◌, ◌⊎◌, ℕ, Bool, true, false, List, [], ◌∷◌, ◌++◌, ◌∙◌, ap, refl, sym, subst, append_assoc, append-nil, inl, inr, Option}
+use Rattle.durable_log.specs.Views.{DeviceView}
+use Rattle.framed_disk.proofs.Framing.{payloads-snoc}
+use Rattle.log_frames.proofs.Taking.{one_end, one_fits, one_given}
+use Rattle.log_frames.specs.Frames.{Frame, end_of, frame_bytes, payloads}
 use Rattle.log_frames.specs.Headers.{start_of}
 use Rattle.log_frames.specs.declared.cursor.Cursor.{Cursor}
-use Rattle.log_frames.specs.declared.reading.Ending.{Ending}
-use Rattle.log_frames.specs.declared.reading.Ending.TheVariants as ending
-use Rattle.log_frames.specs.declared.reading.FramesRead.{FramesRead}
-use Rattle.durable_log.specs.Views.{DeviceView}
+use Rattle.std.specs.Io.KnownBytes.{Consumes}
+use Rattle.std.proofs.KnownBytes.{Consumes-nil}
+use Rattle.log_frames.specs.Frames.{IsFrame, cursor_after}
 use Rattle.store_model.specs.Histories.{Step}
-use Rattle.store_replay.specs.Replays.{Continues, IsReplayOf, ReplayView, ReplaysLog, TakesPayload, fresh, total}
-
--- a sink that took frames has taken their payloads
-takes_payloads : (frames : List Frame) (old new : ReplayView) → Takes TakesPayload old frames new → total new ≡ total old ++ payloads frames
-takes_payloads [] old new t = ap total t ∙ sym (append-nil (total old))
-takes_payloads (f ∷ frames) old new t =
-    takes_payloads frames t.0 new t.1.1
-    ∙ ap (λ bytes. bytes ++ payloads frames) t.1.0.total_after
-    ∙ append_assoc (total old) f.payload (payloads frames)
-
--- a sink whose replay does not go on refuses
-abbrev pub Stops : ReplayView → List ℕ → ReplayView → Type 0
-Stops old payload new = new.goes_on ≡ false
-
--- a replay that goes on has refused no frame
-goes_on_unchanged : (mid new : ReplayView) (id : ℕ) (c : Cursor) (rest : Option (List ℕ)) (end : Ending) → LeavesSink Stops mid new id c rest end → new.goes_on ≡ true → new ≡ mid
-goes_on_unchanged mid new id c rest ending.End s g = s
-goes_on_unchanged mid new id c rest ending.Torn s g = s
-goes_on_unchanged mid new id c rest (ending.Damaged h) s g = s
-goes_on_unchanged mid new id c rest ending.Refused s g = cc
-goes_on_unchanged mid new id c rest (ending.Failed kind) s g = s
-goes_on_unchanged mid new id c rest ending.Memory s g = s
-goes_on_unchanged mid new id c rest ending.TooLong s g = s
-
--- a new replay that read a log
-pub replays : (id : ℕ) (old new : ReplayView) (log : Option (List ℕ)) (read : FramesRead) → old ≡ fresh → FramesAreRead TakesPayload Stops old new id (start_of id) log read → ReplaysLog id log read new
-replays id old new log read new_at_first r = record {
-  of = record {
-    frames = r.frames;
-    are = r.fit;
-    cursor = r.cursor;
-    taken = λ g. ap total (goes_on_unchanged r.mid new id _ r.rest read.ending r.sink g)
-        ∙ takes_payloads r.frames old r.mid r.taken
-        ∙ ap (λ v. total v ++ payloads r.frames) new_at_first;
-  };
-  rest = r.rest;
-  given = r.given;
-}
+use Rattle.store_replay.specs.Replays.{BeginsWith, Continues, IsBeginning, IsReplayOf, ReplayView, ReplaysFrame, ReplaysNoFrame, TakesPayload, fresh, total}
 
 -- ---- one payload
 
@@ -60,3 +24,51 @@ continues old new records rest bytes written durable whole = record {
 -- the bytes that were left over, and a payload, were taken
 pub takes : (old new : DeviceView Step) (left payload more : List ℕ) → Continues old new (left ++ payload) more → new.written ++ more ≡ (old.written ++ left) ++ payload
 takes old new left payload more c = c.more ∙ sym (append_assoc old.written left payload)
+
+-- ---- frames
+
+-- a new replay has taken no frame
+pub no_frame : (id : ℕ) (v : ReplayView) → v ≡ fresh → IsReplayOf id [] (start_of id) v
+no_frame id v e = record { are = tt; at_end = refl; taken = λ _. ap total e }
+
+-- one frame more was replayed
+pub one_frame : (id : ℕ) (c next : Cursor) (log rest : Option (List ℕ)) (before after : List Frame) (old new : ReplayView)
+    → IsReplayOf id before c old → ReplaysFrame id c next log rest before after old new → IsReplayOf id after next new
+one_frame id c next log rest before after old new so_far r =
+    let start = start_of id in
+    let fits : IsFrame (end_of id start before) r.frame = subst (λ (at : Cursor). IsFrame at r.frame) so_far.at_end r.fits in
+    let all : IsReplayOf id (before ++ r.frame ∷ []) next new = record {
+      are = one_fits id start before r.frame so_far.are fits;
+      at_end = r.at_end ∙ ap (λ (at : Cursor). cursor_after id at r.frame) so_far.at_end ∙ sym (one_end id start before r.frame);
+      taken = λ _. r.taken.total_after ∙ ap (λ t. t ++ r.frame.payload) (so_far.taken r.taken.went_on) ∙ sym (payloads-snoc before r.frame);
+    } in
+    subst (λ (fs : List Frame). IsReplayOf id fs next new) (sym r.added) all
+
+-- the log that was read begins with one frame more
+pub begins_with : (id : ℕ) (c next : Cursor) (log mid rest : Option (List ℕ)) (before after : List Frame) (old new : ReplayView)
+    → IsReplayOf id before c old → BeginsWith id log mid before → ReplaysFrame id c next mid rest before after old new → BeginsWith id log rest after
+begins_with id c next log mid rest before after old new so_far given r =
+    let start = start_of id in
+    let more : Consumes mid rest (frame_bytes id (end_of id start before) r.frame) = subst (λ (at : Cursor). Consumes mid rest (frame_bytes id at r.frame)) so_far.at_end r.given in
+    subst (λ (fs : List Frame). BeginsWith id log rest fs) (sym r.added) (one_given id start log mid rest before r.frame given more)
+
+-- no further frame was replayed
+pub no_more : (id : ℕ) (c : Cursor) (before after : List Frame) (old new : ReplayView) → IsReplayOf id before c old → ReplaysNoFrame before after old new → IsReplayOf id after c new
+no_more id c before after old new so_far (same, inl e) =
+    subst (λ (fs : List Frame). IsReplayOf id fs c new) (sym same) (subst (λ (v : ReplayView). IsReplayOf id before c v) (sym e) so_far)
+no_more id c before after old new so_far (same, inr stopped) =
+    subst (λ (fs : List Frame). IsReplayOf id fs c new) (sym same) (record { are = so_far.are; at_end = so_far.at_end; taken = λ g. cc })
+
+-- nothing was read yet
+pub start : (id : ℕ) (c : Cursor) (frames : List Frame) (v : ReplayView) (log : Option (List ℕ)) → v ≡ fresh → frames ≡ [] → c ≡ start_of id → IsReplayOf id frames c v × BeginsWith id log log frames
+start id c frames v log is_fresh none at_start =
+    let first : IsReplayOf id [] c v = subst (λ (at : Cursor). IsReplayOf id [] at v) (sym at_start) (no_frame id v is_fresh) in
+    (subst (λ (fs : List Frame). IsReplayOf id fs c v) (sym none) first, subst (λ (fs : List Frame). BeginsWith id log log fs) (sym none) (Consumes-nil log))
+
+-- the log begins with the same frames
+pub same_beginning : (id : ℕ) (log rest : Option (List ℕ)) (before after : List Frame) (old new : ReplayView) → BeginsWith id log rest before → ReplaysNoFrame before after old new → IsBeginning id log after
+same_beginning id log rest before after old new given no = (rest, subst (λ (fs : List Frame). BeginsWith id log rest fs) (sym no.0) given)
+
+-- if nothing is left over, the replayed bytes are the payloads
+pub whole : (id : ℕ) (frames : List Frame) (c : Cursor) (v : ReplayView) → IsReplayOf id frames c v → v.goes_on ≡ true → v.left ≡ [] → v.replayed ≡ payloads frames
+whole id frames c v of g none = sym (append-nil v.replayed) ∙ ap (λ t. v.replayed ++ t) (sym none) ∙ of.taken g

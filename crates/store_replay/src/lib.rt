@@ -13,6 +13,7 @@ mod prefix;
 mod replay;
 mod replayed;
 mod scan;
+mod trail;
 
 pub use fault::{Cause, Fault};
 pub use observer::{ChangeSink, NoSink};

@@ -42,7 +42,7 @@ impl<'s, W: Wait, S: Naming, O: ChangeSink> Players<'s, W, S, O> {
         ensures { IfOk result (λ n. n ≤ length bytes.now) }
     {
         let mut count: usize = 0;
-        for _ in 0..u64::MAX {
+        for _turn in 0..u64::MAX {
             let offset = start.saturating_add(count as u64);
             let (_, rest) = bytes.split_at(count);
             let (change, after) = match next_record(rest) {
@@ -226,6 +226,11 @@ impl<'s, W: Wait, S: Naming, O: ChangeSink> Replay<'s, W, S, O> {
         fault
     }
 
+    /// Returns the allocator.
+    pub(crate) fn allocator(&self) -> Global {
+        self.alloc
+    }
+
     /// Returns the observer of the changes.
     pub fn observer(&self) -> &O {
         &self.players.observer
@@ -251,7 +256,7 @@ impl<'s, W: Wait, S: Naming, O: ChangeSink> Replay<'s, W, S, O> {
         requires goes_on { self.goes_on ≡ true }
         requires written { D.written disk ≡ self.replayed }
         requires synced { D.synced disk ≡ self.replayed }
-        ensures { HasDurable self.replayed result.1 }
+        ensures { HasDurable self.entry.replayed result.1 }
     {
         let Replay {
             alloc: _,
@@ -275,12 +280,11 @@ impl<'s, W: Wait, S: Naming, O: ChangeSink> Replay<'s, W, S, O> {
 }
 
 impl<'s, W: Wait, S: Naming, O: ChangeSink> FrameSink for Replay<'s, W, S, O> {
-    ghost use Rattle.std.specs.Prelude.{◌≡◌, false};
-    ghost use Rattle.store_replay.specs.Replays.{TakesPayload};
+    ghost use Rattle.store_replay.specs.Replays.{Stops, TakesPayload};
 
     ghost takes = { TakesPayload };
 
-    ghost refuses = { λ _ _ new. new.goes_on ≡ false };
+    ghost refuses = { Stops };
 
     /// Plays the records that are whole with this payload, and compares the records that the store made.
     ///

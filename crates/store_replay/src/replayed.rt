@@ -1,37 +1,50 @@
 //! Replays a log, and continues it.
 
-ghost use Rattle.std.specs.Prelude.{◌≡◌, [], IfOk, true};
+ghost use Rattle.std.specs.Prelude.{◌≡◌, ◌≤◌, ◌+◌, ◌++◌, ◌∷◌, [], false, true, IfOk, OnErr, OnOk, length};
 ghost use Rattle.log_frames.specs.Frames.{AreFrames, end_of, payloads};
 ghost use Rattle.log_frames.specs.Headers.{log_bytes, start_of};
-ghost use Rattle.store_replay.specs.Replays.{HasDurable, IsReplayOf, ReplaysLog, fresh};
+ghost use Rattle.log_frames.specs.Reads.{frame_in, payload_in};
+ghost use Rattle.store_replay.specs.Replays.{HasDurable, IsBeginning, IsReplayOf, ReplaysFrame, ReplaysNoFrame, TakesPayload, fresh};
 
 use crate::observer::ChangeSink;
 use crate::replay::Replay;
+use crate::trail::FrameTrail;
 use blob_store::{Desk, Naming};
 use durable_log::IdleDevice;
 use framed_disk::{FramedDisk, FramesName};
 use locked_book::{Step, StoreLog};
 use log_disk::{BytesName, Disk, DiskError, FileDisk};
-use log_frames::{Cursor, Ending, FramesRead, read_frames, start_of};
-use std::alloc::Global;
+use log_frames::{
+    Cursor, Ending, FrameHead, FrameSink, FramesRead, NextFrame, ReadFault, judge_rest,
+    read_next_frame, start_of,
+};
+use std::alloc::{AllocError, Global};
 use std::fmt;
 use std::fs::File;
 use std::io::Read;
-use std::marker::Brand;
+use std::marker::{Brand, Model};
 use std::sync::Wait;
 
 /// A log that was read and replayed, perhaps only up to a fault.
 ///
-/// While there is no fault, the replayed and the left-over bytes are the payloads of the frames that were read.
+/// Contracts see the frames that were read, and the replay. While there is no fault, the bytes that were replayed and those
+/// that are left over are the payloads of these frames.
 #[derive(Drop)]
 pub struct Replayed<'s, W: Wait, S: Naming, O: ChangeSink> {
-    /// The replay, with its fault if there is one.
-    pub replay: Replay<'s, W, S, O>,
-    /// The frames that were read.
-    pub read: FramesRead,
-    /// The id of the log.
-    pub id: u64,
-    ghost facts: { IsReplayOf id read replay },
+    replay: Replay<'s, W, S, O>,
+    read: FramesRead,
+    id: u64,
+    trail: FrameTrail,
+}
+
+impl<'s, W: Wait, S: Naming, O: ChangeSink> Model for Replayed<'s, W, S, O> {
+    ghost use Rattle.store_replay.specs.Replays.{IsReplayOf, ReplayedView};
+
+    ghost Value = { ReplayedView };
+
+    ghost view = { λ r. record { id = r.id; frames = r.trail; cursor = r.read.cursor; replay = r.replay } };
+
+    ghost invariant = { λ r. IsReplayOf r.id r.trail r.read.cursor r.replay };
 }
 
 /// The reason why a log cannot be continued.
@@ -60,24 +73,151 @@ impl From<DiskError> for ContinueError {
     }
 }
 
+/// Replays the frame that a buffer begins with, which has this head.
+fn replay_frame<W: Wait, S: Naming, O: ChangeSink>(
+    replay: &mut Replay<'_, W, S, O>,
+    trail: &mut FrameTrail,
+    buffer: &[u8],
+    head: FrameHead,
+) -> Result<(), Ending>
+    requires { head.length + 40 ≤ length buffer.now }
+    ensures taken { OnOk result (TakesPayload replay.old (payload_in head buffer.now) replay.new) }
+    ensures added { OnOk result (trail.new ≡ trail.old ++ frame_in head buffer.now ∷ []) }
+    ensures stops { OnErr result (replay.new.goes_on ≡ false) }
+    ensures kept { OnErr result (trail.new ≡ trail.old) }
+{
+    let (_, behind) = buffer.split_at(32);
+    let (payload, _) = behind.split_at(head.length as usize);
+    match replay.take(payload) {
+        Ok(()) => {
+            trail.add(head.synced, payload);
+            Ok(())
+        }
+        Err(()) => Err(Ending::Refused),
+    }
+}
+
+/// Reads a frame and replays it. Returns the offset up to which it states that the file was synced, and the cursor after
+/// it.
+fn replay_next_frame<R: Read, W: Wait, S: Naming, O: ChangeSink>(
+    replay: &mut Replay<'_, W, S, O>,
+    trail: &mut FrameTrail,
+    input: &mut R,
+    buffer: &mut Vec<u8>,
+    id: u64,
+    cursor: Cursor,
+) -> Result<(u64, Cursor), Ending>
+    ensures replayed { IfOk result (λ r. ReplaysFrame id cursor r.1 (R.remaining input.old)
+        (R.remaining input.new) trail.old trail.new replay.old replay.new) }
+    ensures ended { OnErr result (ReplaysNoFrame trail.old trail.new replay.old replay.new) }
+{
+    match read_next_frame(input, buffer, id, cursor) {
+        Ok(NextFrame::Frame(head, next)) => {
+            match replay_frame(replay, trail, buffer.as_slice(), head) {
+                Ok(()) => Ok((head.synced, next)),
+                Err(ending) => Err(ending),
+            }
+        }
+        Ok(NextFrame::End) => Err(Ending::End),
+        Ok(NextFrame::NoFrame(count)) => Err(judge_rest(input, buffer, count, id, cursor.place)),
+        Err(ReadFault::Failed(kind)) => Err(Ending::Failed(kind)),
+        Err(ReadFault::Memory) => Err(Ending::Memory),
+        Err(ReadFault::TooLong) => Err(Ending::TooLong),
+    }
+}
+
+/// Reads the frames of a log with this id, from the end of its header on, and replays them.
+fn replay_frames<R: Read, W: Wait, S: Naming, O: ChangeSink>(
+    replay: &mut Replay<'_, W, S, O>,
+    trail: &mut FrameTrail,
+    input: &mut R,
+    buffer: &mut Vec<u8>,
+    id: u64,
+) -> FramesRead
+    requires replay { replay.old ≡ fresh }
+    requires trail { trail.old ≡ [] }
+    ensures of { IsReplayOf id trail.new result.cursor replay.new }
+    ensures read { IsBeginning id (R.remaining input.old) trail.new }
+{
+    let mut cursor = start_of(id);
+    let mut synced: u64 = 0;
+    for _turn in 0..u64::MAX {
+        match replay_next_frame(replay, trail, input, buffer, id, cursor) {
+            Ok((stated, next)) => {
+                synced = synced.max(stated);
+                cursor = next;
+            }
+            Err(ending) => {
+                return FramesRead {
+                    cursor,
+                    synced,
+                    ending,
+                };
+            }
+        }
+    }
+    FramesRead {
+        cursor,
+        synced,
+        ending: Ending::TooLong,
+    }
+}
+
 /// Reads the frames of a log with this id, from the end of its header on, and replays them. The buffer grows with the
 /// longest frame, as for `read_frames`.
+///
+/// # Errors
+///
+/// - if memory for the replay runs out. A fault of the replay is no error: `Replayed` has it.
 pub fn replay_log<'s, R: Read, W: Wait, S: Naming, O: ChangeSink>(
     replay: Replay<'s, W, S, O>,
     input: &mut R,
     buffer: &mut Vec<u8>,
     id: u64,
-) -> Replayed<'s, W, S, O>
+) -> Result<Replayed<'s, W, S, O>, AllocError>
     requires { replay ≡ fresh }
-    ensures id { result.id ≡ id }
-    ensures read { ReplaysLog id (R.remaining input.old) result.read result.replay }
+    ensures of { IfOk result (λ r. (r.id ≡ id) × IsReplayOf id r.frames r.cursor r.replay) }
+    ensures read { IfOk result (λ r. IsBeginning id (R.remaining input.old) r.frames) }
 {
     let mut replay = replay;
-    let read = read_frames(&mut replay, input, buffer, id, start_of(id));
-    Replayed { replay, read, id }
+    let mut trail = FrameTrail::new(replay.allocator())?;
+    let read = replay_frames(&mut replay, &mut trail, input, buffer, id);
+    Ok(Replayed {
+        replay,
+        read,
+        id,
+        trail,
+    })
 }
 
 impl<'s, W: Wait, S: Naming, O: ChangeSink> Replayed<'s, W, S, O> {
+    /// Returns the replay.
+    pub fn replay(&self) -> &Replay<'s, W, S, O>
+        ensures { result.now ≡ self.now.replay }
+    {
+        &self.replay
+    }
+
+    /// Returns the replay.
+    pub fn into_replay(self) -> Replay<'s, W, S, O>
+        ensures { result ≡ self.entry.replay }
+    {
+        let Replayed {
+            replay,
+            read: _,
+            id: _,
+            trail: _,
+        } = self;
+        replay
+    }
+
+    /// Returns what is known of the frames that were read: the cursor after them, and the reason why there was no more.
+    pub fn read(&self) -> FramesRead
+        ensures { result.cursor ≡ self.now.cursor }
+    {
+        self.read
+    }
+
     /// Returns whether the whole log was replayed: it ends in order, there was no fault, and nothing is left over.
     pub fn is_whole(&self) -> bool
         ensures { result ≡ true → (self.now.replay.goes_on ≡ true) × (self.now.replay.left ≡ []) }
@@ -109,7 +249,7 @@ pub fn continue_on<'s, F: FramesName, D: Disk, W: Wait, S: Naming, O: ChangeSink
     requires synced { D.synced raw ≡ D.written raw }
     requires goes_on { replay.goes_on ≡ true }
     requires replayed { replay.replayed ≡ payloads F.frames }
-    ensures { IfOk result (λ r. HasDurable replay.replayed r.1) }
+    ensures { IfOk result (λ r. HasDurable replay.entry.replayed r.1) }
 {
     let mut disk = FramedDisk::open::<F>(alloc, raw, id, cursor)?;
     disk.mark()?;
@@ -120,19 +260,22 @@ pub fn continue_on<'s, F: FramesName, D: Disk, W: Wait, S: Naming, O: ChangeSink
 /// Continues a log on the file that it was read from. The frames and the bytes of the file are picked in the proof alone.
 fn continue_on_file_as<'s, F: FramesName, B: BytesName, W: Wait, S: Naming, O: ChangeSink>(
     alloc: Global,
-    replayed: Replayed<'s, W, S, O>,
+    replay: Replay<'s, W, S, O>,
+    trail: &FrameTrail,
+    id: u64,
+    cursor: Cursor,
     file: File,
 ) -> Result<(Desk<S>, IdleDevice<Step, StoreLog<S>, FramedDisk<FileDisk>>), DiskError>
-    requires frames { AreFrames replayed.id (start_of replayed.id) F.frames }
-    requires cursor { replayed.read.cursor ≡ end_of replayed.id (start_of replayed.id) F.frames }
-    requires goes_on { replayed.replay.goes_on ≡ true }
-    requires replayed { replayed.replay.replayed ≡ payloads F.frames }
-    requires bytes { B.bytes ≡ log_bytes replayed.id F.frames }
-    ensures { IfOk result (λ r. HasDurable replayed.replay.replayed r.1) }
+    requires named { F.frames ≡ trail.now }
+    requires bytes { B.bytes ≡ log_bytes id trail.now }
+    requires of { IsReplayOf id trail.now cursor replay }
+    requires goes_on { replay.goes_on ≡ true }
+    requires left { replay.left ≡ [] }
+    ensures { IfOk result (λ r. HasDurable replay.entry.replayed r.1) }
 {
-    let Replayed { replay, read, id } = replayed;
-    let raw = FileDisk::new::<B>(alloc, file, read.cursor.place)?;
-    continue_on::<F, FileDisk, W, S, O>(alloc, replay, raw, id, read.cursor)
+    let _ = trail;
+    let raw = FileDisk::new::<B>(alloc, file, cursor.place)?;
+    continue_on::<F, FileDisk, W, S, O>(alloc, replay, raw, id, cursor)
 }
 
 /// Continues a log on the file that it was read from. Syncs the file, writes a mark and syncs it again. Returns the desk of
@@ -150,10 +293,27 @@ pub fn continue_on_file<'s, W: Wait, S: Naming, O: ChangeSink>(
     replayed: Replayed<'s, W, S, O>,
     file: File,
 ) -> Result<(Desk<S>, IdleDevice<Step, StoreLog<S>, FramedDisk<FileDisk>>), ContinueError>
-    ensures { IfOk result (λ r. HasDurable replayed.replay.replayed r.1) }
+    ensures { IfOk result (λ r. HasDurable replayed.entry.replay.replayed r.1) }
 {
     if !replayed.is_whole() {
         return Err(ContinueError::Unfinished);
     }
-    Ok(continue_on_file_as::<Brand, Brand, W, S, O>(alloc, replayed, file)?)
+    let Replayed {
+        replay,
+        read,
+        id,
+        trail,
+    } = replayed;
+    let done = continue_on_file_as::<Brand, Brand, W, S, O>(
+        alloc,
+        replay,
+        &trail,
+        id,
+        read.cursor,
+        file,
+    );
+    match done {
+        Ok(continued) => Ok(continued),
+        Err(error) => Err(ContinueError::Disk(error)),
+    }
 }

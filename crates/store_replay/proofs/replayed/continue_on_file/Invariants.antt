@@ -1,0 +1,8 @@
+use Rattle.log_frames.specs.Headers.{log_bytes}
+use Rattle.store_replay.proofs.replayed.continue_on_file.Given as goal
+
+abbrev pub ghosts-continue_on_file_as-F-FramesName : goal.ghosts-continue_on_file_as-F-FramesName
+ghosts-continue_on_file_as-F-FramesName g a = record { frames = a.trail.now }
+
+abbrev pub ghosts-continue_on_file_as-B-BytesName : goal.ghosts-continue_on_file_as-B-BytesName
+ghosts-continue_on_file_as-B-BytesName g a = record { bytes = log_bytes a.id a.trail.now }
