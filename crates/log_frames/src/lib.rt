@@ -21,6 +21,6 @@ pub use fault::ReadFault;
 pub use head::{FrameHead, MAX_PAYLOAD, frame_head};
 pub use header::{HEADER_LENGTH, Opening, header_bytes, read_header, start_of};
 pub use next::{NextFrame, read_next_frame};
-pub use reading::{Ending, FrameSink, FramesRead, read_frames};
+pub use reading::{Ending, FrameSink, FramesRead, judge_rest, read_frames};
 pub use scan::find_later_head;
 pub use write::{cursor_after, frame_sum, write_frame};

@@ -60,7 +60,7 @@ pub struct FramesRead {
 
 /// Decides whether the rest of a log, at a place at which no frame begins, is torn or damaged. The buffer begins with the
 /// first `count` bytes of the rest.
-fn judge_rest<R: Read>(
+pub fn judge_rest<R: Read>(
     input: &mut R,
     buffer: &mut Vec<u8>,
     count: usize,
