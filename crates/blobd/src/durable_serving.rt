@@ -53,7 +53,7 @@ type FileLog<S> = IdleDevice<Step, StoreLog<S>, FramedDisk<FileDisk>>;
 
 /// Returns why a log was not replayed to its end.
 fn fault_of<W: Wait, S: Naming>(replayed: Replayed<'_, W, S, NoSink>) -> ServeFault {
-    let read = replayed.read;
+    let read = replayed.read();
     let place = read.cursor.place;
     match read.ending {
         Ending::Failed(kind) => return ServeFault::Read(kind),
@@ -61,7 +61,7 @@ fn fault_of<W: Wait, S: Naming>(replayed: Replayed<'_, W, S, NoSink>) -> ServeFa
         Ending::TooLong => return ServeFault::Read(ErrorKind::FileTooLarge),
         Ending::End | Ending::Torn | Ending::Damaged(_) | Ending::Refused => {}
     }
-    match replayed.replay.into_fault() {
+    match replayed.into_replay().into_fault() {
         Some(fault) => match fault.cause {
             Cause::Memory => ServeFault::Memory,
             cause => ServeFault::Record { place, cause },
@@ -89,7 +89,7 @@ fn replay_with_desk<W: Wait, S: Naming, R: Read>(
     let OpenLog { file, id } = log;
     let mut buffer = Vec::new(alloc);
     let replay = Replay::new(rt, store, alloc, desk, device, NoSink);
-    let replayed = replay_log(replay, input, &mut buffer, id);
+    let replayed = replay_log(replay, input, &mut buffer, id)?;
     if !replayed.is_whole() {
         return Err(fault_of(replayed));
     }

@@ -3,4 +3,4 @@ use Rattle.std.specs.Prelude.{◌≤◌, length}
 use Rattle.store_replay.proofs.replay.Players.play_records.Given as goal
 
 abbrev pub invariant-loop-turn : goal.invariant-loop-turn
-invariant-loop-turn g l = l.count ≤ length l.bytes.now
+invariant-loop-turn g l = l.count ≤ length l.bytes
