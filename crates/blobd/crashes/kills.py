@@ -186,7 +186,7 @@ def first_starts(room):
     wanted = [("sync", "log.new"), ("rename", "log.new"), ("sync", str(folder))]
     compares(f"a sync of the folder of a new folder in {calls}", ("sync", str(folder.parent)) in calls, True)
     compares(f"the order of {calls}", in_order(calls, wanted), True)
-    compares("the calls of a start that is killed", calls_of_start(room, killed, {"CRASH_KILL": "1"}), wanted[:2])
+    compares("the last calls of a start that is killed", calls_of_start(room, killed, {"CRASH_KILL": "1"})[-2:], wanted[:2])
     calls = calls_of_start(room, killed)
     compares(f"a sync of the folder in {calls}", ("sync", str(killed)) in calls, True)
     header = (folder / "log").read_bytes()[:HEADER]
