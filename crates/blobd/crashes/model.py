@@ -2,7 +2,9 @@
 depends on nobody else. The rules are those of docs/SEMANTICS.md."""
 import collections
 import hashlib
+import math
 import re
+import time
 
 from data_folder import Ended
 from frames import ABANDON, APPEND, BLOB_UNKNOWN, CLOSE, DELETE, DELETE_MANIFEST, DIGEST_INVALID, FETCH, GET_MANIFEST, GIVE_BACK, LEASE
@@ -159,22 +161,36 @@ def some_bytes(rng):
     return rng.randbytes(rng.randint(0 if draw > 0.95 else 1, most))
 
 
+class History:
+    """What the clients of a store know in common: all that was replied to before the time `durable` is durable. The store keeps a first
+    part of one history. So a durable change proves that all is durable that was replied to before its request was sent."""
+
+    def __init__(self):
+        self.durable = 0.0
+
+
 class Client:
     """Makes random calls in its tenant, and knows what may be there after a crash: one of `possible`, which are the state after the
     last change that was promised, and those after each later call."""
 
-    def __init__(self, tenant, rng):
-        self.tenant, self.rng = tenant, rng
+    def __init__(self, tenant, rng, history=None):
+        self.tenant, self.rng, self.history = tenant, rng, history or History()
         self.state = State(tenant)
         self.possible = [self.state]
+        self.sent, self.replied = {}, {}  # the times of the calls that led to the possible states
         self.gone = collections.deque(maxlen=MOST_GONE)
         self.kinds = collections.Counter()
         self.made = 0
         self.fault = None
 
+    def promises(self, state):
+        """Notes that the calls that led to a possible state are durable."""
+        del self.possible[:self.possible.index(state)]
+
     def promises_all(self):
         """Notes that all calls until now are durable."""
         self.possible = [self.state]
+        self.sent, self.replied = {}, {}
 
     def sends(self, connection, step):
         """Sends the request of a step."""
@@ -182,6 +198,7 @@ class Client:
             self.gone.extend(self.state.names() - step.after.names())
             self.state = step.after
             self.possible.append(step.after)
+            self.sent[step.after] = time.monotonic()
         connection.writes(step.request)
 
     def receives(self, connection, step, promise):
@@ -190,7 +207,10 @@ class Client:
         if found != step.reply:
             raise Fault(f"{self.tenant}: the reply to {step.request[:80]!r} is {found[:80]!r}, and not {step.reply[:80]!r}")
         if step.kind == CHANGE or step.kind == CHUNK and promise == "each":
-            del self.possible[:self.possible.index(step.after)]
+            self.promises(step.after)
+            self.history.durable = max(self.history.durable, self.sent[step.after])
+        elif step.kind == CHUNK:
+            self.replied[step.after] = time.monotonic()
 
     def plays(self, connection, step, promise="closes"):
         """Makes the call of a step."""
@@ -274,6 +294,13 @@ class Client:
                 self.fault = f"{self.tenant}: the connection ends"
         except (Fault, OSError) as error:
             self.fault = str(error)
+
+    def settles(self):
+        """Notes after a crash what the other clients' durable changes prove, before any of them goes on."""
+        for state in list(self.possible):
+            if self.replied.get(state, math.inf) < self.history.durable:
+                self.promises(state)
+        self.sent, self.replied = {}, {}
 
     def fitting(self, connection):
         """Reads all that may be there. Returns those of the possible states that it fits, and the number of comparisons."""

@@ -9,7 +9,7 @@ import threading
 import data_folder
 from data_folder import PATIENCE, Blobd
 from frames import GREETING
-from model import QUOTA, Client, Fault
+from model import QUOTA, Client, Fault, History
 
 NOBODY = 65534
 TENANTS = ("t0", "t1", "t2", "t3")
@@ -97,7 +97,8 @@ class Room:
 
 def clients(room):
     """Returns a client for each tenant."""
-    return [Client(tenant, random.Random(room.rng.random())) for tenant in TENANTS]
+    history = History()
+    return [Client(tenant, random.Random(room.rng.random()), history) for tenant in TENANTS]
 
 
 def calls_of(everybody):
@@ -123,6 +124,8 @@ def together(everybody, lines, promise, calls=None):
 
 def looks(everybody, blobd):
     """Lets each client compare what is there with what may be there, and close a session of an earlier run."""
+    for client in everybody:
+        client.settles()
     for client, connection in zip(everybody, blobd.connections):
         counts["comparisons"] += client.looks(connection)
         client.finishes(connection, 1)
