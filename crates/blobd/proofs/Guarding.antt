@@ -1,5 +1,5 @@
 -- Desks that are durable, and what a commit keeps.
-use Rattle.std.proofs.Common.{◌≡◌, ◌≢◌, ◌∙◌, ◌++◌, [], Bool, true, ap, subst, sym}
+use Rattle.std.proofs.Common.{◌≡◌, ◌≢◌, ◌∙◌, ◌++◌, [], Bool, true, ap, arith, subst, sym}
 use Rattle.std.proofs.lemmas.Bool.{false≢true}
 use Rattle.ghost_log.specs.Entries.{events_by}
 use Rattle.durable_log.specs.Views as durable
@@ -19,7 +19,7 @@ pub fresh_durable : (policy : LogPolicy) (t : Trace) → t.own ≡ [] → t.dura
 fresh_durable policy t none nothing = record {
   rest = [];
   own = none ∙ sym (ap (λ entries. events_by t.number entries ++ []) nothing);
-  unpromised = tt;
+  unpromised = λ k d below. absurd (omega (arith, below));
 }
 
 -- a store without a log promises nothing

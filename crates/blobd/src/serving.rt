@@ -28,17 +28,17 @@ use wire_server::{Ending, ReplyStream, serve};
 
 /// Serves a connection with a new desk and a new writer of the table's history. Returns why the connection ended, and the
 /// desk. If a commit fails, the connection ends with `NotDurable`, and so does the service, with the error of the log.
-fn serve_with_desk<'s, 'd, W: Wait, S: Naming, L: LeaseNaming, D: Disk, I: Read, O: Write>(
+fn serve_with_desk<'s, W: Wait, S: Naming, L: LeaseNaming, D: Disk, I: Read, O: Write>(
     rt: &'s W,
     alloc: Global,
     store: &'s Store<S>,
-    device: Option<&'d SharedLogDevice<S, D>>,
+    device: Option<&'s SharedLogDevice<S, D>>,
     end: &EndCell,
     table: &Mutex<LockedLeaseTable<'s, StorePins<S>, L>>,
     desk: Desk<S>,
     writer: LeaseWriter<L>,
     input: &mut Watched<I>,
-    output: &mut ReplyStream<StoreGuard<'d, S, D>, O>,
+    output: &mut ReplyStream<StoreGuard<'s, S, D>, O>,
 ) -> (Ending, Desk<S>)
     requires fresh { work_of desk ≡ zero_work }
     requires unwritten { writer.own ≡ [] }
@@ -80,15 +80,15 @@ fn serve_with_desk<'s, 'd, W: Wait, S: Naming, L: LeaseNaming, D: Disk, I: Read,
 ///
 /// - `LimitReached`, if 1,024 desks exist.
 /// - `Memory`, if the desk cannot be allocated.
-pub fn serve_streams<'s, 'd, W: Wait, S: Naming, L: LeaseNaming, D: Disk, I: Read, O: Write>(
+pub fn serve_streams<'s, W: Wait, S: Naming, L: LeaseNaming, D: Disk, I: Read, O: Write>(
     rt: &'s W,
     alloc: Global,
     store: &'s Store<S>,
-    device: Option<&'d SharedLogDevice<S, D>>,
+    device: Option<&'s SharedLogDevice<S, D>>,
     end: &EndCell,
     table: &Mutex<LockedLeaseTable<'s, StorePins<S>, L>>,
     input: &mut Watched<I>,
-    output: &mut ReplyStream<StoreGuard<'d, S, D>, O>,
+    output: &mut ReplyStream<StoreGuard<'s, S, D>, O>,
 ) -> Result<Ending, Refusal>
     ensures served { IfOk result (ServesStreams S.names L.log I.remaining O.contents
         input.old (output_of output.old) (output_of output.new)) }
@@ -112,7 +112,6 @@ pub fn serve_streams<'s, 'd, W: Wait, S: Naming, L: LeaseNaming, D: Disk, I: Rea
 /// Serves a connection until it ends, and then drops its input and output.
 fn serve_connection<
     's,
-    'd,
     W: Wait,
     S: Naming,
     L: LeaseNaming,
@@ -123,7 +122,7 @@ fn serve_connection<
     rt: &'s W,
     alloc: Global,
     store: &'s Store<S>,
-    device: Option<&'d SharedLogDevice<S, D>>,
+    device: Option<&'s SharedLogDevice<S, D>>,
     end: &EndCell,
     table: &Mutex<LockedLeaseTable<'s, StorePins<S>, L>>,
     line: &mut Connection<I, O>,
@@ -151,7 +150,6 @@ fn serve_connection<
 /// it serves them one after another.
 fn serve_connections<
     's,
-    'd,
     'l,
     W: Threads + Wait + Sync,
     S: Naming + Send + Sync,
@@ -163,7 +161,7 @@ fn serve_connections<
     rt: &'s W,
     alloc: Global,
     store: &'s Store<S>,
-    device: Option<&'d SharedLogDevice<S, D>>,
+    device: Option<&'s SharedLogDevice<S, D>>,
     end: &EndCell,
     table: &'l Mutex<LockedLeaseTable<'s, StorePins<S>, L>>,
     lines: &mut [Connection<I, O>],
@@ -182,7 +180,6 @@ fn serve_connections<
 /// store's totals. With a device, no reply is sent before what the store promises is durable on it.
 pub fn serve_on<
     's,
-    'd,
     W: Threads + Wait + Sync,
     S: Naming + Send + Sync,
     L: LeaseNaming + Send + Sync,
@@ -193,7 +190,7 @@ pub fn serve_on<
     rt: &'s W,
     alloc: Global,
     store: &'s Store<S>,
-    device: Option<&'d SharedLogDevice<S, D>>,
+    device: Option<&'s SharedLogDevice<S, D>>,
     end: &EndCell,
     log: SharedLog<LeaseEvent>,
     lines: &mut [Connection<I, O>],
