@@ -121,6 +121,30 @@ def damage(room):
         read_as_it_must(small, "a log with other bytes", small.data + b"any" * 50)
 
 
+def scrambled(data, rng):
+    """Returns a log of which a part was left out, repeated, put elsewhere, inserted, or overwritten."""
+    start, end, to = sorted(rng.randint(HEADER, len(data)) for _ in range(3))
+    if rng.random() < 0.5:
+        # whole frames
+        start, end, to = sorted(rng.choices([frame.place for frame in LogReading(data).frames], k=3))
+    return rng.choice([
+        data[:start] + data[end:],
+        data[:end] + data[start:],
+        data[:start] + data[end:to] + data[start:end] + data[to:],
+        data[:start] + rng.randbytes(rng.randint(1, 100)) + data[start:],
+        data[:start] + bytes(end - start) + data[end:],
+        data[:start] + rng.randbytes(end - start) + data[end:],
+        data[:end] + data[start:to] + data[to:],
+    ])
+
+
+def scrambled_logs(room):
+    """Tests logs whose parts are in disorder."""
+    for small in (SmallLog(room), SmallLog(room, False)):
+        for number in range(40 * room.long):
+            read_as_it_must(small, f"scrambled log {number}", scrambled(small.data, room.rng))
+
+
 def no_logs(room):
     """Tests files that are no log of this version."""
     small = SmallLog(room)
