@@ -67,8 +67,13 @@ start id c frames v log is_fresh none at_start =
 
 -- the log begins with the same frames
 pub same_beginning : (id : ℕ) (log rest : Option (List ℕ)) (before after : List Frame) (old new : ReplayView) → BeginsWith id log rest before → ReplaysNoFrame before after old new → IsBeginning id log after
-same_beginning id log rest before after old new given no = (rest, subst (λ (fs : List Frame). BeginsWith id log rest fs) (sym no.0) given)
+same_beginning id log rest before after old new given ended = (rest, subst (λ (fs : List Frame). BeginsWith id log rest fs) (sym ended.0) given)
 
 -- if nothing is left over, the replayed bytes are the payloads
 pub whole : (id : ℕ) (frames : List Frame) (c : Cursor) (v : ReplayView) → IsReplayOf id frames c v → v.goes_on ≡ true → v.left ≡ [] → v.replayed ≡ payloads frames
 whole id frames c v of g none = sym (append-nil v.replayed) ∙ ap (λ t. v.replayed ++ t) (sym none) ∙ of.taken g
+
+-- nothing was left over before
+pub alone : (old new : DeviceView Step) (left payload rest more : List ℕ) → left ≡ [] → more ≡ rest → Continues old new payload rest → Continues old new (left ++ payload) more
+alone old new left payload rest more none same c =
+    subst (λ (l : List ℕ). Continues old new (l ++ payload) more) (sym none) (subst (λ (m : List ℕ). Continues old new payload m) (sym same) c)

@@ -66,6 +66,7 @@ impl<'s, W: Wait, S: Naming, O: ChangeSink> Players<'s, W, S, O> {
 
     /// Plays the whole records that the bytes begin with. The device then has these records, and they are durable.
     /// Returns also the bytes after them.
+    #[tactic(auto, using(crate::proofs::Taking::continues))]
     fn replay_records<'b>(
         &mut self,
         progress: Progress<S>,
@@ -291,6 +292,7 @@ impl<'s, W: Wait, S: Naming, O: ChangeSink> FrameSink for Replay<'s, W, S, O> {
     /// # Errors
     ///
     /// - if there is or was a fault.
+    #[tactic(auto, using(crate::proofs::Taking::takes))]
     fn take(&mut self, payload: &[u8]) -> Result<(), ()> {
         let Some(progress) = self.progress.take() else {
             return Err(());

@@ -258,6 +258,7 @@ pub fn continue_on<'s, F: FramesName, D: Disk, W: Wait, S: Naming, O: ChangeSink
 }
 
 /// Continues a log on the file that it was read from. The frames and the bytes of the file are picked in the proof alone.
+#[tactic(auto, using(crate::proofs::Taking::whole))]
 fn continue_on_file_as<'s, F: FramesName, B: BytesName, W: Wait, S: Naming, O: ChangeSink>(
     alloc: Global,
     replay: Replay<'s, W, S, O>,
