@@ -165,32 +165,34 @@ fn run_in_memory<'w>(
     serve_all(rt, threads, parts, lines.as_mut_slice())
 }
 
+/// Returns the stop for a log that has a record at this place which cannot be replayed.
+fn record_stop<'w>(folder: &'w str, place: u64, cause: Cause) -> Stop<'w> {
+    let need = match &cause {
+        Cause::Refused { name: _, refusal } => Need::of_refusal(*refusal),
+        _ => None,
+    };
+    match (cause, need) {
+        (Cause::Refused { name, refusal: _ }, Some(need)) => Stop::Settings {
+            folder,
+            place,
+            name,
+            need,
+        },
+        (cause, _) => Stop::Damaged {
+            folder,
+            place,
+            damage: Damage::Record(cause),
+        },
+    }
+}
+
 /// Returns the stop for a log that was not served.
 fn fault_stop<'w>(folder: &'w str, fault: ServeFault) -> Stop<'w> {
     match fault {
         ServeFault::Memory => Stop::Memory,
         ServeFault::Read(kind) => folder_stop("read", folder, "/log", io::Error::from(kind)),
         ServeFault::Log(error) => Stop::LogFailed { folder, error },
-        ServeFault::Record { place, cause } => match cause {
-            Cause::Refused { name, refusal } => match Need::of_refusal(refusal) {
-                Some(need) => Stop::Settings {
-                    folder,
-                    place,
-                    name,
-                    need,
-                },
-                None => Stop::Damaged {
-                    folder,
-                    place,
-                    damage: Damage::Record(Cause::Refused { name, refusal }),
-                },
-            },
-            cause => Stop::Damaged {
-                folder,
-                place,
-                damage: Damage::Record(cause),
-            },
-        },
+        ServeFault::Record { place, cause } => record_stop(folder, place, cause),
     }
 }
 
