@@ -1,5 +1,5 @@
 -- What a replay has taken.
-use Rattle.std.proofs.Common.{◌≡◌, ◌⊎◌, ℕ, Bool, true, false, List, [], ◌∷◌, ◌++◌, ◌∙◌, ap, refl, sym, subst, append_assoc, append-nil, inl, inr, Option}
+use Rattle.std.proofs.Common.{◌≡◌, ℕ, true, List, [], ◌∷◌, ◌++◌, ◌∙◌, ap, refl, sym, subst, append_assoc, append-nil, inl, inr, Option}
 use Rattle.durable_log.specs.Views.{DeviceView}
 use Rattle.framed_disk.proofs.Framing.{payloads-snoc}
 use Rattle.log_frames.proofs.Taking.{one_end, one_fits, one_given}
@@ -10,7 +10,7 @@ use Rattle.std.specs.Io.KnownBytes.{Consumes}
 use Rattle.std.proofs.KnownBytes.{Consumes-nil}
 use Rattle.log_frames.specs.Frames.{IsFrame, cursor_after}
 use Rattle.store_model.specs.Histories.{Step}
-use Rattle.store_replay.specs.Replays.{BeginsWith, Continues, IsBeginning, IsReplayOf, ReplayView, ReplaysFrame, ReplaysNoFrame, TakesPayload, fresh, total}
+use Rattle.store_replay.specs.Replays.{BeginsWith, Continues, IsBeginning, IsReplayOf, ReplayView, ReplaysFrame, ReplaysNoFrame, fresh, total}
 
 -- ---- one payload
 
