@@ -16,7 +16,7 @@ from frames import GREETING
 HERE = pathlib.Path(__file__).parent
 
 # The timeout for a start, for a reply, and for the end of the program, in seconds.
-PATIENCE = 30
+PATIENCE = 60
 
 # Lengths in docs/LOG.md, in bytes: the header, and a frame without payload.
 HEADER, MARK = 32, 40
