@@ -140,10 +140,11 @@ fn whole_log<W: Wait, S: Naming>(
 ) -> Result<FileLog<S>, ServeFault>
     ensures { IfOk result (λ d. IsWholeOnSomeDisk S.names d) }
 {
-    match store.is_on_disk(rt, device) {
-        (device, true) => Ok(device),
-        (_, false) => Err(ServeFault::Log(CommitError::Closed)),
+    let (device, whole) = store.is_on_disk(rt, device);
+    if whole {
+        return Ok(device);
     }
+    Err(ServeFault::Log(CommitError::Closed))
 }
 
 /// Writes what waits, syncs it unless the log is never synced, and marks the end of the log.
