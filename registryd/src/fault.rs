@@ -3,6 +3,7 @@
 use crate::frames::{Reason, Refusal};
 use crate::limits::{tenant_of, Limit, MAX_MANIFESTS, MAX_REPOSITORIES, MAX_UPLOADS};
 use crate::store::StoreUnavailable;
+use crate::writer::DatabaseEnded;
 use hyper::header::{HeaderValue, CONTENT_TYPE};
 use hyper::{Body, Response, StatusCode};
 use serde_json::{json, Value};
@@ -92,6 +93,14 @@ impl Fault {
         Fault::new(StatusCode::SERVICE_UNAVAILABLE, "TOOMANYREQUESTS", message).with_header("Retry-After", "1")
     }
 
+    /// The disk of the folder has less free than its minimum.
+    pub fn disk_full(free: u64, min_free: u64) -> Fault {
+        let message = "the disk of the registry is almost full: only reads and deletes are served";
+        Fault::new(StatusCode::INSUFFICIENT_STORAGE, "UNSUPPORTED", message)
+            .with_header("Retry-After", "60")
+            .with_detail(json!({ "free": free, "minimum": min_free }))
+    }
+
     /// The request names no user, or the password is wrong.
     pub fn unauthorized() -> Fault {
         Fault::new(StatusCode::UNAUTHORIZED, "UNAUTHORIZED", "a user and a password are required")
@@ -150,6 +159,13 @@ pub fn range_text(received: u64) -> String {
 impl From<StoreUnavailable> for Fault {
     fn from(_: StoreUnavailable) -> Fault {
         Fault::new(StatusCode::SERVICE_UNAVAILABLE, "UNSUPPORTED", "the store has ended, or does not reply in time")
+            .with_header("Retry-After", "1")
+    }
+}
+
+impl From<DatabaseEnded> for Fault {
+    fn from(_: DatabaseEnded) -> Fault {
+        Fault::new(StatusCode::SERVICE_UNAVAILABLE, "UNSUPPORTED", "the database of the registry has ended")
             .with_header("Retry-After", "1")
     }
 }

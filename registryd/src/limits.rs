@@ -1,6 +1,7 @@
 //! The limits of a tenant. The store reports all of them with one status; this module finds the one that a call has reached.
+use crate::writer::{Change, DatabaseEnded, Writer};
 use std::collections::{HashMap, HashSet};
-use std::sync::Mutex;
+use std::sync::{Arc, Mutex};
 
 /// The maximum number of open uploads of a tenant.
 pub const MAX_UPLOADS: usize = 64;
@@ -20,9 +21,24 @@ pub enum Limit {
 }
 
 /// The repositories of the store, by tenant. A repository is never removed, and the store bounds their number.
+///
+/// With a database, a repository is recorded there before an upload is opened in it, so that the upload is found after a
+/// crash.
 #[derive(Default)]
 pub struct Repositories {
     by_tenant: Mutex<HashMap<String, HashSet<String>>>,
+    writer: Option<Arc<Writer>>,
+    /// The repositories that are recorded because of a request in progress, with the number of these requests.
+    entering: Mutex<HashMap<String, usize>>,
+}
+
+/// A request that may create a repository. If the store refuses all such requests, the record of the repository is removed.
+/// It stays if the outcome of one is unknown.
+pub struct Entering<'r> {
+    repositories: &'r Repositories,
+    repo: &'r str,
+    is_counted: bool,
+    is_refused: bool,
 }
 
 /// Returns the tenant of a repository.
@@ -31,6 +47,27 @@ pub fn tenant_of(repo: &str) -> &str {
 }
 
 impl Repositories {
+    /// Makes the table of a registry with a database.
+    pub fn recorded_by(writer: Option<Arc<Writer>>) -> Repositories {
+        Repositories { writer, ..Repositories::default() }
+    }
+
+    /// Begins a request that may create a repository. With a database, the repository is recorded when this returns.
+    pub async fn enter<'r>(&'r self, repo: &'r str) -> Result<Entering<'r>, DatabaseEnded> {
+        let mut entering = Entering { repositories: self, repo, is_counted: false, is_refused: false };
+        if let Some(writer) = self.writer.as_ref().filter(|_| !self.has(repo)) {
+            *self.entering.lock().unwrap().entry(repo.to_string()).or_default() += 1;
+            entering.is_counted = true;
+            writer.write(Change::AddRepository { repo: repo.to_string() }).await?;
+        }
+        Ok(entering)
+    }
+
+    /// Returns whether the store has a repository.
+    fn has(&self, repo: &str) -> bool {
+        self.by_tenant.lock().unwrap().get(tenant_of(repo)).map_or(false, |repos| repos.contains(repo))
+    }
+
     /// Adds a repository after the store accepted a call that may have created it.
     pub fn add(&self, repo: &str) {
         let mut by_tenant = self.by_tenant.lock().unwrap();
@@ -51,6 +88,36 @@ impl Repositories {
         match self.by_tenant.lock().unwrap().get(tenant_of(repo)) {
             Some(repos) if repos.len() >= MAX_REPOSITORIES && !repos.contains(repo) => Limit::Repositories,
             _ => own,
+        }
+    }
+}
+
+impl Entering<'_> {
+    /// Notes that the store refused the request, and so has not created the repository for it.
+    pub fn refused(&mut self) {
+        self.is_refused = true;
+    }
+}
+
+impl Drop for Entering<'_> {
+    fn drop(&mut self) {
+        let Entering { repositories, repo, .. } = *self;
+        let writer = match &repositories.writer {
+            Some(writer) if self.is_counted => writer,
+            _ => return,
+        };
+        if !self.is_refused {
+            repositories.add(repo);
+        }
+        let mut entering = repositories.entering.lock().unwrap();
+        let left = entering.get(repo).map_or(0, |count| count - 1);
+        match left {
+            0 => entering.remove(repo),
+            left => entering.insert(repo.to_string(), left),
+        };
+        // The lock is held until the change is noted, so that no later request is recorded before it.
+        if left == 0 && !repositories.has(repo) {
+            writer.note(Change::RemoveRepository { repo: repo.to_string() });
         }
     }
 }

@@ -1,18 +1,24 @@
 //! A container registry (OCI Distribution Specification 1.1). A `blobd` stores the blobs and manifests. Tags, media types
-//! and the names of uploads are in this process. All data is in memory.
+//! and open uploads are in this process, and with `--data` in a database too. Without `--data` all data is in memory.
 mod access;
+mod appending;
 mod blobs;
+mod catalog;
 mod conditional;
 mod connections;
 mod content;
+mod database;
+mod ending;
 mod exchange;
 mod fault;
+mod folder;
 mod frames;
 mod limits;
 mod manifests;
 mod media_type;
 mod memory;
 mod metrics;
+mod numbers;
 mod options;
 mod path;
 mod pool;
@@ -20,21 +26,32 @@ mod process;
 mod range;
 mod registry;
 mod server;
+mod startup;
 mod store;
 mod store_connection;
 mod tags;
 mod tenants;
 mod turns;
+mod undo;
+mod upload_name;
 mod uploading;
 mod uploads;
+mod writer;
 
 use crate::access::{Access, Users};
+use crate::catalog::Catalog;
 use crate::connections::{Connections, Limits};
+use crate::ending::Failure;
+use crate::folder::Folder;
+use crate::limits::Repositories;
 use crate::memory::Memory;
 use crate::metrics::Metrics;
 use crate::options::Options;
 use crate::registry::Registry;
 use crate::store::{Setup, Store};
+use crate::upload_name::Secret;
+use crate::uploads::Uploads;
+use crate::writer::{Writer, WriterThread};
 use clap::Parser;
 use std::io;
 use std::net::SocketAddr;
@@ -48,8 +65,6 @@ use tokio::sync::watch;
 
 #[global_allocator]
 static ALLOCATOR: memory::Reserving = memory::Reserving;
-
-type Failure = Box<dyn std::error::Error + Send + Sync>;
 
 /// The maximum number of connections to the metrics address.
 const METRICS_CONNECTIONS: usize = 16;
@@ -81,9 +96,9 @@ fn main() -> ExitCode {
     });
     match ended {
         Ok(()) => ExitCode::SUCCESS,
-        Err(error) => {
-            tracing::error!("{error}");
-            ExitCode::FAILURE
+        Err(failure) => {
+            tracing::error!("{failure}");
+            ExitCode::from(failure.status)
         }
     }
 }
@@ -120,19 +135,18 @@ async fn run(options: Options) -> Result<(), Failure> {
         None => None,
     };
     let started = tokio::select! {
-        started = start_store(&options) => started?,
+        started = start(&options, access) => started?,
         () = signals.recv() => {
             tracing::info!("stopped while starting");
             return Ok(());
         }
     };
-    let (registry, child) = registry(&options, access, started);
     tracing::info!(address = %listener.local_addr()?, "listening");
     if let Some(listener) = watched {
         tracing::info!(address = %listener.local_addr()?, "serving metrics");
-        serve_metrics(&registry, listener, &options);
+        serve_metrics(&started.registry, listener, &options);
     }
-    serve(&registry, listener, connections, child, signals).await
+    serve(started, listener, connections, signals).await
 }
 
 /// Listens on an address.
@@ -166,10 +180,21 @@ fn access(options: &Options) -> Result<Access, Failure> {
     }
 }
 
+/// A registry, and what runs for it.
+struct Started {
+    registry: Arc<Registry>,
+    /// The process of `blobd`.
+    child: Child,
+    /// The writer of the database and its thread, if there is a database.
+    database: Option<(Arc<Writer>, WriterThread)>,
+}
+
 /// Starts the store.
-async fn start_store(options: &Options) -> Result<(Store, Child), Failure> {
+async fn start_store(options: &Options, writer: Option<Arc<Writer>>) -> Result<(Store, Child), Failure> {
     let setup = Setup {
         blobd: &options.blobd,
+        words: options.store_options(),
+        writer,
         slots: options.slots,
         max_blob: options.max_blob,
         tenants: &options.tenants,
@@ -177,28 +202,59 @@ async fn start_store(options: &Options) -> Result<(Store, Child), Failure> {
         connections: options.lines.into(),
         call: Duration::from_secs(options.call_s),
     };
-    let started = Store::start(setup).await;
-    Ok(started.map_err(|error| format!("cannot start the store: {}: {error}", options.blobd.display()))?)
+    Store::start(setup).await
 }
 
-/// Makes the registry over a store, and starts its garbage collector and the expiry of uploads.
-fn registry(options: &Options, access: Access, started: (Store, Child)) -> (Arc<Registry>, Child) {
-    let (store, child) = started;
-    let memory = Memory::new(options.memory_in_flight, store.sharers());
+/// Starts the store, reads the database if there is one, and makes the registry over both.
+async fn start(options: &Options, access: Access) -> Result<Started, Failure> {
+    let metrics = Metrics::new(options.is_durable(), options.data.is_some());
+    let writer = options.data.as_ref().map(|_| Writer::new(metrics.commits()));
+    let had_log = options.data.as_ref().map_or(false, |folder| folder.join("log").exists());
+    let (store, mut child) = start_store(options, writer.clone()).await?;
+    let kept = match &options.data {
+        Some(folder) => match startup::recover(&store, folder.clone(), options.is_durable(), had_log).await {
+            Ok(kept) => Some(kept),
+            Err(_) if store.has_ended() => return Err(process::why_gone(&mut child).await),
+            Err(failure) => {
+                let _ = store.end(child).await;
+                return Err(failure);
+            }
+        },
+        None => None,
+    };
+    let secret = kept.as_ref().map_or_else(Secret::random, |kept| Ok(kept.secret))?;
+    let uploads = Uploads::new(secret, writer.clone());
+    let repositories = Repositories::recorded_by(writer.clone());
+    let (mut tags, mut database) = (Arc::default(), None);
+    if let (Some(kept), Some(writer)) = (kept, &writer) {
+        for upload in &kept.uploads {
+            uploads.add_known(&upload.repo, upload.number, upload.received);
+        }
+        kept.repositories.iter().for_each(|repo| repositories.add(repo));
+        tags = Arc::new(kept.tags);
+        database = Some((writer.clone(), writer.start(kept.database, tags.clone(), kept.recorded)?));
+    }
     let registry = Arc::new(Registry {
+        memory: Memory::new(options.memory_in_flight, store.sharers()),
         store,
-        memory,
         access,
-        uploads: Default::default(),
-        repositories: Default::default(),
-        tags: Default::default(),
+        uploads,
+        repositories,
+        tags: Catalog::new(tags, writer),
+        folder: options.data.clone().map(|path| Folder::new(path, options.min_free())),
         turns: Default::default(),
-        metrics: Metrics::new(),
+        metrics,
         metrics_access: options.metrics_access(),
         tenants: options.tenant_names(),
         slots: options.slots,
         max_blob: options.max_blob,
     });
+    work_in_background(&registry, options);
+    Ok(Started { registry, child, database })
+}
+
+/// Starts the garbage collector, the expiry of uploads, and the reserve of memory.
+fn work_in_background(registry: &Arc<Registry>, options: &Options) {
     let rest = Duration::from_millis(options.sweep_ms);
     let sweeper = registry.clone();
     tokio::spawn(async move { sweeper.sweep(rest).await });
@@ -206,7 +262,6 @@ fn registry(options: &Options, access: Access, started: (Store, Child)) -> (Arc<
     let patience = options.patience();
     tokio::spawn(async move { expirer.expire(patience).await });
     tokio::spawn(memory::keep_reserve());
-    (registry, child)
 }
 
 /// Returns the limits of client connections. The number of open files limits their number too.
@@ -224,14 +279,22 @@ fn limits(options: &Options) -> Result<Limits, Failure> {
     Ok(Limits { most: most as usize, head, idle })
 }
 
+/// Waits until a change could not be made in the database, and returns why.
+async fn failed(database: &Option<(Arc<Writer>, WriterThread)>) -> Failure {
+    match database {
+        Some((writer, _)) => Failure::of_database(&writer.failure().await),
+        None => std::future::pending().await,
+    }
+}
+
 /// Serves requests until a signal arrives, and then lets open requests finish.
 async fn serve(
-    registry: &Arc<Registry>,
+    started: Started,
     listener: TcpListener,
     connections: Arc<Connections>,
-    mut child: Child,
     mut signals: Signals,
 ) -> Result<(), Failure> {
+    let Started { registry, mut child, database } = started;
     let (stop, stopped) = watch::channel(());
     let answering = registry.clone();
     let answer = move |request| answering.clone().serve(request);
@@ -239,9 +302,10 @@ async fn serve(
     let watched = connections.clone();
     tokio::spawn(async move { watched.watch().await });
     tokio::select! {
-        ended = server => return Err(format!("cannot accept connections: {ended:?}").into()),
-        () = registry.store.ended() => return Err("the store is gone".into()),
-        status = child.wait() => return Err(format!("the store is gone: blobd ended: {}", status?).into()),
+        ended = server => return Err(Failure::new(format!("cannot accept connections: {ended:?}"))),
+        () = registry.store.ended() => return Err(process::why_gone(&mut child).await),
+        status = child.wait() => return Err(Failure::of_blobd("the store is gone", status?)),
+        failure = failed(&database) => return Err(failure),
         () = signals.recv() => {}
     }
     tracing::info!("stopping");
@@ -255,7 +319,12 @@ async fn serve(
         tracing::warn!(connections = connections.len(), "closing connections whose requests did not finish in time");
         connections.close_all();
     }
-    registry.store.end(child).await?;
+    // The database ends first: the store's lock on the folder protects it.
+    let mut ended = Ok(());
+    if let Some((writer, thread)) = database {
+        ended = writer.end(thread).await.map_err(|why| Failure::of_database(&why));
+    }
+    registry.store.end(child).await.and(ended)?;
     tracing::info!("stopped");
     Ok(())
 }

@@ -1,6 +1,6 @@
 //! Manifests and tags.
 use crate::conditional::{entity_tag, has_content, not_modified};
-use crate::content::RequestContent;
+use crate::content::{RequestContent, MAX_MANIFEST};
 use crate::fault::Fault;
 use crate::frames::{Reason, Refusal};
 use crate::limits::Limit;
@@ -31,9 +31,29 @@ async fn look_up(call: &Call, reference: &str) -> Result<NamedManifest, Fault> {
     if let Some(named) = tags.by_digest(&call.repo, reference) {
         return Ok(named);
     }
-    // The store checks the name and the digest. A manifest that it has is being put or deleted at this moment.
+    // The store checks the name and the digest. A manifest that it has is being put or deleted at this moment, or it was put
+    // when the program or the machine stopped.
     call.registry.store.stat_manifest(&call.repo, reference).await??;
-    Err(Fault::manifest_unknown())
+    if !tags.is_kept() || tags.is_known(&call.repo, reference) {
+        return Err(Fault::manifest_unknown());
+    }
+    adopt(call, reference).await
+}
+
+/// Adds a manifest that the store has and the catalog has not: the program stopped before it was added. Its media type is
+/// that of its content.
+async fn adopt(call: &Call, digest: &str) -> Result<NamedManifest, Fault> {
+    let tags = &call.registry.tags;
+    let _reserved = call.reserve(MAX_MANIFEST as u64)?;
+    let _turn = call.registry.turns.take(&call.repo, digest).await;
+    if !tags.is_known(&call.repo, digest) {
+        let content = [call.registry.store.get_manifest(&call.repo, digest).await??];
+        let media_type = tokio::task::block_in_place(|| media_type_of(None, &content));
+        let media_type = media_type.map_err(|_| Fault::manifest_unknown())?;
+        tags.put(&call.repo, digest, &media_type.text, None).await?;
+        tracing::info!(repo = %call.repo, digest, "found a manifest whose push was interrupted");
+    }
+    tags.by_digest(&call.repo, digest).ok_or_else(Fault::manifest_unknown)
 }
 
 /// Finds the manifest of a reference, and asks the store about it. The manifest may be deleted after the look-up while its
@@ -98,7 +118,7 @@ pub async fn put(call: &Call, reference: &str, content: &mut RequestContent) -> 
     let turn = call.registry.turns.take(&call.repo, &digest).await;
     let media_type = media_type_to_store(call, &digest, given)?;
     call.check_limit(call.registry.store.put_manifest(&call.repo, &bytes).await?, Limit::Manifests)?;
-    call.registry.tags.put(&call.repo, &digest, &media_type, tag);
+    call.registry.tags.put(&call.repo, &digest, &media_type, tag).await?;
     drop(turn);
     let location = format!("/v2/{}/manifests/{digest}", call.repo);
     empty(StatusCode::CREATED, &[("Location", &location), ("Docker-Content-Digest", &digest)])
@@ -142,7 +162,7 @@ fn media_type_to_store(call: &Call, digest: &str, given: MediaType) -> Result<St
 pub async fn delete(call: &Call, reference: &str) -> HandlerResult {
     if is_digest(reference) {
         delete_manifest(call, reference).await?;
-    } else if !call.registry.tags.remove_tag(&call.repo, reference) {
+    } else if !call.registry.tags.remove_tag(&call.repo, reference).await? {
         return Err(Fault::manifest_unknown());
     }
     empty(StatusCode::ACCEPTED, &[])
@@ -152,7 +172,7 @@ pub async fn delete(call: &Call, reference: &str) -> HandlerResult {
 async fn delete_manifest(call: &Call, digest: &str) -> Result<(), Fault> {
     let (store, tags) = (&call.registry.store, &call.registry.tags);
     let _turn = call.registry.turns.take(&call.repo, digest).await;
-    tags.mark(&call.repo, digest, true);
+    let removed = tags.begin_removal(&call.repo, digest).await?;
     match store.delete_manifest(&call.repo, digest).await? {
         Ok(()) => tags.remove_manifest(&call.repo, digest),
         Err(refusal @ Refusal { reason: Reason::ManifestUnknown, .. }) => {
@@ -160,7 +180,7 @@ async fn delete_manifest(call: &Call, digest: &str) -> Result<(), Fault> {
             return Err(refusal.into());
         }
         Err(refusal) => {
-            tags.mark(&call.repo, digest, false);
+            tags.undo_removal(&call.repo, digest, removed).await?;
             return Err(refusal.into());
         }
     }

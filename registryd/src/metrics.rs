@@ -4,6 +4,7 @@ use prometheus::{Encoder, HistogramOpts, HistogramVec, IntCounter, IntCounterVec
 use std::sync::Arc;
 use std::time::Duration;
 
+use crate::folder::Folder;
 use crate::store::{StoreUnavailable, Store, SweepResult};
 
 /// The counters and gauges. Clones share them.
@@ -24,10 +25,16 @@ struct Inner {
     slots: IntGauge,
     used: IntGaugeVec,
     quota: IntGaugeVec,
+    durable: IntGauge,
+    log: IntGauge,
+    database: IntGauge,
+    free: IntGauge,
+    commits: IntCounter,
 }
 
 impl Metrics {
-    pub fn new() -> Metrics {
+    /// Makes the metrics. Those of the folder exist only if there is one.
+    pub fn new(is_durable: bool, has_folder: bool) -> Metrics {
         let registry = Registry::new();
         let counter = |name, help| IntCounter::new(name, help).expect("a counter's name");
         let gauge = |name, help| IntGauge::new(name, help).expect("a gauge's name");
@@ -47,9 +54,15 @@ impl Metrics {
             slots: gauge("registryd_slots", "Slots of the store."),
             used: by_tenant("registryd_tenant_used_bytes", "Bytes of a tenant's quota used by its blobs and uploads."),
             quota: by_tenant("registryd_tenant_quota_bytes", "Quota of a tenant, in bytes."),
+            durable: gauge("registryd_durable", "1 if a change is on the disk before its reply, 0 otherwise."),
+            log: gauge("registryd_log_bytes", "Length of the log of the store, in bytes."),
+            database: gauge("registryd_database_bytes", "Length of the database of tags, in bytes."),
+            free: gauge("registryd_free_bytes", "Bytes that are free on the disk of the folder."),
+            commits: counter("registryd_database_commits_total", "Transactions of the database of tags."),
             registry,
         };
-        let all: [Box<dyn prometheus::core::Collector>; 12] = [
+        inner.durable.set(i64::from(is_durable));
+        let mut all: Vec<Box<dyn prometheus::core::Collector>> = vec![
             Box::new(inner.requests.clone()),
             Box::new(inner.seconds.clone()),
             Box::new(inner.received.clone()),
@@ -62,7 +75,14 @@ impl Metrics {
             Box::new(inner.slots.clone()),
             Box::new(inner.used.clone()),
             Box::new(inner.quota.clone()),
+            Box::new(inner.durable.clone()),
         ];
+        if has_folder {
+            all.push(Box::new(inner.log.clone()));
+            all.push(Box::new(inner.database.clone()));
+            all.push(Box::new(inner.free.clone()));
+            all.push(Box::new(inner.commits.clone()));
+        }
         for collector in all {
             inner.registry.register(collector).expect("each name is registered once");
         }
@@ -92,6 +112,20 @@ impl Metrics {
         self.0.sweeps.inc();
         self.0.freed.inc_by(swept.freed);
         self.0.held.set(swept.held as i64);
+    }
+
+    /// Returns the counter of the database's transactions.
+    pub fn commits(&self) -> IntCounter {
+        self.0.commits.clone()
+    }
+
+    /// Sets the metrics of the folder.
+    pub fn set_folder(&self, folder: &Folder) {
+        self.0.log.set(folder.log_bytes() as i64);
+        self.0.database.set(folder.database_bytes() as i64);
+        if let Some(free) = folder.free() {
+            self.0.free.set(free as i64);
+        }
     }
 
     /// Returns the text of all metrics. It asks the store for the free slots and for each tenant's use and quota.

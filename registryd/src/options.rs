@@ -2,12 +2,27 @@
 use crate::registry::MetricsAccess;
 use crate::tenants::{self, tenant_word};
 use crate::uploads::UploadTimeouts;
-use clap::Parser;
+use clap::{Parser, ValueEnum};
+use std::ffi::OsString;
 use std::net::SocketAddr;
 use std::path::PathBuf;
 use std::time::Duration;
 
-/// Container registry (OCI Distribution Specification 1.1). All data is in memory and is lost when the program exits.
+/// The minimum of free bytes if the option is missing.
+const MIN_FREE: u64 = 64 << 20;
+
+/// When changes are on the disk.
+#[derive(Clone, Copy, Debug, PartialEq, Eq, ValueEnum)]
+pub enum SyncPolicy {
+    /// Each change but a chunk is on the disk before its reply
+    Closes,
+    /// Chunks too
+    Each,
+    /// The system writes changes when it likes
+    Never,
+}
+
+/// Container registry (OCI Distribution Specification 1.1). Without --data, all data is lost when the program exits.
 #[derive(Debug, Parser)]
 #[command(name = "registryd", version)]
 pub struct Options {
@@ -47,6 +62,18 @@ pub struct Options {
     /// Abandon an upload without bytes after this time
     #[arg(long, value_name = "S", default_value_t = 60)]
     pub empty_session_s: u64,
+    /// Keep all data in this folder
+    #[arg(long, value_name = "DIR")]
+    pub data: Option<PathBuf>,
+    /// Decide what is on the disk before a reply [default: closes]
+    #[arg(long, value_name = "POLICY", requires = "data")]
+    pub sync: Option<SyncPolicy>,
+    /// Cut a damaged log at this byte and start
+    #[arg(long, value_name = "BYTE", requires = "data")]
+    pub accept_loss_after: Option<u64>,
+    /// Accept no content if less is free [default: 67108864]
+    #[arg(long, value_name = "BYTES", requires = "data")]
+    pub min_free: Option<u64>,
     /// Require a user and password of this htpasswd file
     #[arg(long, value_name = "FILE")]
     pub htpasswd: Option<PathBuf>,
@@ -79,6 +106,39 @@ impl Options {
     pub fn patience(&self) -> UploadTimeouts {
         let (begun, empty) = (Duration::from_secs(self.session_s), Duration::from_secs(self.empty_session_s));
         UploadTimeouts { begun, empty }
+    }
+
+    /// Returns when changes are on the disk.
+    pub fn sync_policy(&self) -> SyncPolicy {
+        self.sync.unwrap_or(SyncPolicy::Closes)
+    }
+
+    /// Returns the number of bytes that stay free on the disk of the folder.
+    pub fn min_free(&self) -> u64 {
+        self.min_free.unwrap_or(MIN_FREE)
+    }
+
+    /// Returns whether changes are on the disk before their replies.
+    pub fn is_durable(&self) -> bool {
+        self.data.is_some() && self.sync_policy() != SyncPolicy::Never
+    }
+
+    /// Returns the options of `blobd`.
+    pub fn store_options(&self) -> Vec<OsString> {
+        let data = match &self.data {
+            Some(data) => data,
+            None => return Vec::new(),
+        };
+        let policy = match self.sync_policy() {
+            SyncPolicy::Closes => "closes",
+            SyncPolicy::Each => "each",
+            SyncPolicy::Never => "never",
+        };
+        let mut words: Vec<OsString> = vec!["--data".into(), data.into(), "--sync".into(), policy.into()];
+        if let Some(byte) = self.accept_loss_after {
+            words.extend(["--accept-loss-after".into(), byte.to_string().into()]);
+        }
+        words
     }
 
     /// Returns the rule that decides who may read the metrics.
@@ -129,6 +189,21 @@ mod tests {
         assert_eq!(named.metrics_access(), MetricsAccess::User("prometheus".to_string()));
         assert_eq!(parsed(&["--metrics-listen", "127.0.0.1:1", "a=1"]).metrics_access(), MetricsAccess::Elsewhere);
         assert!(Options::try_parse_from(["registryd", "--metrics-user", "prometheus", "a=1"]).is_err());
+    }
+
+    #[test]
+    fn a_folder_has_a_policy() {
+        let memory = parsed(&["a=1"]);
+        assert!(memory.store_options().is_empty() && !memory.is_durable());
+        let kept = parsed(&["--data", "/srv/registry", "a=1"]);
+        assert_eq!(kept.store_options(), ["--data", "/srv/registry", "--sync", "closes"]);
+        assert_eq!((kept.is_durable(), kept.min_free()), (true, 64 << 20));
+        let never = parsed(&["--data", "d", "--sync", "never", "--accept-loss-after", "7", "--min-free", "0", "a=1"]);
+        assert_eq!(never.store_options(), ["--data", "d", "--sync", "never", "--accept-loss-after", "7"]);
+        assert_eq!((never.is_durable(), never.min_free()), (false, 0));
+        for words in [["--sync", "each"], ["--accept-loss-after", "1"], ["--min-free", "1"]] {
+            assert!(Options::try_parse_from([&["registryd"], &words[..], &["a=1"]].concat()).is_err(), "{words:?}");
+        }
     }
 
     #[test]

@@ -1,6 +1,7 @@
 //! The process of `blobd`.
+use crate::ending::Failure;
 use std::io;
-use std::process::Stdio;
+use std::process::{ExitStatus, Stdio};
 use std::time::Duration;
 use tokio::process::{Child, Command};
 
@@ -26,17 +27,31 @@ pub fn spawn(mut command: Command) -> io::Result<Child> {
     command.spawn()
 }
 
-/// Waits until `blobd` has ended. Fails if its status is not 0, or if it does not end in time. Then it is killed.
-pub async fn wait_for(mut child: Child) -> io::Result<()> {
-    let text = match tokio::time::timeout(END_TIME, child.wait()).await {
-        Ok(status) => match status? {
-            status if status.success() => return Ok(()),
-            status => format!("blobd ended: {status}"),
-        },
+/// Waits until `blobd` has ended, and returns its status. Returns `None` if it does not end in time. Then it is killed.
+async fn ended(child: &mut Child) -> io::Result<Option<ExitStatus>> {
+    match tokio::time::timeout(END_TIME, child.wait()).await {
+        Ok(status) => Ok(Some(status?)),
         Err(_) => {
             child.kill().await?;
-            format!("blobd did not end within {} s, and was killed", END_TIME.as_secs())
+            Ok(None)
         }
-    };
-    Err(io::Error::new(io::ErrorKind::Other, text))
+    }
+}
+
+/// Waits until `blobd` has ended. Fails if its status is not 0, or if it does not end in time. Then it is killed.
+pub async fn wait_for(mut child: Child) -> Result<(), Failure> {
+    match ended(&mut child).await? {
+        Some(status) if status.success() => Ok(()),
+        Some(status) => Err(Failure::of_blobd("cannot stop the store", status)),
+        None => Err(Failure::new(format!("blobd did not end within {} s, and was killed", END_TIME.as_secs()))),
+    }
+}
+
+/// Returns why `blobd` has closed its connections, after it has ended.
+pub async fn why_gone(child: &mut Child) -> Failure {
+    match ended(child).await {
+        Ok(Some(status)) => Failure::of_blobd("the store is gone", status),
+        Ok(None) => Failure::new("the store is gone: blobd closed a connection, did not end, and was killed"),
+        Err(error) => Failure::new(format!("the store is gone: {error}")),
+    }
 }

@@ -1,15 +1,17 @@
 //! The registry: dispatches requests to the store and to the tables of this process.
 use crate::access::Access;
+use crate::catalog::Catalog;
 use crate::content::{RequestContent, MAX_MANIFEST};
 use crate::exchange::Exchange;
 use crate::fault::Fault;
+use crate::folder::Folder;
 use crate::frames::{Reason, Refusal};
-use crate::limits::{Limit, Repositories};
+use crate::limits::{Entering, Limit, Repositories};
 use crate::memory::{Memory, Reserved};
 use crate::metrics::Metrics;
 use crate::path::{decoded, query_value, Target};
 use crate::store::{StoreUnavailable, Store};
-use crate::tags::Tags;
+use crate::tenants;
 use crate::turns::Turns;
 use crate::uploads::{UploadTimeouts, Upload, Uploads};
 use crate::{blobs, manifests, uploading};
@@ -32,7 +34,9 @@ pub struct Registry {
     pub access: Access,
     pub uploads: Uploads,
     pub repositories: Repositories,
-    pub tags: Tags,
+    pub tags: Catalog,
+    /// The folder, if the registry survives restarts.
+    pub folder: Option<Folder>,
     /// The writers of a manifest take turns, each for the time of its call to the store. Readers take no turn.
     pub turns: Turns,
     pub metrics: Metrics,
@@ -87,6 +91,16 @@ fn check_host(head: &Parts) -> Result<(), Fault> {
     }
 }
 
+/// Returns whether a request adds bytes to the store. A mount adds none, unless it opens an upload.
+fn adds_content(method: &Method, target: &Target<'_>, is_mount: bool) -> bool {
+    match target {
+        Target::Upload { .. } => matches!(*method, Method::PATCH | Method::PUT),
+        Target::Uploads { .. } => !is_mount,
+        Target::Manifest { .. } => *method == Method::PUT,
+        _ => false,
+    }
+}
+
 /// A request without its content, and its repository.
 pub struct Call {
     pub registry: Arc<Registry>,
@@ -117,6 +131,28 @@ impl Call {
             }
             Err(refusal) => Err(refusal.into()),
         }
+    }
+
+    /// Fails if the disk of the folder has less free than its minimum.
+    pub fn check_disk(&self) -> Result<(), Fault> {
+        self.registry.folder.as_ref().map_or(Ok(()), Folder::check)
+    }
+
+    /// Begins a call that may create the repository. If no tenant can have it, the store refuses the call.
+    pub async fn enter_repository(&self) -> Result<Option<Entering<'_>>, Fault> {
+        let can_exist = tenants::is_repository(&self.repo) && self.registry.store.has_tenant(&self.repo);
+        match can_exist {
+            true => Ok(Some(self.registry.repositories.enter(&self.repo).await?)),
+            false => Ok(None),
+        }
+    }
+
+    /// Returns the result of a call that opens an upload and that `enter_repository` began.
+    pub fn check_entered<T>(&self, answer: Result<T, Refusal>, entering: &mut Option<Entering<'_>>) -> Result<T, Fault> {
+        if let (Err(_), Some(entering)) = (&answer, entering) {
+            entering.refused();
+        }
+        self.check_limit(answer, Limit::Uploads)
     }
 
     /// Admits the content of a request before it is read.
@@ -219,6 +255,9 @@ impl Registry {
         Access::check(&user, &repo)?;
         let method = head.method.clone();
         let call = Call { registry: self, head, repo };
+        if adds_content(&method, &target, call.query("mount").is_some()) {
+            call.check_disk()?;
+        }
         if content.is_any() {
             let is_charged = matches!(target, Target::Uploads { .. } | Target::Upload { .. });
             call.admit(content, is_charged).await?;
@@ -261,6 +300,9 @@ impl Registry {
 
     /// Returns the metrics of all tenants.
     async fn metrics(&self) -> HandlerResult {
+        if let Some(folder) = &self.folder {
+            self.metrics.set_folder(folder);
+        }
         let text = self.metrics.text(&self.store, &self.tenants, self.slots, self.uploads.len()).await?;
         with_body(StatusCode::OK, &[(CONTENT_TYPE.as_str(), "text/plain; version=0.0.4")], text.into())
     }
@@ -310,9 +352,13 @@ impl Registry {
     async fn abandon(&self, name: Uuid, upload: Upload) -> Result<(), StoreUnavailable> {
         let repo = &upload.repo;
         match self.store.abandon(repo, upload.session).await {
-            Ok(Ok(())) => tracing::info!(repo, "abandoned an unused upload"),
+            Ok(Ok(())) => {
+                tracing::info!(repo, "abandoned an unused upload");
+                self.uploads.forget(upload);
+            }
             Ok(Err(Refusal { reason: Reason::UploadUnknown, .. })) => {
                 tracing::warn!(repo, "dropped an upload that the store does not know");
+                self.uploads.forget(upload);
             }
             Ok(Err(_)) => self.uploads.put_back(name, upload),
             Err(error) => {

@@ -1,10 +1,15 @@
 //! The store: a `blobd` process and the connections to it.
+use crate::appending::{append_on, append_request, range_of};
+use crate::ending::Failure;
 use crate::frames::{Command, Refusal, Reply, Request};
 use crate::store_connection::{self, Frame, PeerEnds, StoreConnection, PIPE_LEN};
 use crate::pool::{ConnectionPool, PoolError, PooledConnection};
 use crate::process;
+use crate::undo::{undo_on, Undo};
+use crate::writer::{Change, Writer};
 use bytes::Bytes;
 use std::collections::HashMap;
+use std::ffi::OsString;
 use std::io;
 use std::os::unix::io::AsRawFd;
 use std::path::Path;
@@ -25,6 +30,10 @@ const PROBE_TIME: Duration = Duration::from_secs(5);
 /// The parameters of a store.
 pub struct Setup<'a> {
     pub blobd: &'a Path,
+    /// The options of `blobd`.
+    pub words: Vec<OsString>,
+    /// The table that records uploads which are undone, if there is one.
+    pub writer: Option<Arc<Writer>>,
     pub slots: u32,
     pub max_blob: u64,
     /// Arguments of the form `TENANT=QUOTA`.
@@ -83,6 +92,7 @@ pub struct Store {
     sharers: HashMap<String, usize>,
     /// The time limit of a call.
     pub limit: Duration,
+    writer: Option<Arc<Writer>>,
     end_notice: Notify,
     has_ended: AtomicBool,
 }
@@ -95,7 +105,7 @@ pub struct StoreUnavailable;
 pub type Answer<T> = Result<Result<T, Refusal>, StoreUnavailable>;
 
 /// The reason why a call has no reply.
-enum NoReply {
+pub enum NoReply {
     /// It was not made.
     NotMade,
     /// It was made, and its reply is late.
@@ -108,37 +118,12 @@ impl From<NoReply> for StoreUnavailable {
     }
 }
 
-/// The action that undoes a call if its reply arrives after the caller stopped waiting.
-#[derive(Clone, Copy)]
-enum Undo {
-    Nothing,
-    /// Abandons the session that was opened in the call's repository.
-    Session,
-    /// Releases the lease, if there is one.
-    Lease,
-}
-
-impl Undo {
-    /// Returns the request that undoes a call with this reply, if there is one.
-    fn request<'a>(self, repo: &'a str, reply: &Reply) -> Option<Request<'a>> {
-        match self {
-            Undo::Session if reply.first != 0 => {
-                Some(Request { repo, number: reply.first as u32, ..Request::new(Command::Abandon) })
-            }
-            Undo::Lease if reply.second != 0 => {
-                Some(Request { number: reply.second as u32, ..Request::new(Command::GiveBack) })
-            }
-            _ => None,
-        }
-    }
-}
-
 impl Store {
     /// Starts `blobd`, and greets it on every connection.
-    pub async fn start(setup: Setup<'_>) -> io::Result<(Store, Child)> {
+    pub async fn start(setup: Setup<'_>) -> Result<(Store, Child), Failure> {
         let own = std::process::id();
         let mut command = tokio::process::Command::new(setup.blobd);
-        command.arg(setup.slots.to_string()).arg(setup.max_blob.to_string()).args(setup.tenants).arg("--");
+        command.args(&setup.words).arg(setup.slots.to_string()).arg(setup.max_blob.to_string()).args(setup.tenants).arg("--");
         let mut connections = Vec::new();
         let mut peer_ends = Vec::new();
         for _ in 0..setup.connections {
@@ -154,7 +139,8 @@ impl Store {
         if shortest < PIPE_LEN {
             tracing::warn!(bytes = shortest, wanted = PIPE_LEN, "pipes to the store are short: see pipe-user-pages-soft, --lines");
         }
-        let mut child = process::spawn(command)?;
+        let failed = |error| Failure::new(format!("cannot start the store: {}: {error}", setup.blobd.display()));
+        let mut child = process::spawn(command).map_err(failed)?;
         let greeted = async {
             for connection in &mut connections {
                 connection.greet().await?;
@@ -162,10 +148,10 @@ impl Store {
             io::Result::Ok(())
         };
         tokio::select! {
-            result = greeted => result?,
+            result = greeted => result.map_err(failed)?,
             status = child.wait() => {
-                let text = format!("blobd ended: {}", status?);
-                return Err(io::Error::new(io::ErrorKind::Other, text));
+                let what = format!("cannot start the store: {}", setup.blobd.display());
+                return Err(Failure::of_blobd(&what, status?));
             }
         }
         // From here on only the other side has its ends, so that this side sees when they are closed.
@@ -173,7 +159,7 @@ impl Store {
         let sharers: HashMap<String, usize> = setup.names.into_iter().enumerate().map(|(at, name)| (name, at)).collect();
         let pool = ConnectionPool::new(connections, sharers.len() + 2);
         let (end_notice, has_ended) = (Notify::new(), AtomicBool::new(false));
-        Ok((Store { pool, sharers, limit: setup.call, end_notice, has_ended }, child))
+        Ok((Store { pool, sharers, limit: setup.call, writer: setup.writer, end_notice, has_ended }, child))
     }
 
     /// Waits until the store has ended.
@@ -197,8 +183,13 @@ impl Store {
         self.sharers.get(tenant).copied().unwrap_or(self.sharers.len())
     }
 
+    /// Returns whether a repository's tenant exists.
+    pub fn has_tenant(&self, repo: &str) -> bool {
+        self.sharers.contains_key(repo.split('/').next().unwrap_or_default())
+    }
+
     /// Returns the sharer number of the program itself.
-    fn own(&self) -> usize {
+    pub fn own(&self) -> usize {
         self.sharers.len() + 1
     }
 
@@ -222,8 +213,7 @@ impl Store {
         }
     }
 
-    /// Makes calls of a sharer on one connection. All but the last have to be short. A call whose reply is late continues in
-    /// the background, so that its connection can be used again, and is undone after the reply.
+    /// Makes a fixed number of calls as `ask_many` does.
     async fn ask_all<const N: usize>(
         &self,
         sharer: usize,
@@ -231,22 +221,37 @@ impl Store {
         requests: [Request<'_>; N],
         undo: Undo,
     ) -> Result<[store_connection::ReplyResult; N], NoReply> {
+        self.ask_many(sharer, limit, &requests, undo).await?.try_into().map_err(|_| NoReply::NotMade)
+    }
+
+    /// Makes calls of a sharer on one connection. All but the last have to be short. A call whose reply is late continues in
+    /// the background, so that its connection can be used again, and is undone after the reply.
+    pub async fn ask_many(
+        &self,
+        sharer: usize,
+        limit: Duration,
+        requests: &[Request<'_>],
+        undo: Undo,
+    ) -> Result<Vec<store_connection::ReplyResult>, NoReply> {
         let end = Instant::now() + limit;
         let mut pooled = self.take(sharer, end).await.map_err(|StoreUnavailable| NoReply::NotMade)?;
         let frames: Vec<Frame> = requests.iter().map(Frame::from).collect();
         let mut call = Box::pin(async move { (pooled.exchange(&frames).await, pooled) });
         match timeout_at(end, &mut call).await {
-            Ok((Ok(answers), _taken)) => answers.try_into().map_err(|_| NoReply::NotMade),
+            Ok((Ok(answers), _taken)) => Ok(answers),
             Ok((Err(error), _taken)) => {
                 self.connection_failed(error);
                 Err(NoReply::NotMade)
             }
             Err(_) => {
                 tracing::warn!(command = ?requests[0].command, "the store does not reply in time");
-                let repo = requests[0].repo.to_string();
+                let (repo, writer) = (requests[0].repo.to_string(), self.writer.clone());
                 tokio::spawn(async move {
                     if let (Ok(answers), mut pooled) = call.await {
-                        undo_on(&mut pooled, undo, &repo, &answers).await;
+                        let undone = undo_on(&mut pooled, undo, &repo, &answers).await;
+                        if let (Some(writer), Some(number)) = (writer, undone) {
+                            writer.note(Change::PassUpload { repo, number });
+                        }
                     }
                 });
                 Err(NoReply::Late)
@@ -459,65 +464,8 @@ impl Store {
 
     /// Closes the connections and waits for `blobd`, which ends then. It writes its totals to the standard error of this
     /// process. Fails if `blobd` fails, or does not end in time. Then it is killed.
-    pub async fn end(&self, child: Child) -> io::Result<()> {
+    pub async fn end(&self, child: Child) -> Result<(), Failure> {
         self.pool.close();
         process::wait_for(child).await
     }
-}
-
-/// Undoes the call of the first reply, on its connection.
-async fn undo_on(pooled: &mut PooledConnection, undo: Undo, repo: &str, answers: &[store_connection::ReplyResult]) {
-    let reply = answers.first().and_then(|answer| answer.as_ref().ok());
-    if let Some(request) = reply.and_then(|reply| undo.request(repo, reply)) {
-        let _ = pooled.exchange(&[Frame::from(&request)]).await;
-    }
-}
-
-/// Appends a piece to a session at an offset, and then those that arrive while one is in progress. Returns the last reply,
-/// or the first that is a failure.
-async fn append_on(
-    pooled: &mut PooledConnection,
-    repo: &str,
-    number: u32,
-    mut start: u64,
-    mut body: Vec<Bytes>,
-    pieces: &mut Receiver<Vec<Bytes>>,
-) -> io::Result<store_connection::ReplyResult> {
-    let connection = pooled.begin()?;
-    connection.send(&[Frame::from(&append_request(repo, number, start, &body))]).await?;
-    let last = loop {
-        start += len_of(&body);
-        let answer = connection.answer();
-        tokio::pin!(answer);
-        body = tokio::select! {
-            biased;
-            answer = &mut answer => break answer?,
-            next = pieces.recv() => match next {
-                Some(next) => next,
-                None => break answer.await?,
-            },
-        };
-        connection.send(&[Frame::from(&append_request(repo, number, start, &body))]).await?;
-        if let Err(refusal) = answer.await? {
-            // The next piece was already sent, so its reply is read from the connection.
-            let _ = connection.answer().await?;
-            break Err(refusal);
-        }
-    };
-    pooled.done();
-    Ok(last)
-}
-
-fn append_request<'a>(repo: &'a str, number: u32, start: u64, body: &'a [Bytes]) -> Request<'a> {
-    Request { repo, number, range: range_of(start, body), body, ..Request::new(Command::Append) }
-}
-
-/// Returns the range of a body that begins at an offset, or `None` if the body is empty.
-fn range_of(start: u64, body: &[Bytes]) -> Option<(u64, u64)> {
-    let len = len_of(body);
-    (len > 0).then(|| (start, start + len - 1))
-}
-
-fn len_of(body: &[Bytes]) -> u64 {
-    body.iter().map(|part| part.len() as u64).sum()
 }

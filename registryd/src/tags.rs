@@ -2,7 +2,7 @@
 //!
 //! A manifest is added here after the store accepted it. It is marked before the store is asked to delete it. A marked
 //! manifest and its tags are hidden. So a visible tag names a manifest that the store has, unless the manifest was marked
-//! after the look-up. No lock is held during a call to the store.
+//! after the look-up. No lock is held during a call to the store or the database.
 use std::collections::{BTreeMap, HashMap};
 use std::ops::Bound;
 use std::sync::{Arc, Mutex, RwLock};
@@ -97,6 +97,11 @@ impl Tags {
         }
     }
 
+    /// Adds a tag of a manifest that is here.
+    pub fn add_tag(&self, repo: &str, tag: &str, digest: &str) {
+        self.with(repo, |repo| repo.tags.insert(tag.to_string(), digest.to_string()));
+    }
+
     /// Removes a tag. Returns whether it was there.
     pub fn remove_tag(&self, repo: &str, tag: &str) -> bool {
         let remove = |repo: &mut Repository| {
@@ -104,6 +109,42 @@ impl Tags {
             is_there && repo.tags.remove(tag).is_some()
         };
         self.with(repo, remove).unwrap_or(false)
+    }
+
+    /// Removes a tag, also if its manifest is marked. Returns it if it was there.
+    pub fn take_tag(&self, repo: &str, tag: String) -> Option<String> {
+        self.with(repo, |repo| repo.tags.remove(&tag)).flatten().map(|_| tag)
+    }
+
+    /// Removes all tags of a manifest, and returns them.
+    pub fn take_tags_of(&self, repo: &str, digest: &str) -> Vec<String> {
+        let take = |repo: &mut Repository| {
+            let tags: Vec<String> =
+                repo.tags.iter().filter(|(_, named)| *named == digest).map(|(tag, _)| tag.clone()).collect();
+            repo.tags.retain(|_, named| named != digest);
+            tags
+        };
+        self.with(repo, take).unwrap_or_default()
+    }
+
+    /// Adds a manifest and its tags that were removed. A tag that names another manifest by now stays as it is.
+    pub fn restore(&self, repo: &str, digest: &str, media_type: &str, tags: Vec<String>) {
+        self.put(repo, digest, media_type, None);
+        self.with(repo, |repo| {
+            for tag in tags {
+                repo.tags.entry(tag).or_insert_with(|| digest.to_string());
+            }
+        });
+    }
+
+    /// Returns whether a manifest is known, marked or not.
+    pub fn is_known(&self, repo: &str, digest: &str) -> bool {
+        self.any_media_type(repo, digest).is_some()
+    }
+
+    /// Returns the media type of a manifest, marked or not.
+    pub fn any_media_type(&self, repo: &str, digest: &str) -> Option<String> {
+        self.with(repo, |repo| repo.manifests.get(digest).map(|manifest| manifest.media_type.clone())).flatten()
     }
 
     /// Marks a manifest before it is deleted, or removes the mark.

@@ -37,6 +37,11 @@ pub fn conflict(words: &[String]) -> Option<String> {
     Some(format!("duplicate tenant: `{twice}`"))
 }
 
+/// Returns whether a text is a repository's name (OCI Distribution Specification 1.1, "Pulling manifests").
+pub fn is_repository(text: &str) -> bool {
+    text.len() <= MAX_NAME && text.split('/').all(is_component)
+}
+
 /// Returns whether a text is one component of a repository's name (OCI Distribution Specification 1.1, "Pulling manifests").
 fn is_component(text: &str) -> bool {
     let is_letter = |byte: u8| byte.is_ascii_lowercase() || byte.is_ascii_digit();
@@ -59,6 +64,17 @@ mod tests {
         }
         for name in ["", "a___b", "a._b", "a/b", "-a", "a-", "A", "ä", "a b", &"a".repeat(256)] {
             assert!(!is_component(name), "{name}");
+        }
+    }
+
+    #[test]
+    fn repositories_are_components() {
+        let (longest, longer) = ("a/".repeat(127) + "a", "a/".repeat(127) + "aa");
+        for name in ["acme", "acme/web", "acme/a/b-c", &longest] {
+            assert!(is_repository(name), "{name}");
+        }
+        for name in ["", "/", "acme/", "/acme", "acme//web", "acme/Web", &longer] {
+            assert!(!is_repository(name), "{name}");
         }
     }
 

@@ -1,7 +1,6 @@
 //! Uploads: opens, appends to, closes and abandons them.
 use crate::content::{Piece, RequestContent, Then};
 use crate::fault::{range_text, Fault};
-use crate::limits::Limit;
 use crate::range::content_range;
 use crate::registry::{empty, Call, HandlerResult};
 use crate::store::{Answer, StoreUnavailable, MountResult};
@@ -17,16 +16,18 @@ use uuid::Uuid;
 /// end-4, end-11: opens an upload, stores a blob in one request, or mounts one.
 pub async fn open(call: &Call, content: &mut RequestContent) -> HandlerResult {
     let store = &call.registry.store;
+    let mut entering = call.enter_repository().await?;
     if let Some(digest) = call.query("mount") {
         let source = call.query("from").unwrap_or_default();
         let mounted = store.mount(&call.repo, &digest, &source).await?;
-        return match call.check_limit(mounted, Limit::Uploads)? {
+        return match call.check_entered(mounted, &mut entering)? {
             MountResult::Linked => stored_response(call, &digest),
-            MountResult::Session(session) => opened_response(call, session),
+            MountResult::Session(session) => mounted_response(call, session).await,
         };
     }
     let digest = call.query("digest");
-    let session = call.check_limit(store.start_upload(&call.repo).await?, Limit::Uploads)?;
+    let session = call.check_entered(store.start_upload(&call.repo).await?, &mut entering)?;
+    drop(entering);
     let digest = match digest {
         Some(digest) => digest,
         None => return opened_response(call, session),
@@ -94,6 +95,18 @@ fn find<'c>(call: &'c Call, name: &str) -> Result<UploadInUse<'c>, Fault> {
 /// Returns the response for an upload that was opened.
 fn opened_response(call: &Call, session: u32) -> HandlerResult {
     let name = call.registry.uploads.add(&call.repo, session);
+    progress_response(call, StatusCode::ACCEPTED, &name, 0)
+}
+
+/// Returns the response for an upload that a mount opened. The upload is abandoned if the disk is almost full.
+async fn mounted_response(call: &Call, session: u32) -> HandlerResult {
+    let name = call.registry.uploads.add(&call.repo, session);
+    if let Err(fault) = call.check_disk() {
+        if call.registry.store.abandon(&call.repo, session).await?.is_ok() {
+            call.registry.uploads.remove(&name);
+        }
+        return Err(fault);
+    }
     progress_response(call, StatusCode::ACCEPTED, &name, 0)
 }
 
@@ -231,6 +244,10 @@ async fn take_all_but_last(
         if counted.is_err() || piece.then == Then::End {
             let received = received(adding, sending, &place).await?;
             return counted.map(|()| (received, piece.parts));
+        }
+        if let Err(fault) = call.check_disk() {
+            received(adding, sending, &place).await?;
+            return Err(fault);
         }
         let is_taken = match piece.parts.is_empty() {
             true => true,

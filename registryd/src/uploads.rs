@@ -1,7 +1,10 @@
-//! The open uploads. Clients know an upload by a name that cannot be guessed. Each upload has a session in the store.
+//! The open uploads. Clients know an upload by a name that cannot be guessed. Each upload has a session in the store. With a
+//! database, each has a row there, so that it is abandoned some time after a restart if nobody continues it.
 use crate::fault::Fault;
+use crate::upload_name::Secret;
+use crate::writer::{Change, Writer};
 use std::collections::HashMap;
-use std::sync::Mutex;
+use std::sync::{Arc, Mutex};
 use std::time::{Duration, Instant};
 use uuid::Uuid;
 
@@ -47,8 +50,9 @@ impl UploadTimeouts {
 }
 
 /// The open uploads.
-#[derive(Default)]
 pub struct Uploads {
+    secret: Secret,
+    writer: Option<Arc<Writer>>,
     by_name: Mutex<HashMap<Uuid, Upload>>,
 }
 
@@ -66,11 +70,6 @@ pub struct AppendingRequest<'u> {
 }
 
 impl Length {
-    /// Returns the length of an upload without bytes.
-    fn empty() -> Length {
-        Length { known: Some(0), adding: 0, have_overlapped: false }
-    }
-
     /// Notes that a request begins to append. Returns the length, which is unknown to other requests until this one ends.
     fn begin(&mut self) -> Option<u64> {
         self.have_overlapped |= self.adding > 0;
@@ -87,6 +86,18 @@ impl Length {
 }
 
 impl Upload {
+    /// Returns an upload that has received a number of bytes.
+    fn of(repo: &str, session: u32, received: u64) -> Upload {
+        Upload {
+            repo: repo.to_string(),
+            session,
+            length: Length { known: Some(received), adding: 0, have_overlapped: false },
+            used: Instant::now(),
+            requests: 0,
+            is_begun: received > 0,
+        }
+    }
+
     fn is_unused(&self, patience: UploadTimeouts) -> bool {
         let time = if self.is_begun { patience.begun } else { patience.least() };
         self.requests == 0 && self.used.elapsed() >= time
@@ -94,23 +105,30 @@ impl Upload {
 }
 
 impl Uploads {
-    /// Gives a session a name: a random UUID (RFC 4122, version 4).
+    /// Makes a table whose names are made with a secret.
+    pub fn new(secret: Secret, writer: Option<Arc<Writer>>) -> Uploads {
+        Uploads { secret, writer, by_name: Mutex::default() }
+    }
+
+    /// Adds an upload that was opened, and returns its name.
     pub fn add(&self, repo: &str, session: u32) -> Uuid {
-        let name = Uuid::new_v4();
-        let upload = Upload {
-            repo: repo.to_string(),
-            session,
-            length: Length::empty(),
-            used: Instant::now(),
-            requests: 0,
-            is_begun: false,
-        };
-        self.by_name.lock().unwrap().insert(name, upload);
+        if let Some(writer) = &self.writer {
+            writer.note(Change::OpenUpload { repo: repo.to_string(), number: session });
+        }
+        self.add_known(repo, session, 0)
+    }
+
+    /// Adds an upload that was opened before a restart, and returns its name. It counts as used now.
+    pub fn add_known(&self, repo: &str, session: u32, received: u64) -> Uuid {
+        let name = self.secret.name(repo, session);
+        self.by_name.lock().unwrap().insert(name, Upload::of(repo, session, received));
         name
     }
 
     /// Begins to use an upload of a repository.
     pub fn enter(&self, repo: &str, name: Uuid) -> Result<UploadInUse<'_>, Fault> {
+        // Names are compared in constant time before they are looked up.
+        self.secret.session(repo, &name).ok_or_else(Fault::upload_unknown)?;
         match self.by_name.lock().unwrap().get_mut(&name) {
             Some(upload) if upload.repo == repo => {
                 upload.requests += 1;
@@ -122,7 +140,17 @@ impl Uploads {
 
     /// Removes an upload that has ended.
     pub fn remove(&self, name: &Uuid) {
-        self.by_name.lock().unwrap().remove(name);
+        let removed = self.by_name.lock().unwrap().remove(name);
+        if let Some(upload) = removed {
+            self.forget(upload);
+        }
+    }
+
+    /// Removes the row of an upload that was removed here and has ended.
+    pub fn forget(&self, upload: Upload) {
+        if let Some(writer) = &self.writer {
+            writer.note(Change::EndUpload { repo: upload.repo, number: upload.session });
+        }
     }
 
     pub fn len(&self) -> usize {
@@ -205,15 +233,20 @@ impl Drop for UploadInUse<'_> {
 mod tests {
     use super::*;
 
+    fn uploads() -> Uploads {
+        Uploads::new(Secret([7; 32]), None)
+    }
+
     const NOW: UploadTimeouts = UploadTimeouts { begun: Duration::ZERO, empty: Duration::ZERO };
 
     #[test]
     fn an_upload_is_known_in_its_repository_until_it_is_over() {
-        let uploads = Uploads::default();
+        let uploads = uploads();
         let name = uploads.add("acme/web", 7);
         assert_eq!(uploads.enter("acme/web", name).unwrap().session, 7);
         assert!(uploads.enter("acme/other", name).is_err());
         assert!(uploads.enter("acme/web", Uuid::new_v4()).is_err());
+        assert!(uploads.enter("acme/web", Secret([7; 32]).name("acme/web", 8)).is_err());
         uploads.remove(&name);
         assert!(uploads.enter("acme/web", name).is_err());
         assert_eq!(uploads.len(), 0);
@@ -221,7 +254,7 @@ mod tests {
 
     #[test]
     fn an_upload_in_use_is_not_given_up() {
-        let uploads = Uploads::default();
+        let uploads = uploads();
         let name = uploads.add("acme/web", 7);
         let (first, second) = (uploads.enter("acme/web", name).unwrap(), uploads.enter("acme/web", name).unwrap());
         assert!(uploads.unused(NOW).is_empty());
@@ -238,7 +271,7 @@ mod tests {
 
     #[test]
     fn the_length_is_that_of_the_last_accepted_bytes() {
-        let uploads = Uploads::default();
+        let uploads = uploads();
         let name = uploads.add("acme/web", 7);
         let add = || uploads.enter("acme/web", name).unwrap().add();
         let mut adding = add();
@@ -262,7 +295,7 @@ mod tests {
 
     #[test]
     fn the_length_is_unknown_while_and_after_two_requests_add_at_once() {
-        let uploads = Uploads::default();
+        let uploads = uploads();
         let name = uploads.add("acme/web", 7);
         let add = || uploads.enter("acme/web", name).unwrap().add();
         let accept = |mut adding: AppendingRequest<'_>, length| {
@@ -282,7 +315,7 @@ mod tests {
 
     #[test]
     fn an_upload_that_is_over_has_no_length() {
-        let uploads = Uploads::default();
+        let uploads = uploads();
         let name = uploads.add("acme/web", 7);
         let upload = uploads.enter("acme/web", name).unwrap();
         let mut adding = uploads.enter("acme/web", name).unwrap().add();
@@ -294,8 +327,20 @@ mod tests {
     }
 
     #[test]
+    fn an_upload_of_before_a_restart_has_its_name_and_length() {
+        let name = uploads().add("acme/web", 7);
+        let (begun, other) = (uploads(), Uploads::new(Secret([8; 32]), None));
+        assert_eq!(begun.add_known("acme/web", 7, 10), name);
+        assert_eq!(begun.enter("acme/web", name).unwrap().add().length(), Some(10));
+        let hour = Duration::from_secs(3600);
+        assert!(begun.unused(UploadTimeouts { begun: hour, empty: Duration::ZERO }).is_empty());
+        other.add_known("acme/web", 7, 0);
+        assert!(other.enter("acme/web", name).is_err());
+    }
+
+    #[test]
     fn an_upload_without_bytes_is_given_up_earlier() {
-        let uploads = Uploads::default();
+        let uploads = uploads();
         let (empty, begun) = (uploads.add("acme/web", 7), uploads.add("acme/web", 8));
         uploads.enter("acme/web", begun).unwrap().begin();
         let hour = Duration::from_secs(3600);

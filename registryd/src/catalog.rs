@@ -1,0 +1,82 @@
+//! The tags and media types of the manifests that the store has. They are in this process, and in the database if there is
+//! one. A change is durable before it is visible.
+use crate::tags::Tags;
+use crate::writer::{Change, DatabaseEnded, Done, Writer};
+use std::ops::Deref;
+use std::sync::Arc;
+
+/// The tags, and the writer of the database if there is one. What is read is in this process.
+pub struct Catalog {
+    tags: Arc<Tags>,
+    writer: Option<Arc<Writer>>,
+}
+
+/// The tags of a manifest that is being deleted.
+pub struct RemovedTags(Vec<String>);
+
+impl Deref for Catalog {
+    type Target = Tags;
+
+    fn deref(&self) -> &Tags {
+        &self.tags
+    }
+}
+
+impl Catalog {
+    pub fn new(tags: Arc<Tags>, writer: Option<Arc<Writer>>) -> Catalog {
+        Catalog { tags, writer }
+    }
+
+    /// Returns whether the catalog survives the end of this program.
+    pub fn is_kept(&self) -> bool {
+        self.writer.is_some()
+    }
+
+    /// Adds a manifest that the store accepted, and its tag if it was put under one.
+    pub async fn put(&self, repo: &str, digest: &str, media_type: &str, tag: Option<&str>) -> Result<(), DatabaseEnded> {
+        let writer = match &self.writer {
+            Some(writer) => writer,
+            None => {
+                self.tags.put(repo, digest, media_type, tag);
+                return Ok(());
+            }
+        };
+        let (repo, digest, media_type) = (repo.to_string(), digest.to_string(), media_type.to_string());
+        writer.write(Change::PutManifest { repo, digest, media_type, tag: tag.map(str::to_string) }).await?;
+        Ok(())
+    }
+
+    /// Removes a tag. Returns whether it was there.
+    pub async fn remove_tag(&self, repo: &str, tag: &str) -> Result<bool, DatabaseEnded> {
+        let writer = match &self.writer {
+            Some(writer) if self.tags.by_tag(repo, tag).is_some() => writer,
+            _ => return Ok(self.tags.remove_tag(repo, tag)),
+        };
+        let removed = writer.write(Change::RemoveTag { repo: repo.to_string(), tag: tag.to_string() }).await?;
+        Ok(removed != Done::Removed(Vec::new()))
+    }
+
+    /// Marks a manifest that the store is going to be asked to delete. With a database, it and its tags are removed there
+    /// before the store deletes it, so that no tag names a missing manifest after a crash.
+    pub async fn begin_removal(&self, repo: &str, digest: &str) -> Result<RemovedTags, DatabaseEnded> {
+        self.tags.mark(repo, digest, true);
+        let writer = match &self.writer {
+            Some(writer) if self.tags.is_known(repo, digest) => writer,
+            _ => return Ok(RemovedTags(Vec::new())),
+        };
+        match writer.write(Change::RemoveManifest { repo: repo.to_string(), digest: digest.to_string() }).await? {
+            Done::Removed(tags) => Ok(RemovedTags(tags)),
+            Done::Nothing => Ok(RemovedTags(Vec::new())),
+        }
+    }
+
+    /// Shows a manifest and its tags again that the store did not delete. A tag that names another manifest by now stays.
+    pub async fn undo_removal(&self, repo: &str, digest: &str, tags: RemovedTags) -> Result<(), DatabaseEnded> {
+        if let (Some(writer), Some(media_type)) = (&self.writer, self.tags.any_media_type(repo, digest)) {
+            let (repo, digest) = (repo.to_string(), digest.to_string());
+            writer.write(Change::RestoreManifest { repo, digest, media_type, tags: tags.0 }).await?;
+        }
+        self.tags.mark(repo, digest, false);
+        Ok(())
+    }
+}

@@ -1,0 +1,52 @@
+//! The numbers of a tenant's uploads that are recorded in the database.
+use std::collections::BTreeSet;
+
+/// The numbers that were seen. A tenant's numbers count up, but their replies may arrive in another order.
+#[derive(Debug, Default, PartialEq, Eq)]
+pub struct Numbers {
+    /// All numbers up to this one were seen.
+    upto: u32,
+    /// The greater numbers that were seen.
+    later: BTreeSet<u32>,
+}
+
+impl Numbers {
+    /// Begins after a number.
+    pub fn after(upto: u32) -> Numbers {
+        Numbers { upto, later: BTreeSet::new() }
+    }
+
+    /// Notes that a number was seen. Returns whether all numbers up to a greater one than before were seen now.
+    pub fn see(&mut self, number: u32) -> bool {
+        if number > self.upto {
+            self.later.insert(number);
+        }
+        let before = self.upto;
+        while let Some(next) = self.upto.checked_add(1).filter(|next| self.later.remove(next)) {
+            self.upto = next;
+        }
+        self.upto > before
+    }
+
+    /// Returns the number up to which all were seen.
+    pub fn upto(&self) -> u32 {
+        self.upto
+    }
+}
+
+#[cfg(test)]
+mod tests {
+    use super::*;
+
+    #[test]
+    fn numbers_are_seen_in_any_order() {
+        let mut numbers = Numbers::after(4);
+        assert!(!numbers.see(7) && !numbers.see(6) && !numbers.see(3));
+        assert_eq!(numbers.upto(), 4);
+        assert!(numbers.see(5));
+        assert_eq!(numbers, Numbers::after(7));
+        assert!(!numbers.see(7));
+        let mut last = Numbers::after(u32::MAX - 1);
+        assert!(last.see(u32::MAX) && !last.see(u32::MAX));
+    }
+}

@@ -1,0 +1,238 @@
+//! The start of a registry with a folder: reads the database, and compares it with the store.
+//!
+//! The store is asked about each manifest and each open upload. So after any crash no tag names a missing manifest, and each
+//! open upload has a name and is abandoned if nobody continues it.
+use crate::database::{Database, ManifestRow, Rows, UploadRow};
+use crate::ending::Failure;
+use crate::frames::{Command, Reason, Refusal, Request};
+use crate::limits::{tenant_of, MAX_UPLOADS};
+use crate::store::{Store, StoreUnavailable};
+use crate::tags::Tags;
+use crate::undo::Undo;
+use crate::upload_name::Secret;
+use crate::writer::Change;
+use std::collections::{BTreeMap, HashMap, HashSet};
+use std::path::PathBuf;
+
+/// The number of calls that are sent at once. Their replies fit into the shortest pipe, so `blobd` reads all of them.
+const BATCH: usize = 64;
+
+/// The number of session numbers that are searched at once.
+const SEARCHED: u32 = 4096;
+
+/// The number of session numbers that are searched if the tenant's next one cannot be found.
+const MOST_SEARCHED: u32 = 65_536;
+
+/// An upload that was opened before the start.
+pub struct FoundUpload {
+    pub repo: String,
+    pub number: u32,
+    pub received: u64,
+}
+
+/// What the database and the store have of the time before the start.
+pub struct Kept {
+    pub database: Database,
+    pub secret: Secret,
+    pub tags: Tags,
+    pub repositories: Vec<String>,
+    pub uploads: Vec<FoundUpload>,
+    /// For each tenant, a number up to which all uploads are recorded.
+    pub recorded: HashMap<String, u32>,
+}
+
+/// What a start finds and changes.
+#[derive(Default)]
+struct Findings {
+    changes: Vec<Change>,
+    uploads: Vec<FoundUpload>,
+    recorded: Vec<(String, u32)>,
+    /// Whether numbers are used again, because the store has lost some.
+    have_numbers_returned: bool,
+}
+
+/// Opens the database of a folder, compares it with the store, and corrects it.
+pub async fn recover(store: &Store, folder: PathBuf, is_synced: bool, had_log: bool) -> Result<Kept, Failure> {
+    let (mut database, rows) = blocking(move || {
+        let (mut database, existed) = Database::open(&folder, is_synced)?;
+        if had_log && !existed {
+            tracing::warn!("the folder has a log but had no database: tags of before are unknown, manifests are found by digest");
+        }
+        let rows = database.read()?;
+        Ok((database, rows))
+    })
+    .await?;
+    let unavailable = |StoreUnavailable| Failure::new("the store did not reply while the registry started");
+    let mut findings = Findings::default();
+    let missing = missing_manifests(store, &rows.manifests).await.map_err(unavailable)?;
+    findings.changes.extend(missing.iter().map(ManifestRow::removal));
+    for (tenant, repos) in by_tenant(store, &rows.repositories) {
+        find_uploads(store, tenant, &repos, &rows, &mut findings).await.map_err(unavailable)?;
+    }
+    if !missing.is_empty() {
+        tracing::warn!(count = missing.len(), "dropped manifests that the store does not have, with their tags");
+    }
+    let Findings { changes, uploads, recorded: found, have_numbers_returned } = findings;
+    let mut secret = rows.secret;
+    let mut recorded = rows.recorded.clone();
+    recorded.extend(found.iter().cloned());
+    if have_numbers_returned {
+        tracing::warn!("the store has lost uploads: clients have to begin all open uploads again");
+    }
+    let (database, secret) = blocking(move || {
+        let failed = |error: rusqlite::Error| Failure::of_database(&error.to_string());
+        database.commit(changes.iter(), &found).map_err(failed)?;
+        if have_numbers_returned {
+            secret = database.renew_secret().map_err(failed)?;
+        }
+        Ok((database, secret))
+    })
+    .await?;
+    let tags = tags_of(&rows, &missing);
+    Ok(Kept { database, secret, tags, repositories: rows.repositories, uploads, recorded })
+}
+
+/// Runs work that waits for the disk in a thread of its own.
+async fn blocking<T: Send + 'static>(work: impl FnOnce() -> Result<T, Failure> + Send + 'static) -> Result<T, Failure> {
+    let done = tokio::task::spawn_blocking(work).await;
+    done.unwrap_or_else(|_| Err(Failure::new("a bug in this program stopped the start")))
+}
+
+impl ManifestRow {
+    fn removal(&self) -> Change {
+        Change::RemoveManifest { repo: self.repo.clone(), digest: self.digest.clone() }
+    }
+}
+
+/// Returns the tags and media types, without manifests that are missing.
+fn tags_of(rows: &Rows, missing: &[ManifestRow]) -> Tags {
+    let missing: HashSet<(&str, &str)> = missing.iter().map(|row| (&*row.repo, &*row.digest)).collect();
+    let tags = Tags::default();
+    for ManifestRow { repo, digest, media_type } in &rows.manifests {
+        if !missing.contains(&(&**repo, &**digest)) {
+            tags.put(repo, digest, media_type, None);
+        }
+    }
+    for row in rows.tags.iter().filter(|row| !missing.contains(&(&*row.repo, &*row.digest))) {
+        tags.add_tag(&row.repo, &row.tag, &row.digest);
+    }
+    tags
+}
+
+/// Returns the manifests of the database that the store does not have.
+async fn missing_manifests(store: &Store, rows: &[ManifestRow]) -> Result<Vec<ManifestRow>, StoreUnavailable> {
+    let command = Request::new(Command::StatManifest);
+    let requests: Vec<Request<'_>> =
+        rows.iter().map(|row| Request { repo: &row.repo, digest: &row.digest, ..command.clone() }).collect();
+    let answers = store.ask_each(&requests).await?;
+    let is_missing = |answer: &Result<u64, Refusal>| {
+        matches!(answer, Err(Refusal { reason: Reason::ManifestUnknown | Reason::NameUnknown, .. }))
+    };
+    Ok(rows.iter().zip(&answers).filter(|(_, answer)| is_missing(answer)).map(|(row, _)| row.clone()).collect())
+}
+
+/// Returns the repositories of each tenant of the store.
+fn by_tenant<'r>(store: &Store, repos: &'r [String]) -> BTreeMap<&'r str, Vec<&'r str>> {
+    let mut by_tenant: BTreeMap<&str, Vec<&str>> = BTreeMap::new();
+    for repo in repos.iter().filter(|repo| store.has_tenant(repo)) {
+        by_tenant.entry(tenant_of(repo)).or_default().push(repo);
+    }
+    by_tenant
+}
+
+/// Finds the open uploads of a tenant: those of the database, and those that were opened after its last transaction. The
+/// numbers of these are greater than the recorded one and less than the tenant's next one.
+async fn find_uploads(
+    store: &Store,
+    tenant: &str,
+    repos: &[&str],
+    rows: &Rows,
+    findings: &mut Findings,
+) -> Result<(), StoreUnavailable> {
+    let known: Vec<&UploadRow> = rows.uploads.iter().filter(|row| tenant_of(&row.repo) == tenant).collect();
+    let mut open = 0;
+    let requests: Vec<Request<'_>> = known.iter().map(|row| status_request(&row.repo, row.number)).collect();
+    for (row, answer) in known.iter().zip(store.ask_each(&requests).await?) {
+        match answer {
+            Ok(received) => {
+                open += 1;
+                findings.uploads.push(FoundUpload { repo: row.repo.clone(), number: row.number, received });
+            }
+            Err(Refusal { reason: Reason::UploadUnknown, .. }) => {
+                findings.changes.push(Change::EndUpload { repo: row.repo.clone(), number: row.number });
+            }
+            // It stays recorded, and the next start asks again.
+            Err(refusal) => tracing::warn!(repo = %row.repo, reason = ?refusal.reason, "cannot find an upload"),
+        }
+    }
+    let recorded = rows.recorded.get(tenant).copied().unwrap_or(0);
+    let next = next_number(store, repos).await?;
+    findings.have_numbers_returned |= next.map_or(false, |next| next <= recorded);
+    let known: HashSet<u32> = known.iter().map(|row| row.number).collect();
+    let end = next.unwrap_or_else(|| recorded.saturating_add(MOST_SEARCHED));
+    let (mut at, mut last) = (recorded.saturating_add(1), recorded);
+    while at < end && open < MAX_UPLOADS {
+        let stop = at.saturating_add(SEARCHED).min(end);
+        let numbers: Vec<u32> = (at..stop).filter(|number| !known.contains(number)).collect();
+        for upload in search(store, repos, &numbers).await? {
+            open += 1;
+            last = last.max(upload.number);
+            findings.changes.push(Change::OpenUpload { repo: upload.repo.clone(), number: upload.number });
+            findings.uploads.push(upload);
+        }
+        at = stop;
+    }
+    if next.is_none() && open < MAX_UPLOADS {
+        tracing::warn!(tenant, "the store opens no upload: open ones may be unknown until the next start");
+        return Ok(());
+    }
+    findings.recorded.push((tenant.to_string(), next.unwrap_or(last)));
+    Ok(())
+}
+
+fn status_request(repo: &str, number: u32) -> Request<'_> {
+    Request { repo, number, ..Request::new(Command::Status) }
+}
+
+/// Returns the uploads with these numbers that are open in one of the repositories.
+async fn search(store: &Store, repos: &[&str], numbers: &[u32]) -> Result<Vec<FoundUpload>, StoreUnavailable> {
+    let mut found = Vec::new();
+    for repo in repos {
+        let requests: Vec<Request<'_>> = numbers.iter().map(|number| status_request(repo, *number)).collect();
+        for (number, answer) in numbers.iter().zip(store.ask_each(&requests).await?) {
+            if let Ok(received) = answer {
+                found.push(FoundUpload { repo: repo.to_string(), number: *number, received });
+            }
+        }
+    }
+    Ok(found)
+}
+
+/// Returns a tenant's next session number, by opening a session and abandoning it. Returns `None` if the store opens none,
+/// because the maximum number is open.
+async fn next_number(store: &Store, repos: &[&str]) -> Result<Option<u32>, StoreUnavailable> {
+    for repo in repos {
+        if let Ok(number) = store.start_upload(repo).await? {
+            return match store.abandon(repo, number).await? {
+                Ok(()) => Ok(Some(number)),
+                Err(refusal) => {
+                    tracing::error!(repo, reason = ?refusal.reason, "cannot abandon an upload");
+                    Err(StoreUnavailable)
+                }
+            };
+        }
+    }
+    Ok(None)
+}
+
+impl Store {
+    /// Makes many short calls for the program itself, and returns the first number of each reply.
+    async fn ask_each(&self, requests: &[Request<'_>]) -> Result<Vec<Result<u64, Refusal>>, StoreUnavailable> {
+        let mut firsts = Vec::with_capacity(requests.len());
+        for batch in requests.chunks(BATCH) {
+            let answers = self.ask_many(self.own(), self.limit, batch, Undo::Nothing).await?;
+            firsts.extend(answers.into_iter().map(|answer| answer.map(|reply| reply.first)));
+        }
+        Ok(firsts)
+    }
+}

@@ -1,0 +1,249 @@
+//! The thread that writes the database. It puts all changes that wait into one transaction, so that one sync serves many
+//! requests, and then makes them in the tables of this process, in the same order. So what a request reads is durable.
+use crate::database::Database;
+use crate::limits::tenant_of;
+use crate::numbers::Numbers;
+use crate::tags::Tags;
+use prometheus::IntCounter;
+use std::collections::{BTreeSet, HashMap};
+use std::sync::{Arc, Condvar, Mutex, MutexGuard};
+use std::thread::JoinHandle;
+use std::time::{Duration, Instant};
+use tokio::sync::{oneshot, Notify};
+
+/// The time after which changes are written that no request waits for.
+const REST: Duration = Duration::from_secs(1);
+
+/// A change of the database.
+#[derive(Clone, Debug, PartialEq, Eq)]
+pub enum Change {
+    /// An upload may be opened in a repository.
+    AddRepository { repo: String },
+    /// No upload was opened in a repository, because the store refused it.
+    RemoveRepository { repo: String },
+    /// The store has a manifest, and a tag names it from now on.
+    PutManifest { repo: String, digest: String, media_type: String, tag: Option<String> },
+    /// The store has a manifest that was to be deleted.
+    RestoreManifest { repo: String, digest: String, media_type: String, tags: Vec<String> },
+    RemoveTag { repo: String, tag: String },
+    /// A manifest is going to be deleted. Its tags are removed too.
+    RemoveManifest { repo: String, digest: String },
+    OpenUpload { repo: String, number: u32 },
+    EndUpload { repo: String, number: u32 },
+    /// The store used this number for an upload that is not open.
+    PassUpload { repo: String, number: u32 },
+}
+
+/// What a change did to the tables of this process.
+#[derive(Debug, PartialEq, Eq)]
+pub enum Done {
+    Nothing,
+    /// Tags were removed.
+    Removed(Vec<String>),
+}
+
+/// The database has failed or is closed: a change may be there or not after a restart.
+#[derive(Debug, PartialEq, Eq)]
+pub struct DatabaseEnded;
+
+impl Change {
+    /// Makes a durable change in the tables of this process.
+    fn apply(self, tags: &Tags) -> Done {
+        match self {
+            Change::PutManifest { repo, digest, media_type, tag } => tags.put(&repo, &digest, &media_type, tag.as_deref()),
+            Change::RestoreManifest { repo, digest, media_type, tags: names } => {
+                tags.restore(&repo, &digest, &media_type, names)
+            }
+            Change::RemoveTag { repo, tag } => return Done::Removed(tags.take_tag(&repo, tag).into_iter().collect()),
+            Change::RemoveManifest { repo, digest } => return Done::Removed(tags.take_tags_of(&repo, &digest)),
+            _ => {}
+        }
+        Done::Nothing
+    }
+
+    /// Returns the upload whose number the store has used.
+    fn number(&self) -> Option<(&str, u32)> {
+        match self {
+            Change::OpenUpload { repo, number } | Change::PassUpload { repo, number } => Some((tenant_of(repo), *number)),
+            _ => None,
+        }
+    }
+}
+
+/// A change, and the request that waits for it, if one does.
+struct Waiting {
+    change: Change,
+    reply: Option<oneshot::Sender<Done>>,
+}
+
+#[derive(Default)]
+struct State {
+    waiting: Vec<Waiting>,
+    /// Whether a request waits.
+    is_awaited: bool,
+    /// The time at which the first change was added that waits.
+    since: Option<Instant>,
+    is_closed: bool,
+    failure: Option<String>,
+}
+
+/// The changes that wait for the thread.
+pub struct Writer {
+    state: Mutex<State>,
+    ready: Condvar,
+    /// Notified after a failure.
+    failed: Notify,
+    commits: IntCounter,
+}
+
+/// The thread, and the database that it has opened.
+pub struct WriterThread(JoinHandle<rusqlite::Result<()>>);
+
+impl Writer {
+    /// Makes a writer that counts its transactions. Its thread is not running yet.
+    pub fn new(commits: IntCounter) -> Arc<Writer> {
+        Arc::new(Writer { state: Mutex::default(), ready: Condvar::new(), failed: Notify::new(), commits })
+    }
+
+    /// Starts the thread. `recorded` has, for each tenant, the number up to which its uploads are recorded.
+    pub fn start(
+        self: &Arc<Writer>,
+        database: Database,
+        tags: Arc<Tags>,
+        recorded: HashMap<String, u32>,
+    ) -> std::io::Result<WriterThread> {
+        let writer = self.clone();
+        let numbers = recorded.into_iter().map(|(tenant, upto)| (tenant, Numbers::after(upto))).collect();
+        let thread = std::thread::Builder::new().name("database".to_string());
+        thread.spawn(move || writer.run(database, &tags, numbers)).map(WriterThread)
+    }
+
+    fn state(&self) -> MutexGuard<'_, State> {
+        self.state.lock().unwrap_or_else(|poisoned| poisoned.into_inner())
+    }
+
+    fn add(&self, waiting: Waiting) {
+        let mut state = self.state();
+        if state.is_closed {
+            return;
+        }
+        let is_first = state.waiting.is_empty();
+        state.is_awaited |= waiting.reply.is_some();
+        state.since.get_or_insert_with(Instant::now);
+        let wakes = is_first || waiting.reply.is_some();
+        state.waiting.push(waiting);
+        drop(state);
+        if wakes {
+            self.ready.notify_one();
+        }
+    }
+
+    /// Makes a change. Returns after it is durable and made in the tables of this process.
+    pub async fn write(&self, change: Change) -> Result<Done, DatabaseEnded> {
+        let (reply, made) = oneshot::channel();
+        self.add(Waiting { change, reply: Some(reply) });
+        made.await.map_err(|_| DatabaseEnded)
+    }
+
+    /// Makes a change at some later time. It is lost if the program or the machine stops before.
+    pub fn note(&self, change: Change) {
+        self.add(Waiting { change, reply: None });
+    }
+
+    /// Waits until a change could not be made, and returns why.
+    pub async fn failure(&self) -> String {
+        loop {
+            let notified = self.failed.notified();
+            if let Some(failure) = self.state().failure.clone() {
+                return failure;
+            }
+            notified.await;
+        }
+    }
+
+    /// Writes the changes that wait, closes the database and ends the thread. Later changes fail.
+    pub async fn end(&self, thread: WriterThread) -> Result<(), String> {
+        self.state().is_closed = true;
+        self.ready.notify_one();
+        let joined = tokio::task::spawn_blocking(move || thread.0.join()).await;
+        match joined {
+            Ok(Ok(Ok(()))) => self.state().failure.clone().map_or(Ok(()), Err),
+            Ok(Ok(Err(error))) => Err(error.to_string()),
+            _ => Err("a bug in this program stopped its thread".to_string()),
+        }
+    }
+
+    /// Takes the changes that wait, after a request waits for one, they are old, or the writer is closed. Returns `None` if
+    /// it is closed and none waits.
+    fn next(&self) -> Option<Vec<Waiting>> {
+        let mut state = self.state();
+        loop {
+            let left = state.since.map_or(REST, |since| REST.saturating_sub(since.elapsed()));
+            if !state.waiting.is_empty() && (state.is_awaited || state.is_closed || left == Duration::ZERO) {
+                state.is_awaited = false;
+                state.since = None;
+                return Some(std::mem::take(&mut state.waiting));
+            }
+            if state.is_closed {
+                return None;
+            }
+            state = match state.waiting.is_empty() {
+                true => self.ready.wait(state).unwrap_or_else(|poisoned| poisoned.into_inner()),
+                false => self.ready.wait_timeout(state, left).unwrap_or_else(|poisoned| poisoned.into_inner()).0,
+            };
+        }
+    }
+
+    /// Refuses all changes from now on. The requests that wait are not replied to.
+    fn fail(&self, failure: String) {
+        let mut state = self.state();
+        state.is_closed = true;
+        state.failure.get_or_insert(failure);
+        state.waiting.clear();
+        drop(state);
+        self.failed.notify_one();
+    }
+
+    /// Writes changes until the writer is closed, or until one transaction fails: after a failed write or sync the system may
+    /// have dropped what it could not write, so nothing is tried again.
+    fn run(&self, mut database: Database, tags: &Tags, mut numbers: HashMap<String, Numbers>) -> rusqlite::Result<()> {
+        let _guard = FailOnPanic(self);
+        while let Some(batch) = self.next() {
+            let recorded = see_numbers(&mut numbers, &batch);
+            if let Err(error) = database.commit(batch.iter().map(|waiting| &waiting.change), &recorded) {
+                self.fail(error.to_string());
+                return Err(error);
+            }
+            self.commits.inc();
+            for Waiting { change, reply } in batch {
+                let done = change.apply(tags);
+                if let Some(reply) = reply {
+                    let _ = reply.send(done);
+                }
+            }
+        }
+        database.close()
+    }
+}
+
+/// Refuses further changes if the thread panics.
+struct FailOnPanic<'w>(&'w Writer);
+
+impl Drop for FailOnPanic<'_> {
+    fn drop(&mut self) {
+        if std::thread::panicking() {
+            self.0.fail("a bug in this program stopped its thread".to_string());
+        }
+    }
+}
+
+/// Notes the numbers of uploads in changes. Returns the tenants whose number changed up to which all are recorded.
+fn see_numbers(numbers: &mut HashMap<String, Numbers>, batch: &[Waiting]) -> Vec<(String, u32)> {
+    let mut changed = BTreeSet::new();
+    for (tenant, number) in batch.iter().filter_map(|waiting| waiting.change.number()) {
+        if numbers.entry(tenant.to_string()).or_default().see(number) {
+            changed.insert(tenant);
+        }
+    }
+    changed.into_iter().map(|tenant| (tenant.to_string(), numbers[tenant].upto())).collect()
+}
