@@ -3,7 +3,7 @@
 use crate::limits::tenant_of;
 use crate::upload_name::{Secret, SECRET_LEN};
 use crate::writer::Change;
-use rusqlite::{params, Connection, ErrorCode, OpenFlags, Transaction};
+use rusqlite::{params, Connection, ErrorCode, OpenFlags, Transaction, TransactionBehavior};
 use std::collections::{BTreeMap, HashMap};
 use std::fmt;
 use std::fs::{File, OpenOptions};
@@ -202,7 +202,7 @@ impl Database {
         changes: impl Iterator<Item = &'c Change>,
         recorded: &[(String, u32)],
     ) -> rusqlite::Result<()> {
-        let transaction = self.connection.transaction()?;
+        let transaction = self.connection.transaction_with_behavior(TransactionBehavior::Immediate)?;
         let mut uploads = UploadChanges::default();
         for change in changes {
             make(&transaction, change, &mut uploads)?;
@@ -231,11 +231,11 @@ fn all<T>(
     connection.prepare(query)?.query_map([], read)?.collect()
 }
 
-/// Sets how the database locks, writes and checks.
+/// Sets how the database writes and checks. Other programs can read it meanwhile, for a backup. The store's lock on the folder
+/// keeps a second registry out.
 fn set_up(connection: &Connection, is_synced: bool) -> rusqlite::Result<()> {
     connection.busy_timeout(WAIT)?;
     let word = |query: &str| connection.query_row(query, [], |row| row.get::<_, rusqlite::types::Value>(0));
-    word("PRAGMA locking_mode = EXCLUSIVE")?;
     word("PRAGMA journal_mode = WAL")?;
     connection.execute_batch(if is_synced { "PRAGMA synchronous = FULL" } else { "PRAGMA synchronous = OFF" })?;
     connection.execute_batch("PRAGMA foreign_keys = ON")
@@ -243,7 +243,7 @@ fn set_up(connection: &Connection, is_synced: bool) -> rusqlite::Result<()> {
 
 /// Checks the database, or makes its tables if it is empty. Returns what is wrong, if anything is.
 fn check_or_make(connection: &mut Connection) -> rusqlite::Result<Option<String>> {
-    let transaction = connection.transaction_with_behavior(rusqlite::TransactionBehavior::Exclusive)?;
+    let transaction = connection.transaction_with_behavior(TransactionBehavior::Exclusive)?;
     let number = |query: &str| transaction.query_row(query, [], |row| row.get::<_, i64>(0));
     let found = (number("PRAGMA application_id")?, number("PRAGMA user_version")?);
     if found == (0, 0) && number("SELECT count(*) FROM sqlite_schema")? == 0 {
@@ -337,5 +337,123 @@ impl<'c> UploadChanges<'c> {
             };
         }
         Ok(())
+    }
+}
+
+#[cfg(test)]
+mod tests {
+    use super::*;
+
+    /// A folder that is removed after the test.
+    struct TestFolder(PathBuf);
+
+    impl TestFolder {
+        fn new() -> TestFolder {
+            let path = std::env::temp_dir().join(format!("registryd-{}", uuid::Uuid::new_v4()));
+            std::fs::create_dir(&path).unwrap();
+            TestFolder(path)
+        }
+
+        fn open(&self) -> Database {
+            Database::open(&self.0, true).unwrap().0
+        }
+    }
+
+    impl Drop for TestFolder {
+        fn drop(&mut self) {
+            let _ = std::fs::remove_dir_all(&self.0);
+        }
+    }
+
+    fn put(digest: &str, media_type: &str, tag: Option<&str>) -> Change {
+        let (repo, digest, media_type) = ("acme/web".to_string(), digest.to_string(), media_type.to_string());
+        Change::PutManifest { repo, digest, media_type, tag: tag.map(str::to_string) }
+    }
+
+    fn tags(rows: &Rows) -> Vec<(&str, &str)> {
+        rows.tags.iter().map(|row| (&*row.tag, &*row.digest)).collect()
+    }
+
+    #[test]
+    fn changes_are_there_when_it_is_opened_again() {
+        let folder = TestFolder::new();
+        let mut database = folder.open();
+        let secret = database.read().unwrap().secret;
+        let remove = Change::RemoveTag { repo: "acme/web".to_string(), tag: "v2".to_string() };
+        let changes = [put("a", "x/a", Some("v1")), put("a", "x/b", Some("v2")), put("b", "x/b", Some("v3")), remove];
+        database.commit(changes.iter(), &[("acme".to_string(), 7)]).unwrap();
+        drop(database);
+        let rows = folder.open().read().unwrap();
+        assert!(rows.secret == secret);
+        assert_eq!(tags(&rows), [("v1", "a"), ("v3", "b")]);
+        let types: Vec<(&str, &str)> = rows.manifests.iter().map(|row| (&*row.digest, &*row.media_type)).collect();
+        assert_eq!(types, [("a", "x/b"), ("b", "x/b")]);
+        assert_eq!((rows.repositories, rows.recorded), (vec!["acme/web".to_string()], [("acme".to_string(), 7)].into()));
+    }
+
+    #[test]
+    fn a_manifest_s_tags_go_with_it_and_come_back() {
+        let folder = TestFolder::new();
+        let mut database = folder.open();
+        let (repo, digest) = ("acme/web".to_string(), "a".to_string());
+        let remove = Change::RemoveManifest { repo: repo.clone(), digest: digest.clone() };
+        let changes = [put("a", "x/a", Some("v1")), put("a", "x/a", Some("v2")), remove, put("b", "x/b", Some("v2"))];
+        database.commit(changes.iter(), &[]).unwrap();
+        assert_eq!(tags(&database.read().unwrap()), [("v2", "b")]);
+        let tags_before = vec!["v1".to_string(), "v2".to_string()];
+        let restore = Change::RestoreManifest { repo, digest, media_type: "x/a".to_string(), tags: tags_before };
+        database.commit([restore].iter(), &[]).unwrap();
+        assert_eq!(tags(&database.read().unwrap()), [("v1", "a"), ("v2", "b")]);
+    }
+
+    #[test]
+    fn an_upload_has_a_row_while_it_is_open() {
+        let folder = TestFolder::new();
+        let mut database = folder.open();
+        let open = |number| Change::OpenUpload { repo: "acme/web".to_string(), number };
+        let end = |number| Change::EndUpload { repo: "acme/web".to_string(), number };
+        database.commit([open(1), open(2), end(1), open(3)].iter(), &[]).unwrap();
+        database.commit([end(2), open(4)].iter(), &[]).unwrap();
+        let numbers: Vec<u32> = database.read().unwrap().uploads.iter().map(|row| row.number).collect();
+        assert_eq!(numbers, [3, 4]);
+    }
+
+    #[test]
+    fn a_change_that_fails_changes_nothing() {
+        let folder = TestFolder::new();
+        let mut database = folder.open();
+        database.connection.execute_batch("DROP TABLE uploads").unwrap();
+        let open = Change::OpenUpload { repo: "acme/web".to_string(), number: 1 };
+        assert!(database.commit([put("a", "x/a", Some("v1")), open].iter(), &[]).is_err());
+        let count = |table| database.connection.query_row(&format!("SELECT count(*) FROM {table}"), [], |row| row.get(0));
+        assert_eq!((count("manifests"), count("tags")), (Ok(0), Ok(0)));
+    }
+
+    #[test]
+    fn a_file_that_is_no_database_of_this_program_is_refused() {
+        let folder = TestFolder::new();
+        let path = folder.0.join(FILE_NAME);
+        let problem = || Database::open(&folder.0, true).err().map(|error| error.to_string());
+        std::fs::write(&path, "x".repeat(5000)).unwrap();
+        assert!(problem().unwrap().contains("not a database"));
+        std::fs::remove_file(&path).unwrap();
+        let other = Connection::open(&path).unwrap();
+        other.execute_batch("CREATE TABLE other (name TEXT)").unwrap();
+        drop(other);
+        assert!(problem().unwrap().contains("not a database of this version"));
+        std::fs::remove_file(&path).unwrap();
+        drop(folder.open());
+        let newer = Connection::open(&path).unwrap();
+        newer.execute_batch(&format!("PRAGMA user_version = {}", VERSION + 1)).unwrap();
+        drop(newer);
+        assert!(problem().unwrap().contains("not a database of this version"));
+    }
+
+    #[test]
+    fn others_cannot_read_the_file() {
+        use std::os::unix::fs::PermissionsExt;
+        let folder = TestFolder::new();
+        drop(folder.open());
+        assert_eq!(std::fs::metadata(folder.0.join(FILE_NAME)).unwrap().permissions().mode() & 0o777, 0o600);
     }
 }

@@ -207,8 +207,8 @@ async fn start_store(options: &Options, writer: Option<Arc<Writer>>) -> Result<(
 
 /// Starts the store, reads the database if there is one, and makes the registry over both.
 async fn start(options: &Options, access: Access) -> Result<Started, Failure> {
-    let metrics = Metrics::new(options.is_durable(), options.data.is_some());
-    let writer = options.data.as_ref().map(|_| Writer::new(metrics.commits()));
+    let metrics = Metrics::new();
+    let writer = options.data.as_ref().map(|_| Writer::new(metrics.add_folder(options.is_durable())));
     let had_log = options.data.as_ref().map_or(false, |folder| folder.join("log").exists());
     let (store, mut child) = start_store(options, writer.clone()).await?;
     let kept = match &options.data {

@@ -33,8 +33,7 @@ struct Inner {
 }
 
 impl Metrics {
-    /// Makes the metrics. Those of the folder exist only if there is one.
-    pub fn new(is_durable: bool, has_folder: bool) -> Metrics {
+    pub fn new() -> Metrics {
         let registry = Registry::new();
         let counter = |name, help| IntCounter::new(name, help).expect("a counter's name");
         let gauge = |name, help| IntGauge::new(name, help).expect("a gauge's name");
@@ -61,8 +60,7 @@ impl Metrics {
             commits: counter("registryd_database_commits_total", "Transactions of the database of tags."),
             registry,
         };
-        inner.durable.set(i64::from(is_durable));
-        let mut all: Vec<Box<dyn prometheus::core::Collector>> = vec![
+        let all: [Box<dyn prometheus::core::Collector>; 13] = [
             Box::new(inner.requests.clone()),
             Box::new(inner.seconds.clone()),
             Box::new(inner.received.clone()),
@@ -77,12 +75,6 @@ impl Metrics {
             Box::new(inner.quota.clone()),
             Box::new(inner.durable.clone()),
         ];
-        if has_folder {
-            all.push(Box::new(inner.log.clone()));
-            all.push(Box::new(inner.database.clone()));
-            all.push(Box::new(inner.free.clone()));
-            all.push(Box::new(inner.commits.clone()));
-        }
         for collector in all {
             inner.registry.register(collector).expect("each name is registered once");
         }
@@ -114,9 +106,16 @@ impl Metrics {
         self.0.held.set(swept.held as i64);
     }
 
-    /// Returns the counter of the database's transactions.
-    pub fn commits(&self) -> IntCounter {
-        self.0.commits.clone()
+    /// Adds the metrics of a folder, and returns the counter of the database's transactions.
+    pub fn add_folder(&self, is_durable: bool) -> IntCounter {
+        let Inner { registry, durable, log, database, free, commits, .. } = &*self.0;
+        durable.set(i64::from(is_durable));
+        let all: [Box<dyn prometheus::core::Collector>; 4] =
+            [Box::new(log.clone()), Box::new(database.clone()), Box::new(free.clone()), Box::new(commits.clone())];
+        for collector in all {
+            registry.register(collector).expect("each name is registered once");
+        }
+        commits.clone()
     }
 
     /// Sets the metrics of the folder.

@@ -17,8 +17,8 @@ use std::path::PathBuf;
 /// The number of calls that are sent at once. Their replies fit into the shortest pipe, so `blobd` reads all of them.
 const BATCH: usize = 64;
 
-/// The number of session numbers that are searched at once.
-const SEARCHED: u32 = 4096;
+/// The first and the greatest number of session numbers that are searched at once.
+const SEARCHED: (u32, u32) = (128, 4096);
 
 /// The number of session numbers that are searched if the tenant's next one cannot be found.
 const MOST_SEARCHED: u32 = 65_536;
@@ -170,9 +170,9 @@ async fn find_uploads(
     findings.have_numbers_returned |= next.map_or(false, |next| next <= recorded);
     let known: HashSet<u32> = known.iter().map(|row| row.number).collect();
     let end = next.unwrap_or_else(|| recorded.saturating_add(MOST_SEARCHED));
-    let (mut at, mut last) = (recorded.saturating_add(1), recorded);
+    let (mut at, mut last, mut step) = (recorded.saturating_add(1), recorded, SEARCHED.0);
     while at < end && open < MAX_UPLOADS {
-        let stop = at.saturating_add(SEARCHED).min(end);
+        let stop = at.saturating_add(step).min(end);
         let numbers: Vec<u32> = (at..stop).filter(|number| !known.contains(number)).collect();
         for upload in search(store, repos, &numbers).await? {
             open += 1;
@@ -181,6 +181,7 @@ async fn find_uploads(
             findings.uploads.push(upload);
         }
         at = stop;
+        step = (2 * step).min(SEARCHED.1);
     }
     if next.is_none() && open < MAX_UPLOADS {
         tracing::warn!(tenant, "the store opens no upload: open ones may be unknown until the next start");

@@ -245,6 +245,25 @@ mod tests {
     }
 
     #[test]
+    fn tags_that_were_removed_come_back() {
+        let tags = Tags::default();
+        for tag in ["v1", "v2", "v3"] {
+            tags.put("acme/web", "sha256:a", TYPE, Some(tag));
+        }
+        tags.mark("acme/web", "sha256:a", true);
+        assert_eq!(tags.take_tag("acme/web", "v3".to_string()).as_deref(), Some("v3"));
+        assert_eq!(tags.take_tag("acme/web", "v3".to_string()), None);
+        let removed = tags.take_tags_of("acme/web", "sha256:a");
+        assert_eq!(removed, ["v1", "v2"]);
+        assert!(tags.is_known("acme/web", "sha256:a") && !tags.is_known("acme/web", "sha256:b"));
+        tags.put("acme/web", "sha256:b", TYPE, Some("v2"));
+        tags.restore("acme/web", "sha256:a", TYPE, removed);
+        assert_eq!(tags.page("acme/web", "", 9).unwrap().tags, ["v1", "v2"]);
+        assert_eq!(tags.by_tag("acme/web", "v1").unwrap().digest, "sha256:a");
+        assert_eq!(tags.by_tag("acme/web", "v2").unwrap().digest, "sha256:b");
+    }
+
+    #[test]
     fn a_manifest_that_is_leaving_is_not_seen() {
         let tags = Tags::default();
         tags.put("acme/web", "sha256:a", TYPE, Some("v1"));

@@ -247,3 +247,72 @@ fn see_numbers(numbers: &mut HashMap<String, Numbers>, batch: &[Waiting]) -> Vec
     }
     changed.into_iter().map(|tenant| (tenant.to_string(), numbers[tenant].upto())).collect()
 }
+
+#[cfg(test)]
+mod tests {
+    use super::*;
+    use std::path::PathBuf;
+
+    fn folder() -> PathBuf {
+        let path = std::env::temp_dir().join(format!("registryd-{}", uuid::Uuid::new_v4()));
+        std::fs::create_dir(&path).unwrap();
+        path
+    }
+
+    fn started(folder: &std::path::Path) -> (Arc<Writer>, WriterThread, Arc<Tags>) {
+        let writer = Writer::new(IntCounter::new("commits", "Transactions.").unwrap());
+        let tags = Arc::new(Tags::default());
+        let (database, _) = Database::open(folder, true).unwrap();
+        let thread = writer.start(database, tags.clone(), HashMap::new()).unwrap();
+        (writer, thread, tags)
+    }
+
+    fn put(tag: &str) -> Change {
+        let (repo, digest, media_type) = ("acme/web".to_string(), "sha256:a".to_string(), "x/a".to_string());
+        Change::PutManifest { repo, digest, media_type, tag: Some(tag.to_string()) }
+    }
+
+    #[tokio::test]
+    async fn a_change_is_durable_and_visible_after_its_reply() {
+        let folder = folder();
+        let (writer, thread, tags) = started(&folder);
+        assert_eq!(writer.write(put("v1")).await, Ok(Done::Nothing));
+        assert_eq!(tags.by_tag("acme/web", "v1").unwrap().media_type, "x/a");
+        writer.note(Change::OpenUpload { repo: "acme/web".to_string(), number: 1 });
+        let remove = Change::RemoveTag { repo: "acme/web".to_string(), tag: "v1".to_string() };
+        assert_eq!(writer.write(remove.clone()).await, Ok(Done::Removed(vec!["v1".to_string()])));
+        assert_eq!(writer.write(remove).await, Ok(Done::Removed(Vec::new())));
+        writer.note(Change::PassUpload { repo: "acme/web".to_string(), number: 2 });
+        assert_eq!(writer.end(thread).await, Ok(()));
+        assert_eq!(writer.write(put("v2")).await, Err(DatabaseEnded));
+        let rows = Database::open(&folder, true).unwrap().0.read().unwrap();
+        assert_eq!((rows.tags.len(), rows.manifests.len(), rows.uploads.len()), (0, 1, 1));
+        assert_eq!(rows.recorded, [("acme".to_string(), 2)].into());
+        std::fs::remove_dir_all(folder).unwrap();
+    }
+
+    #[tokio::test]
+    async fn a_change_that_nobody_waits_for_is_made_after_a_while() {
+        let folder = folder();
+        let (writer, thread, _) = started(&folder);
+        writer.note(Change::OpenUpload { repo: "acme/web".to_string(), number: 1 });
+        assert_eq!(writer.commits.get(), 0);
+        tokio::time::sleep(REST + Duration::from_millis(500)).await;
+        assert_eq!(writer.commits.get(), 1);
+        assert_eq!(writer.end(thread).await, Ok(()));
+        std::fs::remove_dir_all(folder).unwrap();
+    }
+
+    #[tokio::test]
+    async fn nothing_is_made_after_a_failure() {
+        let folder = folder();
+        let (writer, thread, tags) = started(&folder);
+        assert_eq!(writer.write(put("v1")).await, Ok(Done::Nothing));
+        writer.fail("the disk is full".to_string());
+        assert_eq!(writer.write(put("v2")).await, Err(DatabaseEnded));
+        assert_eq!(writer.failure().await, "the disk is full");
+        assert_eq!(writer.end(thread).await, Err("the disk is full".to_string()));
+        assert_eq!(tags.by_tag("acme/web", "v2"), None);
+        std::fs::remove_dir_all(folder).unwrap();
+    }
+}

@@ -69,7 +69,8 @@ class Server:
     def __init__(self, *words, tenants=("acme=1000000000", "other=1000000000", "poor=1000000")):
         self.log = tempfile.TemporaryFile()
         command = [REGISTRYD, "--listen", "127.0.0.1:0", "--blobd", BLOBD, *words, *tenants]
-        self.process = subprocess.Popen(command, stderr=self.log)
+        # SIGXFSZ stays ignored, as in Python, so that a test can limit the length of a file that a program writes.
+        self.process = subprocess.Popen(command, stderr=self.log, restore_signals=False)
         self.address = self.wait_for(r"listening address=(\S+)")
 
     def logged(self):

@@ -1,0 +1,257 @@
+#!/usr/bin/env python3
+"""Tests how a registry with a folder ends, each with its exit status and its message, and what it does if its disk is almost
+full. A test of a full disk is left out if it may not mount one."""
+import contextlib, os, random, re, resource, signal, subprocess, tempfile, time
+
+from playing import play, until
+from restarts import PATCH, by_signal, database, folder, opened, pulled, push, pushed
+from server import BLOBD, MANIFEST, REGISTRYD, serving, sha256
+
+
+def ended(*words, tenants=("acme=1000000000", "other=1000000000", "poor=1000000")):
+    """Starts a registry that is expected to end, and returns its status and its log."""
+    command = [REGISTRYD, "--listen", "127.0.0.1:0", "--blobd", BLOBD, *words, *tenants]
+    done = subprocess.run(command, stderr=subprocess.PIPE, text=True, timeout=60)
+    return done.returncode, done.stderr
+
+
+def check(result, status, *texts):
+    assert result[0] == status, result
+    for text in texts:
+        assert text in result[1], (text, result[1])
+
+
+def a_folder_that_cannot_be_used():
+    for name in ("log", "lock", "registry.db"):
+        with folder() as path:
+            os.makedirs(f"{path}/{name}")
+            check(ended("--data", path), 6, name, "see to its rights and its disk")
+    with folder() as path:
+        check(ended("--data", f"{path}/no/folder"), 6, "no/folder", "see to its rights and its disk")
+
+
+def a_folder_that_another_process_has():
+    with folder() as path, serving("--data", path):
+        begun = time.time()
+        check(ended("--data", path), 7, "another process has the folder of --data: end that one")
+        assert 4 < time.time() - begun < 15
+
+
+def a_database_that_another_process_has():
+    with folder() as path:
+        with serving("--data", path) as server:
+            by_signal(server)
+        with database(path) as rows:
+            rows.execute("BEGIN EXCLUSIVE")
+            check(ended("--data", path), 7, "registry.db", "another process has it: end that one")
+        with serving("--data", path) as server:
+            by_signal(server)
+
+
+def a_folder_is_released_after_a_kill():
+    """The store of a killed registry is alive for a moment, and holds the folder."""
+    with folder() as path:
+        for _ in range(5):
+            with serving("--data", path) as server:
+                server.process.kill()
+            with serving("--data", path) as server:
+                by_signal(server)
+
+
+def a_damaged_log():
+    with folder() as path:
+        with serving("--data", path) as server:
+            pushed(server.client())
+            pushed(server.client(), tag="v2", layer=b"another")
+            by_signal(server)
+        with open(f"{path}/log", "r+b") as log:
+            log.seek(200)
+            byte = log.read(1)
+            log.seek(200)
+            log.write(bytes([byte[0] ^ 1]))
+        status, text = ended("--data", path)
+        check((status, text), 8, "restore a backup, or accept the loss with --accept-loss-after")
+        # What blobd names is what the option takes. Tags whose manifests are lost are dropped.
+        byte = re.search(r"damaged at byte (\d+)", text).group(1)
+        with serving("--data", path, "--accept-loss-after", byte) as server:
+            assert pulled(server.client(), "acme/one", "v2") == 404
+            assert "dropped manifests that the store does not have" in server.logged()
+            by_signal(server)
+
+
+def a_damaged_database():
+    with folder() as path:
+        with serving("--data", path) as server:
+            pushed(server.client())
+            by_signal(server)
+        with open(f"{path}/registry.db", "r+b") as file:
+            file.write(b"x" * 4096)
+        check(ended("--data", path), 8, "registry.db", "restore a backup")
+
+
+def a_log_that_cannot_be_written():
+    with folder() as path:
+        with serving("--data", path) as server:
+            client = server.client()
+            image = pushed(client)
+            resource.prlimit(server.child(), resource.RLIMIT_FSIZE, (os.path.getsize(f"{path}/log"), resource.RLIM_INFINITY))
+            with contextlib.suppress(OSError):
+                assert client.ask("POST", f"/v2/acme/one/blobs/uploads/?digest={sha256(b'x')}", b"x", PATCH).status == 503
+            assert server.process.wait(timeout=20) == 9, server.logged()[-1000:]
+            assert "the log cannot be written any more: make room or replace the disk" in server.logged()
+        with serving("--data", path) as server:
+            assert pulled(server.client(), "acme/one", "v1") == (image, MANIFEST)
+
+
+def a_database_that_cannot_be_written():
+    with folder() as path:
+        with serving("--data", path) as server:
+            client = server.client()
+            image = pushed(client)
+            longest = os.path.getsize(f"{path}/registry.db-wal")
+            resource.prlimit(server.process.pid, resource.RLIMIT_FSIZE, (longest, resource.RLIM_INFINITY))
+            with contextlib.suppress(OSError):
+                assert client.ask("PUT", "/v2/acme/one/manifests/v2", image, {"Content-Type": MANIFEST}).status == 503
+            assert server.process.wait(timeout=20) == 9, server.logged()[-1000:]
+            assert "the database cannot be written any more" in server.logged(), server.logged()[-1000:]
+        with serving("--data", path) as server:
+            client = server.client()
+            assert pulled(client, "acme/one", "v1") == (image, MANIFEST) and pulled(client, "acme/one", "v2") == 404
+
+
+def other_settings():
+    with folder() as path:
+        with serving("--data", path, "--slots", "8") as server:
+            pushed(server.client())
+            by_signal(server)
+        check(ended("--data", path, tenants=["other=1000"]), 10, "the log needs other settings", "acme")
+        check(ended("--data", path, "--slots", "1"), 10, "--slots")
+        with serving("--data", path, "--slots", "2", tenants=["acme=1000000", "new=5"]) as server:
+            by_signal(server)
+
+
+def each_program_ends_after_the_other_is_killed():
+    with folder() as path:
+        with serving("--data", path) as server:
+            os.kill(server.child(), signal.SIGKILL)
+            assert server.process.wait(timeout=20) == 1
+            assert "the store is gone: blobd ended: signal: 9 (SIGKILL): start again" in server.logged()
+        with serving("--data", path) as server:
+            child = server.child()
+            server.process.kill()
+            server.process.wait()
+            def is_gone():
+                with contextlib.suppress(FileNotFoundError):
+                    with open(f"/proc/{child}/stat") as file:
+                        return file.read().split()[2] == "Z"
+                return True
+            assert until(is_gone)
+
+
+def options_of_a_folder_need_one():
+    for words in (["--sync", "each"], ["--accept-loss-after", "1"], ["--min-free", "1"], ["--data", "x", "--sync", "often"]):
+        check(ended(*words), 2)
+
+
+def a_disk_that_is_almost_full_takes_no_content():
+    with folder() as path:
+        with serving("--data", path) as server:
+            client = server.client()
+            image, at = pushed(client), opened(client)
+            assert client.ask("PATCH", at, b"abc", PATCH).status == 202
+            push(client, "acme/one", b"unused")
+            by_signal(server)
+        with serving("--data", path, "--min-free", str(1 << 60), "--sync", "each") as server:
+            client = server.client()
+            blob = f"?digest={sha256(b'layer')}"
+            for method, where, body in (
+                    ("POST", "acme/one/blobs/uploads/", None), ("POST", f"acme/one/blobs/uploads/{blob}", b"layer"),
+                    ("POST", f"acme/two/blobs/uploads/?mount={sha256(b'none')}&from=acme/one", None),
+                    ("PATCH", at[len("/v2/"):], b"d"), ("PUT", f"{at[len('/v2/'):]}{blob}", b"d"),
+                    ("PUT", "acme/one/manifests/v2", image)):
+                answer = client.ask(method, f"/v2/{where}", body, PATCH if body and method != "PUT" else {})
+                assert (answer.status, answer.code(), answer["Retry-After"]) == (507, "UNSUPPORTED", "60"), (where, answer.status)
+                assert b"the disk of the registry is almost full: only reads and deletes are served" in answer.body
+            assert server.metric("registryd_uploads") == 1
+            assert pulled(client, "acme/one", "v1") == (image, MANIFEST) and client.ask("GET", at)["Range"] == "0-2"
+            assert client.ask("POST", f"/v2/acme/two/blobs/uploads/?mount={sha256(b'layer')}&from=acme/one").status == 201
+            assert client.ask("GET", f"/v2/acme/two/blobs/{sha256(b'layer')}").body == b"layer"
+            assert client.ask("DELETE", f"/v2/acme/one/blobs/{sha256(b'unused')}").status == 202
+            assert client.ask("DELETE", at).status == 204 and client.ask("DELETE", "/v2/acme/one/manifests/v1").status == 202
+            assert client.ask("GET", "/healthz").status == 200
+            by_signal(server)
+        with serving("--data", path, "--min-free", "0") as server:
+            pushed(server.client())
+
+
+@contextlib.contextmanager
+def small_disk(megabytes):
+    """Mounts a disk of this size, or returns nothing if that is not permitted."""
+    with tempfile.TemporaryDirectory() as path:
+        mounted = subprocess.run(["mount", "-t", "tmpfs", "-o", f"size={megabytes}m", "none", path], stderr=subprocess.DEVNULL)
+        try:
+            yield path if mounted.returncode == 0 else None
+        finally:
+            if mounted.returncode == 0:
+                subprocess.run(["umount", "-l", path], check=True)
+
+
+def a_disk_never_gets_full():
+    with small_disk(4) as path:
+        if path is None:
+            print("statuses: left out: a disk that gets full (cannot mount one)")
+            return
+        with serving("--data", f"{path}/registry", "--min-free", str(2 << 20)) as server:
+            client = server.client()
+            image, at = pushed(client), opened(client)
+            part, sent = random.Random(1).randbytes(50_000), 0
+            while (answer := client.ask("PATCH", at, part, PATCH)).status == 202:
+                sent += len(part)
+                assert sent < 4 << 20
+            assert answer.status == 507, answer.status
+            assert sent > 1 << 20 and client.ask("GET", at)["Range"] == f"0-{sent - 1}", sent
+            assert client.ask("PUT", "/v2/acme/one/manifests/v2", image, {"Content-Type": MANIFEST}).status == 507
+            assert pulled(client, "acme/one", "v1") == (image, MANIFEST)
+            assert client.ask("DELETE", at).status == 204
+            assert server.metric("registryd_free_bytes") < 2 << 20
+            by_signal(server)
+
+
+def a_full_disk_ends_both_and_loses_nothing():
+    """Without a minimum, the log fills the disk."""
+    with small_disk(2) as path:
+        if path is None:
+            print("statuses: left out: a full disk (cannot mount one)")
+            return
+        with open(f"{path}/ballast", "wb") as ballast:
+            ballast.write(bytes(1_700_000))
+        with serving("--data", f"{path}/registry", "--min-free", "0") as server:
+            client = server.client()
+            image, blobs = pushed(client), []
+            with contextlib.suppress(OSError):
+                for number in range(100):
+                    data = random.Random(number).randbytes(10_000)
+                    if client.ask("POST", f"/v2/acme/one/blobs/uploads/?digest={sha256(data)}", data, PATCH).status != 201:
+                        break
+                    blobs.append(data)
+            assert server.process.wait(timeout=20) == 9, server.logged()[-1000:]
+            assert "make room or replace the disk, and start again" in server.logged()
+        os.remove(f"{path}/ballast")
+        with serving("--data", f"{path}/registry") as server:
+            client = server.client()
+            assert pulled(client, "acme/one", "v1") == (image, MANIFEST) and len(blobs) > 10
+            for data in blobs:
+                assert client.ask("GET", f"/v2/acme/one/blobs/{sha256(data)}").body == data
+            by_signal(server)
+
+
+def main():
+    play("statuses", [
+        a_folder_that_cannot_be_used, a_folder_that_another_process_has, a_database_that_another_process_has,
+        a_folder_is_released_after_a_kill, a_damaged_log, a_damaged_database, a_log_that_cannot_be_written,
+        a_database_that_cannot_be_written, other_settings, each_program_ends_after_the_other_is_killed, options_of_a_folder_need_one,
+        a_disk_that_is_almost_full_takes_no_content, a_disk_never_gets_full, a_full_disk_ends_both_and_loses_nothing])
+
+
+if __name__ == "__main__":
+    main()
