@@ -1,7 +1,7 @@
 //! The tags and media types of the manifests that the store has. They are in this process, and in the database if there is
 //! one. A change is durable before it is visible.
 use crate::tags::Tags;
-use crate::writer::{Change, DatabaseEnded, Done, Writer};
+use crate::writer::{Change, DatabaseUnavailable, Done, Writer};
 use std::ops::Deref;
 use std::sync::Arc;
 
@@ -33,7 +33,7 @@ impl Catalog {
     }
 
     /// Adds a manifest that the store accepted, and its tag if it was put under one.
-    pub async fn put(&self, repo: &str, digest: &str, media_type: &str, tag: Option<&str>) -> Result<(), DatabaseEnded> {
+    pub async fn put(&self, repo: &str, digest: &str, media_type: &str, tag: Option<&str>) -> Result<(), DatabaseUnavailable> {
         let writer = match &self.writer {
             Some(writer) => writer,
             None => {
@@ -47,7 +47,7 @@ impl Catalog {
     }
 
     /// Removes a tag. Returns whether it was there.
-    pub async fn remove_tag(&self, repo: &str, tag: &str) -> Result<bool, DatabaseEnded> {
+    pub async fn remove_tag(&self, repo: &str, tag: &str) -> Result<bool, DatabaseUnavailable> {
         let writer = match &self.writer {
             Some(writer) if self.tags.by_tag(repo, tag).is_some() => writer,
             _ => return Ok(self.tags.remove_tag(repo, tag)),
@@ -58,7 +58,7 @@ impl Catalog {
 
     /// Marks a manifest that the store is going to be asked to delete. With a database, it and its tags are removed there
     /// before the store deletes it, so that no tag names a missing manifest after a crash.
-    pub async fn begin_removal(&self, repo: &str, digest: &str) -> Result<RemovedTags, DatabaseEnded> {
+    pub async fn begin_removal(&self, repo: &str, digest: &str) -> Result<RemovedTags, DatabaseUnavailable> {
         self.tags.mark(repo, digest, true);
         let writer = match &self.writer {
             Some(writer) if self.tags.is_known(repo, digest) => writer,
@@ -71,7 +71,7 @@ impl Catalog {
     }
 
     /// Shows a manifest and its tags again that the store did not delete. A tag that names another manifest by now stays.
-    pub async fn undo_removal(&self, repo: &str, digest: &str, tags: RemovedTags) -> Result<(), DatabaseEnded> {
+    pub async fn undo_removal(&self, repo: &str, digest: &str, tags: RemovedTags) -> Result<(), DatabaseUnavailable> {
         if let (Some(writer), Some(media_type)) = (&self.writer, self.tags.any_media_type(repo, digest)) {
             let (repo, digest) = (repo.to_string(), digest.to_string());
             writer.write(Change::RestoreManifest { repo, digest, media_type, tags: tags.0 }).await?;

@@ -305,7 +305,7 @@ fn make<'c>(transaction: &Transaction<'_>, change: &'c Change, uploads: &mut Upl
             uploads.end(repo, *number);
             Ok(())
         }
-        Change::PassUpload { .. } => Ok(()),
+        Change::PassUpload { .. } | Change::BeginUploads { .. } => Ok(()),
     }
 }
 

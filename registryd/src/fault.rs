@@ -3,7 +3,7 @@
 use crate::frames::{Reason, Refusal};
 use crate::limits::{tenant_of, Limit, MAX_MANIFESTS, MAX_REPOSITORIES, MAX_UPLOADS};
 use crate::store::StoreUnavailable;
-use crate::writer::DatabaseEnded;
+use crate::writer::DatabaseUnavailable;
 use hyper::header::{HeaderValue, CONTENT_TYPE};
 use hyper::{Body, Response, StatusCode};
 use serde_json::{json, Value};
@@ -163,9 +163,9 @@ impl From<StoreUnavailable> for Fault {
     }
 }
 
-impl From<DatabaseEnded> for Fault {
-    fn from(_: DatabaseEnded) -> Fault {
-        Fault::new(StatusCode::SERVICE_UNAVAILABLE, "UNSUPPORTED", "the database of the registry has ended")
+impl From<DatabaseUnavailable> for Fault {
+    fn from(_: DatabaseUnavailable) -> Fault {
+        Fault::new(StatusCode::SERVICE_UNAVAILABLE, "UNSUPPORTED", "the database has ended, or does not reply in time")
             .with_header("Retry-After", "1")
     }
 }

@@ -1,5 +1,5 @@
 //! The limits of a tenant. The store reports all of them with one status; this module finds the one that a call has reached.
-use crate::writer::{Change, DatabaseEnded, Writer};
+use crate::writer::{Change, DatabaseUnavailable, Writer};
 use std::collections::{HashMap, HashSet};
 use std::sync::{Arc, Mutex};
 
@@ -30,6 +30,8 @@ pub struct Repositories {
     writer: Option<Arc<Writer>>,
     /// The repositories that are recorded because of a request in progress, with the number of these requests.
     entering: Mutex<HashMap<String, usize>>,
+    /// The tenants for which the database has a number up to which all uploads are recorded.
+    numbered: Mutex<HashSet<String>>,
 }
 
 /// A request that may create a repository. If the store refuses all such requests, the record of the repository is removed.
@@ -53,14 +55,41 @@ impl Repositories {
     }
 
     /// Begins a request that may create a repository. With a database, the repository is recorded when this returns.
-    pub async fn enter<'r>(&'r self, repo: &'r str) -> Result<Entering<'r>, DatabaseEnded> {
+    pub async fn enter<'r>(&'r self, repo: &'r str) -> Result<Entering<'r>, DatabaseUnavailable> {
         let mut entering = Entering { repositories: self, repo, is_counted: false, is_refused: false };
         if let Some(writer) = self.writer.as_ref().filter(|_| !self.has(repo)) {
             *self.entering.lock().unwrap().entry(repo.to_string()).or_default() += 1;
             entering.is_counted = true;
-            writer.write(Change::AddRepository { repo: repo.to_string() }).await?;
+            if let Err(error) = writer.write(Change::AddRepository { repo: repo.to_string() }).await {
+                entering.is_refused = true;
+                return Err(error);
+            }
         }
         Ok(entering)
+    }
+
+    /// Returns whether the numbers of a tenant's uploads have to be found before one is opened.
+    pub fn wants_number(&self, tenant: &str) -> bool {
+        self.writer.is_some() && !self.numbered.lock().unwrap().contains(tenant)
+    }
+
+    /// Records that the store used all numbers of a repository's tenant up to this one.
+    pub async fn begin_numbers(&self, repo: &str, number: u32) -> Result<(), DatabaseUnavailable> {
+        if let Some(writer) = &self.writer {
+            writer.write(Change::BeginUploads { repo: repo.to_string(), number }).await?;
+            self.set_numbered(tenant_of(repo));
+        }
+        Ok(())
+    }
+
+    /// Notes that the database has a number of a tenant.
+    pub fn set_numbered(&self, tenant: &str) {
+        self.numbered.lock().unwrap().insert(tenant.to_string());
+    }
+
+    /// Returns whether repositories are recorded in a database.
+    pub fn are_recorded(&self) -> bool {
+        self.writer.is_some()
     }
 
     /// Returns whether the store has a repository.

@@ -208,7 +208,8 @@ async fn start_store(options: &Options, writer: Option<Arc<Writer>>) -> Result<(
 /// Starts the store, reads the database if there is one, and makes the registry over both.
 async fn start(options: &Options, access: Access) -> Result<Started, Failure> {
     let metrics = Metrics::new();
-    let writer = options.data.as_ref().map(|_| Writer::new(metrics.add_folder(options.is_durable())));
+    let limit = Duration::from_secs(options.call_s);
+    let writer = options.data.as_ref().map(|_| Writer::new(metrics.add_folder(options.is_durable()), limit));
     let had_log = options.data.as_ref().map_or(false, |folder| folder.join("log").exists());
     let (store, mut child) = start_store(options, writer.clone()).await?;
     let kept = match &options.data {
@@ -231,6 +232,7 @@ async fn start(options: &Options, access: Access) -> Result<Started, Failure> {
             uploads.add_known(&upload.repo, upload.number, upload.received);
         }
         kept.repositories.iter().for_each(|repo| repositories.add(repo));
+        kept.recorded.keys().for_each(|tenant| repositories.set_numbered(tenant));
         tags = Arc::new(kept.tags);
         database = Some((writer.clone(), writer.start(kept.database, tags.clone(), kept.recorded)?));
     }

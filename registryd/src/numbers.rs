@@ -16,6 +16,13 @@ impl Numbers {
         Numbers { upto, later: BTreeSet::new() }
     }
 
+    /// Notes that all numbers up to this one were seen.
+    pub fn see_all(&mut self, upto: u32) {
+        self.upto = self.upto.max(upto);
+        self.later.retain(|number| *number > upto);
+        self.see(0);
+    }
+
     /// Notes that a number was seen. Returns whether all numbers up to a greater one than before were seen now.
     pub fn see(&mut self, number: u32) -> bool {
         if number > self.upto {
@@ -46,6 +53,10 @@ mod tests {
         assert!(numbers.see(5));
         assert_eq!(numbers, Numbers::after(7));
         assert!(!numbers.see(7));
+        let mut begun = Numbers::default();
+        assert!(!begun.see(7) && !begun.see(9));
+        begun.see_all(6);
+        assert_eq!((begun.upto(), begun.see(8), begun.upto()), (7, true, 9));
         let mut last = Numbers::after(u32::MAX - 1);
         assert!(last.see(u32::MAX) && !last.see(u32::MAX));
     }

@@ -6,10 +6,11 @@ use crate::exchange::Exchange;
 use crate::fault::Fault;
 use crate::folder::Folder;
 use crate::frames::{Reason, Refusal};
-use crate::limits::{Entering, Limit, Repositories};
+use crate::limits::{tenant_of, Entering, Limit, Repositories};
 use crate::memory::{Memory, Reserved};
 use crate::metrics::Metrics;
 use crate::path::{decoded, query_value, Target};
+use crate::startup::next_number;
 use crate::store::{StoreUnavailable, Store};
 use crate::tenants;
 use crate::turns::Turns;
@@ -140,11 +141,28 @@ impl Call {
 
     /// Begins a call that may create the repository. If no tenant can have it, the store refuses the call.
     pub async fn enter_repository(&self) -> Result<Option<Entering<'_>>, Fault> {
-        let can_exist = tenants::is_repository(&self.repo) && self.registry.store.has_tenant(&self.repo);
-        match can_exist {
-            true => Ok(Some(self.registry.repositories.enter(&self.repo).await?)),
-            false => Ok(None),
+        let Registry { repositories, store, .. } = &*self.registry;
+        if !repositories.are_recorded() || !tenants::is_repository(&self.repo) || !store.has_tenant(&self.repo) {
+            return Ok(None);
         }
+        let entering = repositories.enter(&self.repo).await?;
+        if repositories.wants_number(tenant_of(&self.repo)) {
+            self.find_number().await?;
+        }
+        Ok(Some(entering))
+    }
+
+    /// Finds and records the next number of the tenant's uploads, before the first one is opened.
+    async fn find_number(&self) -> Result<(), Fault> {
+        let Registry { repositories, store, turns, .. } = &*self.registry;
+        let tenant = tenant_of(&self.repo);
+        let _turn = turns.take(tenant, "").await;
+        if repositories.wants_number(tenant) {
+            if let Some(number) = next_number(store, &[&self.repo]).await? {
+                repositories.begin_numbers(&self.repo, number).await?;
+            }
+        }
+        Ok(())
     }
 
     /// Returns the result of a call that opens an upload and that `enter_repository` began.

@@ -6,7 +6,7 @@ use crate::store_connection::{self, Frame, PeerEnds, StoreConnection, PIPE_LEN};
 use crate::pool::{ConnectionPool, PoolError, PooledConnection};
 use crate::process;
 use crate::undo::{undo_on, Undo};
-use crate::writer::{Change, Writer};
+use crate::writer::Writer;
 use bytes::Bytes;
 use std::collections::HashMap;
 use std::ffi::OsString;
@@ -249,8 +249,8 @@ impl Store {
                 tokio::spawn(async move {
                     if let (Ok(answers), mut pooled) = call.await {
                         let undone = undo_on(&mut pooled, undo, &repo, &answers).await;
-                        if let (Some(writer), Some(number)) = (writer, undone) {
-                            writer.note(Change::PassUpload { repo, number });
+                        if let (Some(writer), Some(change)) = (writer, undone) {
+                            writer.note(change);
                         }
                     }
                 });

@@ -2,6 +2,7 @@
 use crate::frames::{Command, Reply, Request};
 use crate::pool::PooledConnection;
 use crate::store_connection::{Frame, ReplyResult};
+use crate::writer::Change;
 
 /// The action that undoes a call if its reply arrives after the caller stopped waiting.
 #[derive(Clone, Copy)]
@@ -28,16 +29,21 @@ impl Undo {
     }
 }
 
-/// Undoes the call of the first reply, on its connection. Returns the number of the session that it abandoned, if it did.
+/// Undoes the call of the first reply, on its connection. Returns what to record about the session that the call opened, if it
+/// opened one.
 pub async fn undo_on(
     pooled: &mut PooledConnection,
     undo: Undo,
     repo: &str,
     answers: &[ReplyResult],
-) -> Option<u32> {
+) -> Option<Change> {
     let reply = answers.first().and_then(|answer| answer.as_ref().ok())?;
     let request = undo.request(repo, reply)?;
     let answers = pooled.exchange(&[Frame::from(&request)]).await.ok()?;
-    let is_abandoned = matches!(undo, Undo::Session) && answers.iter().all(|answer| answer.is_ok());
-    is_abandoned.then(|| request.number)
+    let (repo, number) = (repo.to_string(), request.number);
+    match (undo, answers.first()) {
+        (Undo::Session, Some(Ok(_))) => Some(Change::PassUpload { repo, number }),
+        (Undo::Session, Some(Err(_))) => Some(Change::OpenUpload { repo, number }),
+        _ => None,
+    }
 }

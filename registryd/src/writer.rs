@@ -32,6 +32,8 @@ pub enum Change {
     EndUpload { repo: String, number: u32 },
     /// The store used this number for an upload that is not open.
     PassUpload { repo: String, number: u32 },
+    /// The store used all numbers of a tenant up to this one before, or for an upload that is not open.
+    BeginUploads { repo: String, number: u32 },
 }
 
 /// What a change did to the tables of this process.
@@ -42,9 +44,9 @@ pub enum Done {
     Removed(Vec<String>),
 }
 
-/// The database has failed or is closed: a change may be there or not after a restart.
+/// The database has failed, is closed, or does not reply in time: a change may be there or not after a restart.
 #[derive(Debug, PartialEq, Eq)]
-pub struct DatabaseEnded;
+pub struct DatabaseUnavailable;
 
 impl Change {
     /// Makes a durable change in the tables of this process.
@@ -61,10 +63,17 @@ impl Change {
         Done::Nothing
     }
 
-    /// Returns the upload whose number the store has used.
-    fn number(&self) -> Option<(&str, u32)> {
+    /// Notes the number of an upload. Returns the tenant if the number changed up to which all are recorded.
+    fn see_number(&self, numbers: &mut HashMap<String, Numbers>) -> Option<&str> {
         match self {
-            Change::OpenUpload { repo, number } | Change::PassUpload { repo, number } => Some((tenant_of(repo), *number)),
+            Change::OpenUpload { repo, number } | Change::PassUpload { repo, number } => {
+                let tenant = tenant_of(repo);
+                numbers.entry(tenant.to_string()).or_default().see(*number).then(|| tenant)
+            }
+            Change::BeginUploads { repo, number } => {
+                numbers.entry(tenant_of(repo).to_string()).or_default().see_all(*number);
+                Some(tenant_of(repo))
+            }
             _ => None,
         }
     }
@@ -94,6 +103,8 @@ pub struct Writer {
     /// Notified after a failure.
     failed: Notify,
     commits: IntCounter,
+    /// The time limit of a change.
+    limit: Duration,
 }
 
 /// The thread, and the database that it has opened.
@@ -101,8 +112,8 @@ pub struct WriterThread(JoinHandle<rusqlite::Result<()>>);
 
 impl Writer {
     /// Makes a writer that counts its transactions. Its thread is not running yet.
-    pub fn new(commits: IntCounter) -> Arc<Writer> {
-        Arc::new(Writer { state: Mutex::default(), ready: Condvar::new(), failed: Notify::new(), commits })
+    pub fn new(commits: IntCounter, limit: Duration) -> Arc<Writer> {
+        Arc::new(Writer { state: Mutex::default(), ready: Condvar::new(), failed: Notify::new(), commits, limit })
     }
 
     /// Starts the thread. `recorded` has, for each tenant, the number up to which its uploads are recorded.
@@ -138,11 +149,16 @@ impl Writer {
         }
     }
 
-    /// Makes a change. Returns after it is durable and made in the tables of this process.
-    pub async fn write(&self, change: Change) -> Result<Done, DatabaseEnded> {
+    /// Makes a change. Returns after it is durable and made in the tables of this process. A change that is late is made
+    /// nevertheless.
+    pub async fn write(&self, change: Change) -> Result<Done, DatabaseUnavailable> {
         let (reply, made) = oneshot::channel();
         self.add(Waiting { change, reply: Some(reply) });
-        made.await.map_err(|_| DatabaseEnded)
+        let made = tokio::time::timeout(self.limit, made).await.map_err(|_| {
+            tracing::warn!("the database does not reply in time");
+            DatabaseUnavailable
+        })?;
+        made.map_err(|_| DatabaseUnavailable)
     }
 
     /// Makes a change at some later time. It is lost if the program or the machine stops before.
@@ -239,12 +255,7 @@ impl Drop for FailOnPanic<'_> {
 
 /// Notes the numbers of uploads in changes. Returns the tenants whose number changed up to which all are recorded.
 fn see_numbers(numbers: &mut HashMap<String, Numbers>, batch: &[Waiting]) -> Vec<(String, u32)> {
-    let mut changed = BTreeSet::new();
-    for (tenant, number) in batch.iter().filter_map(|waiting| waiting.change.number()) {
-        if numbers.entry(tenant.to_string()).or_default().see(number) {
-            changed.insert(tenant);
-        }
-    }
+    let changed: BTreeSet<&str> = batch.iter().filter_map(|waiting| waiting.change.see_number(numbers)).collect();
     changed.into_iter().map(|tenant| (tenant.to_string(), numbers[tenant].upto())).collect()
 }
 
@@ -260,7 +271,7 @@ mod tests {
     }
 
     fn started(folder: &std::path::Path) -> (Arc<Writer>, WriterThread, Arc<Tags>) {
-        let writer = Writer::new(IntCounter::new("commits", "Transactions.").unwrap());
+        let writer = Writer::new(IntCounter::new("commits", "Transactions.").unwrap(), Duration::from_secs(60));
         let tags = Arc::new(Tags::default());
         let (database, _) = Database::open(folder, true).unwrap();
         let thread = writer.start(database, tags.clone(), HashMap::new()).unwrap();
@@ -283,11 +294,13 @@ mod tests {
         assert_eq!(writer.write(remove.clone()).await, Ok(Done::Removed(vec!["v1".to_string()])));
         assert_eq!(writer.write(remove).await, Ok(Done::Removed(Vec::new())));
         writer.note(Change::PassUpload { repo: "acme/web".to_string(), number: 2 });
+        writer.note(Change::BeginUploads { repo: "other/web".to_string(), number: 7 });
+        writer.note(Change::OpenUpload { repo: "other/web".to_string(), number: 9 });
         assert_eq!(writer.end(thread).await, Ok(()));
-        assert_eq!(writer.write(put("v2")).await, Err(DatabaseEnded));
+        assert_eq!(writer.write(put("v2")).await, Err(DatabaseUnavailable));
         let rows = Database::open(&folder, true).unwrap().0.read().unwrap();
-        assert_eq!((rows.tags.len(), rows.manifests.len(), rows.uploads.len()), (0, 1, 1));
-        assert_eq!(rows.recorded, [("acme".to_string(), 2)].into());
+        assert_eq!((rows.tags.len(), rows.manifests.len(), rows.uploads.len()), (0, 1, 2));
+        assert_eq!(rows.recorded, [("acme".to_string(), 2), ("other".to_string(), 7)].into());
         std::fs::remove_dir_all(folder).unwrap();
     }
 
@@ -309,7 +322,7 @@ mod tests {
         let (writer, thread, tags) = started(&folder);
         assert_eq!(writer.write(put("v1")).await, Ok(Done::Nothing));
         writer.fail("the disk is full".to_string());
-        assert_eq!(writer.write(put("v2")).await, Err(DatabaseEnded));
+        assert_eq!(writer.write(put("v2")).await, Err(DatabaseUnavailable));
         assert_eq!(writer.failure().await, "the disk is full");
         assert_eq!(writer.end(thread).await, Err("the disk is full".to_string()));
         assert_eq!(tags.by_tag("acme/web", "v2"), None);

@@ -71,7 +71,7 @@ class Server:
         command = [REGISTRYD, "--listen", "127.0.0.1:0", "--blobd", BLOBD, *words, *tenants]
         # SIGXFSZ stays ignored, as in Python, so that a test can limit the length of a file that a program writes.
         self.process = subprocess.Popen(command, stderr=self.log, restore_signals=False)
-        self.address = self.wait_for(r"listening address=(\S+)")
+        self.address = self.wait_for(r"listening address=(\S+)", 60)
 
     def logged(self):
         """Returns the log. Its writers share the offset of the file, so that is not moved."""

@@ -1,11 +1,14 @@
 #!/usr/bin/env python3
-"""Tests how a registry with a folder ends, each with its exit status and its message, and what it does if its disk is almost
-full. A test of a full disk is left out if it may not mount one."""
+"""Tests how a registry with a folder ends, each with its exit status and its message, what it does if its disk is almost full, and
+if a call to the store fails. A test of a full disk is left out if it may not mount one."""
 import contextlib, os, random, re, resource, signal, subprocess, tempfile, time
 
-from playing import play, until
+from playing import play, serving_stub, until
 from restarts import PATCH, by_signal, database, folder, opened, pulled, push, pushed
 from server import BLOBD, MANIFEST, REGISTRYD, serving, sha256
+
+
+START, DELETE_MANIFEST = "1", "10"
 
 
 def ended(*words, tenants=("acme=1000000000", "other=1000000000", "poor=1000000")):
@@ -245,12 +248,67 @@ def a_full_disk_ends_both_and_loses_nothing():
             by_signal(server)
 
 
+@contextlib.contextmanager
+def serving_stub_with(path, rules, *words):
+    os.makedirs(path)
+    with serving_stub(rules, "--data", path, *words) as server:
+        yield server
+
+
+def rows_of(path, query):
+    with database(path) as rows:
+        return rows.execute(query).fetchall()
+
+
+def a_manifest_that_the_store_keeps_is_shown_again():
+    """The store refuses to delete it, after its rows were removed."""
+    memory = 17
+    with folder() as path:
+        with serving_stub_with(path, {DELETE_MANIFEST: {"status": memory}}) as server:
+            client = server.client()
+            image, digest = pushed(client), sha256(pushed(client, tag="v2"))
+            assert client.ask("DELETE", f"/v2/acme/one/manifests/{digest}").status == 503
+            assert [pulled(client, "acme/one", name) for name in ("v1", "v2", digest)] == [(image, MANIFEST)] * 3
+            assert rows_of(path, "SELECT tag, digest FROM tags ORDER BY tag") == [("v1", digest), ("v2", digest)]
+            assert client.ask("DELETE", "/v2/acme/one/manifests/v1").status == 202
+            assert rows_of(path, "SELECT tag FROM tags") == [("v2",)]
+
+
+def a_manifest_whose_delete_is_late_has_no_tag():
+    with folder() as path:
+        with serving_stub_with(path, {DELETE_MANIFEST: {"late": 2}}, "--call-s", "1") as server:
+            client = server.client()
+            image = pushed(client)
+            assert client.ask("DELETE", f"/v2/acme/one/manifests/{sha256(image)}").status == 503
+            assert pulled(client, "acme/one", "v1") == pulled(client, "acme/one", sha256(image)) == 404
+            assert rows_of(path, "SELECT count(*) FROM manifests") == [(0,)]
+            assert client.ask("PUT", "/v2/acme/one/manifests/v1", image, {"Content-Type": MANIFEST}).status == 201
+            assert pulled(client, "acme/one", "v1") == (image, MANIFEST)
+            assert rows_of(path, "SELECT tag FROM tags") == [("v1",)]
+
+
+def the_number_of_an_upload_that_is_undone_is_recorded():
+    """The reply to its start is late, so it is abandoned. Later numbers are recorded too."""
+    with folder() as path:
+        with serving_stub_with(path, {f"{START} acme/slow": {"late": 1.5}}, "--call-s", "1", "--lines", "4") as server:
+            client = server.client()
+            opened(client)
+            assert client.ask("POST", "/v2/acme/slow/blobs/uploads/").status == 503
+            opened(client)
+            # The number 1 is that of the upload that finds the tenant's next number.
+            assert until(lambda: rows_of(path, "SELECT name, recorded FROM tenants") == [("acme", 4)])
+            assert rows_of(path, "SELECT number FROM uploads ORDER BY number") == [(2,), (4,)]
+            assert server.metric("registryd_uploads") == 2
+
+
 def main():
     play("statuses", [
         a_folder_that_cannot_be_used, a_folder_that_another_process_has, a_database_that_another_process_has,
         a_folder_is_released_after_a_kill, a_damaged_log, a_damaged_database, a_log_that_cannot_be_written,
         a_database_that_cannot_be_written, other_settings, each_program_ends_after_the_other_is_killed, options_of_a_folder_need_one,
-        a_disk_that_is_almost_full_takes_no_content, a_disk_never_gets_full, a_full_disk_ends_both_and_loses_nothing])
+        a_disk_that_is_almost_full_takes_no_content, a_disk_never_gets_full, a_full_disk_ends_both_and_loses_nothing,
+        a_manifest_that_the_store_keeps_is_shown_again, a_manifest_whose_delete_is_late_has_no_tag,
+        the_number_of_an_upload_that_is_undone_is_recorded])
 
 
 if __name__ == "__main__":
