@@ -10,7 +10,6 @@ use crate::limits::{tenant_of, Entering, Limit, Repositories};
 use crate::memory::{Memory, Reserved};
 use crate::metrics::Metrics;
 use crate::path::{decoded, query_value, Target};
-use crate::startup::next_number;
 use crate::store::{StoreUnavailable, Store};
 use crate::tenants;
 use crate::turns::Turns;
@@ -152,14 +151,20 @@ impl Call {
         Ok(Some(entering))
     }
 
-    /// Finds and records the next number of the tenant's uploads, before the first one is opened.
+    /// Finds and records the next number of the tenant's uploads before the first one is opened, by an upload that is
+    /// abandoned.
     async fn find_number(&self) -> Result<(), Fault> {
-        let Registry { repositories, store, turns, .. } = &*self.registry;
+        let Registry { repositories, store, uploads, turns, .. } = &*self.registry;
         let tenant = tenant_of(&self.repo);
         let _turn = turns.take(tenant, "").await;
-        if repositories.wants_number(tenant) {
-            if let Some(number) = next_number(store, &[&self.repo]).await? {
-                repositories.begin_numbers(&self.repo, number).await?;
+        if !repositories.wants_number(tenant) {
+            return Ok(());
+        }
+        if let Ok(number) = store.start_upload(&self.repo).await? {
+            let name = uploads.add(&self.repo, number);
+            repositories.begin_numbers(&self.repo, number.saturating_sub(1)).await?;
+            if store.abandon(&self.repo, number).await?.is_ok() {
+                uploads.remove(&name);
             }
         }
         Ok(())

@@ -211,7 +211,7 @@ async fn search(store: &Store, repos: &[&str], numbers: &[u32]) -> Result<Vec<Fo
 
 /// Returns a tenant's next session number, by opening a session and abandoning it. Returns `None` if the store opens none,
 /// because the maximum number is open.
-pub async fn next_number(store: &Store, repos: &[&str]) -> Result<Option<u32>, StoreUnavailable> {
+async fn next_number(store: &Store, repos: &[&str]) -> Result<Option<u32>, StoreUnavailable> {
     for repo in repos {
         if let Ok(number) = store.start_upload(repo).await? {
             return match store.abandon(repo, number).await? {

@@ -1,4 +1,4 @@
-"""Starts a registryd on a free port, and sends requests to it."""
+"""Starts a registryd on a free port, and sends requests to it. If WITH_FOLDER is set, it keeps its data in a new folder."""
 import contextlib, hashlib, http.client, os, re, signal, socket, subprocess, tempfile, time
 
 TOP = os.path.dirname(os.path.dirname(os.path.abspath(__file__)))
@@ -68,6 +68,9 @@ class Server:
 
     def __init__(self, *words, tenants=("acme=1000000000", "other=1000000000", "poor=1000000")):
         self.log = tempfile.TemporaryFile()
+        if "WITH_FOLDER" in os.environ:
+            self.folder = tempfile.TemporaryDirectory()
+            words = ("--data", self.folder.name, *words)
         command = [REGISTRYD, "--listen", "127.0.0.1:0", "--blobd", BLOBD, *words, *tenants]
         # SIGXFSZ stays ignored, as in Python, so that a test can limit the length of a file that a program writes.
         self.process = subprocess.Popen(command, stderr=self.log, restore_signals=False)
