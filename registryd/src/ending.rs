@@ -32,7 +32,9 @@ impl Failure {
                      the loss with --accept-loss-after and the byte that blobd names")
             }
             (Some(9), _) => (9, "the log cannot be written any more: make room or replace the disk, and start again"),
-            (Some(10), _) => (10, "the log needs other settings: start with the tenant, quota, --slots or --max-blob that blobd names"),
+            (Some(10), _) => {
+                (10, "the log needs other settings: start with the tenant, quota, --slots or --max-blob that blobd names")
+            }
             _ => (1, "see its message"),
         };
         Failure { status, text: format!("{what}: blobd ended: {ended}: {advice}") }

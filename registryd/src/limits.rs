@@ -97,7 +97,7 @@ impl Repositories {
         self.by_tenant.lock().unwrap().get(tenant_of(repo)).map_or(false, |repos| repos.contains(repo))
     }
 
-    /// Adds a repository after the store accepted a call that may have created it.
+    /// Adds a repository after the store accepted a call that may have created it. With a database, it has to be recorded.
     pub fn add(&self, repo: &str) {
         let mut by_tenant = self.by_tenant.lock().unwrap();
         match by_tenant.get_mut(tenant_of(repo)) {

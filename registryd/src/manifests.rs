@@ -119,6 +119,8 @@ pub async fn put(call: &Call, reference: &str, content: &mut RequestContent) -> 
     let media_type = media_type_to_store(call, &digest, given)?;
     call.check_limit(call.registry.store.put_manifest(&call.repo, &bytes).await?, Limit::Manifests)?;
     call.registry.tags.put(&call.repo, &digest, &media_type, tag).await?;
+    // With a database, the repository is recorded there from now on.
+    call.registry.repositories.add(&call.repo);
     drop(turn);
     let location = format!("/v2/{}/manifests/{digest}", call.repo);
     empty(StatusCode::CREATED, &[("Location", &location), ("Docker-Content-Digest", &digest)])

@@ -117,15 +117,11 @@ impl Call {
         query_value(self.head.uri.query(), name)
     }
 
-    /// Returns the result of a call that may have created the repository. A limit that the call has reached is named in the
-    /// failure.
+    /// Returns the result of a call that has a limit. A limit that the call has reached is named in the failure.
     pub fn check_limit<T>(&self, answer: Result<T, Refusal>, own: Limit) -> Result<T, Fault> {
         let repositories = &self.registry.repositories;
         match answer {
-            Ok(answer) => {
-                repositories.add(&self.repo);
-                Ok(answer)
-            }
+            Ok(answer) => Ok(answer),
             Err(Refusal { reason: Reason::LimitReached, .. }) => {
                 Err(Fault::limit(repositories.reached(&self.repo, own), &self.repo))
             }
@@ -172,8 +168,10 @@ impl Call {
 
     /// Returns the result of a call that opens an upload and that `enter_repository` began.
     pub fn check_entered<T>(&self, answer: Result<T, Refusal>, entering: &mut Option<Entering<'_>>) -> Result<T, Fault> {
-        if let (Err(_), Some(entering)) = (&answer, entering) {
-            entering.refused();
+        match (&answer, entering) {
+            (Err(_), Some(entering)) => entering.refused(),
+            (Err(_), None) => {}
+            (Ok(_), _) => self.registry.repositories.add(&self.repo),
         }
         self.check_limit(answer, Limit::Uploads)
     }

@@ -56,7 +56,7 @@ pub async fn recover(store: &Store, folder: PathBuf, is_synced: bool, had_log: b
     let (mut database, rows) = blocking(move || {
         let (mut database, existed) = Database::open(&folder, is_synced)?;
         if had_log && !existed {
-            tracing::warn!("the folder has a log but had no database: tags of before are unknown, manifests are found by digest");
+            tracing::warn!("the folder has a log but had no database: tags are unknown, manifests are found by digest");
         }
         let rows = database.read()?;
         Ok((database, rows))
@@ -81,10 +81,11 @@ pub async fn recover(store: &Store, folder: PathBuf, is_synced: bool, had_log: b
     }
     let (database, secret) = blocking(move || {
         let failed = |error: rusqlite::Error| Failure::of_database(&error.to_string());
-        database.commit(changes.iter(), &found).map_err(failed)?;
+        // The number is recorded after the secret is another one. If a crash comes between, the next start makes one again.
         if have_numbers_returned {
             secret = database.renew_secret().map_err(failed)?;
         }
+        database.commit(changes.iter(), &found).map_err(failed)?;
         Ok((database, secret))
     })
     .await?;

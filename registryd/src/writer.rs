@@ -14,6 +14,9 @@ use tokio::sync::{oneshot, Notify};
 /// The time after which changes are written that no request waits for.
 const REST: Duration = Duration::from_secs(1);
 
+/// The time that the thread has to write the last changes.
+const END_TIME: Duration = Duration::from_secs(8);
+
 /// A change of the database.
 #[derive(Clone, Debug, PartialEq, Eq)]
 pub enum Change {
@@ -181,11 +184,12 @@ impl Writer {
     pub async fn end(&self, thread: WriterThread) -> Result<(), String> {
         self.state().is_closed = true;
         self.ready.notify_one();
-        let joined = tokio::task::spawn_blocking(move || thread.0.join()).await;
-        match joined {
-            Ok(Ok(Ok(()))) => self.state().failure.clone().map_or(Ok(()), Err),
-            Ok(Ok(Err(error))) => Err(error.to_string()),
-            _ => Err("a bug in this program stopped its thread".to_string()),
+        let joined = tokio::task::spawn_blocking(move || thread.0.join());
+        match tokio::time::timeout(END_TIME, joined).await {
+            Ok(Ok(Ok(Ok(())))) => self.state().failure.clone().map_or(Ok(()), Err),
+            Ok(Ok(Ok(Err(error)))) => Err(error.to_string()),
+            Ok(_) => Err("a bug in this program stopped its thread".to_string()),
+            Err(_) => Err(format!("it did not end within {} s", END_TIME.as_secs())),
         }
     }
 
