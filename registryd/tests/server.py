@@ -50,31 +50,38 @@ class Client:
         self.connection = http.client.HTTPConnection(address, timeout=60)
         self.headers = dict(headers)
 
-    def ask(self, method, path, body=None, headers=()):
+    def ask_once(self, method, path, body=None, headers=()):
+        """Sends a request, and returns the response."""
         headers = {**self.headers, **dict(headers)}
-        is_chunked = "Transfer-Encoding" in headers
+        self.connection.request(method, path, body, headers, encode_chunked="Transfer-Encoding" in headers)
+        response = self.connection.getresponse()
+        return Answer(response, response.read())
+
+    def ask(self, method, path, body=None, headers=()):
+        """The same, and once more if the server has closed the connection."""
         try:
-            self.connection.request(method, path, body, headers, encode_chunked=is_chunked)
-            response = self.connection.getresponse()
+            return self.ask_once(method, path, body, headers)
         except (http.client.RemoteDisconnected, BrokenPipeError, ConnectionResetError):
             self.connection.close()
-            self.connection.request(method, path, body, headers, encode_chunked=is_chunked)
-            response = self.connection.getresponse()
-        return Answer(response, response.read())
+            return self.ask_once(method, path, body, headers)
 
 
 class Server:
     """A registryd and its blobd."""
 
-    def __init__(self, *words, tenants=("acme=1000000000", "other=1000000000", "poor=1000000")):
+    def __init__(self, *words, tenants=("acme=1000000000", "other=1000000000", "poor=1000000"), **options):
         self.log = tempfile.TemporaryFile()
         if "WITH_FOLDER" in os.environ:
             self.folder = tempfile.TemporaryDirectory()
             words = ("--data", self.folder.name, *words)
         command = [REGISTRYD, "--listen", "127.0.0.1:0", "--blobd", BLOBD, *words, *tenants]
         # SIGXFSZ stays ignored, as in Python, so that a test can limit the length of a file that a program writes.
-        self.process = subprocess.Popen(command, stderr=self.log, restore_signals=False)
-        self.address = self.wait_for(r"listening address=(\S+)", 60)
+        self.process = subprocess.Popen(command, stderr=self.log, restore_signals=False, **options)
+        self.listens()
+
+    def listens(self, seconds=60):
+        """Waits until it listens on an address."""
+        self.address = self.wait_for(r"listening address=(\S+)", seconds)
 
     def logged(self):
         """Returns the log. Its writers share the offset of the file, so that is not moved."""

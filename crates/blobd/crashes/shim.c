@@ -1,13 +1,19 @@
-/* A library for LD_PRELOAD that watches the calls which a blobd makes on its log, for crash_tests and bench/durable.py.
+/* A library for LD_PRELOAD that watches the calls which a blobd makes on its log, and a registryd on its database, for crash_tests,
+   bench/durable.py and registryd/tests/crashes.py.
 
    The environment says what it does:
      CRASH_TRACE=PATH      appends a line for each call that succeeded: `sync NAME LENGTH` (of the file when the call began),
                            `cut NAME LENGTH` or `rename OLD NEW`. NAME is `log`, `log.new` or the path of a folder. The line is
                            written before the call returns
+     CRASH_WRITES=PATH     appends each change of a file of the database that succeeded: a line `write NAME OFFSET LENGTH` and the
+                           bytes written, `sync NAME LENGTH`, `cut NAME LENGTH` or `unlink NAME 0`. NAME begins with `registry.db`.
+                           Appends `sync PATH LENGTH` for the sync of a folder
      CRASH_KILL=1          kills the program after a log was renamed
-     CRASH_SYNC_MS=MS      each sync of the log takes MS milliseconds longer
+     CRASH_SYNC_MS=MS      each sync of the log or of the database takes MS milliseconds longer
      CRASH_FAIL_SYNC=N     the N-th sync of the log, counted from 1, fails with EIO
-     CRASH_FAIL_WRITE=N    the N-th write to the log writes one half of its bytes, and the write after it fails with ENOSPC */
+     CRASH_FAIL_WRITE=N    the N-th write to the log writes one half of its bytes, and the write after it fails with ENOSPC
+     CRASH_FAIL_DATABASE_SYNC=N, CRASH_FAIL_DATABASE_WRITE=N
+                           the same for the files of the database */
 #define _GNU_SOURCE
 #include <dlfcn.h>
 #include <errno.h>
@@ -24,7 +30,8 @@
 
 #define REAL(name) ((__typeof__(&name)) dlsym(RTLD_NEXT, #name))
 
-static atomic_int syncs, writes;
+/* The syncs and writes of the log, and of the database. */
+static atomic_int syncs[2], writes[2];
 
 /* The number of an environment variable, or 0. */
 static long number_of(const char *name) {
@@ -39,7 +46,15 @@ static const char *log_name(const char *path) {
     return !strcmp(name, "log") || !strcmp(name, "log.new") ? name : NULL;
 }
 
-/* The name of an open log, the path of a folder, or NULL. `path` has room for 4096 bytes. Writes its length. */
+/* The last component of a path, if it is that of a file of a database. */
+static const char *database_name(const char *path) {
+    const char *slash = strrchr(path, '/');
+    const char *name = slash ? slash + 1 : path;
+    return strncmp(name, "registry.db", 11) ? NULL : name;
+}
+
+/* The name of an open log or of an open file of a database, the path of a folder, or NULL. `path` has room for 4096 bytes. Writes its
+   length. */
 static const char *name_of(int fd, char *path, long long *length) {
     struct stat file;
     char link[64];
@@ -51,27 +66,31 @@ static const char *name_of(int fd, char *path, long long *length) {
     if (count < 0)
         return NULL;
     path[count] = 0;
-    return S_ISDIR(file.st_mode) ? path : log_name(path);
+    if (S_ISDIR(file.st_mode))
+        return path;
+    const char *name = log_name(path);
+    return name ? name : database_name(path);
 }
 
-/* Whether a descriptor is that of a log. */
-static int is_log(int fd) {
-    char path[4096];
-    long long length;
-    const char *name = name_of(fd, path, &length);
-    return name && *name != '/';
-}
-
-/* Appends a line to the trace. A test without its trace would be wrong, so the program ends if that fails. */
-static void traces(const char *line) {
-    const char *path = getenv("CRASH_TRACE");
+/* Appends a line and bytes to the file that an environment variable names. A test without its trace would be wrong, so the program ends
+   if that fails. */
+static void appends(const char *variable, const char *line, const void *bytes, size_t count) {
+    const char *path = getenv(variable);
     if (!path)
         return;
     int fd = open(path, O_WRONLY | O_CREAT | O_APPEND | O_CLOEXEC, 0666);
-    size_t count = strlen(line);
-    if (fd < 0 || REAL(write)(fd, line, count) != (ssize_t) count)
+    struct iovec parts[] = {{(void *) line, strlen(line)}, {(void *) bytes, count}};
+    if (fd < 0 || REAL(writev)(fd, parts, 2) != (ssize_t) (strlen(line) + count))
         abort();
     close(fd);
+}
+
+/* Appends a line about a call on a file or a folder. */
+static void traces(const char *name, const char *line) {
+    if (!database_name(name))
+        appends("CRASH_TRACE", line, NULL, 0);
+    if (*name == '/' || database_name(name))
+        appends("CRASH_WRITES", line, NULL, 0);
 }
 
 static int sync_by(int (*real)(int), int fd) {
@@ -83,7 +102,8 @@ static int sync_by(int (*real)(int), int fd) {
     if (*name != '/') {
         long pause = number_of("CRASH_SYNC_MS");
         nanosleep(&(struct timespec){pause / 1000, pause % 1000 * 1000000}, NULL);
-        if (++syncs == number_of("CRASH_FAIL_SYNC")) {
+        int of_database = !log_name(name);
+        if (++syncs[of_database] == number_of(of_database ? "CRASH_FAIL_DATABASE_SYNC" : "CRASH_FAIL_SYNC")) {
             errno = EIO;
             return -1;
         }
@@ -91,7 +111,7 @@ static int sync_by(int (*real)(int), int fd) {
     int result = real(fd);
     snprintf(line, sizeof line, "sync %s %lld\n", name, length);
     if (result == 0)
-        traces(line);
+        traces(name, line);
     return result;
 }
 
@@ -105,7 +125,7 @@ static int cut_by(int (*real)(int, off_t), int fd, off_t length) {
     int result = real(fd, length);
     if (name && result == 0) {
         snprintf(line, sizeof line, "cut %s %lld\n", name, (long long) length);
-        traces(line);
+        traces(name, line);
     }
     return result;
 }
@@ -119,39 +139,71 @@ int rename(const char *from, const char *to) {
     int result = REAL(rename)(from, to);
     if (result == 0 && old && new) {
         snprintf(line, sizeof line, "rename %s %s\n", old, new);
-        traces(line);
+        traces(new, line);
         if (number_of("CRASH_KILL"))
             kill(getpid(), SIGKILL);
     }
     return result;
 }
 
-/* The number of bytes that a write to a log may write: all, or a half, or -1 if it fails. */
-static ssize_t room_for(int fd, size_t count) {
-    long failing = number_of("CRASH_FAIL_WRITE");
-    if (!failing || !is_log(fd))
+int unlink(const char *path) {
+    const char *name = database_name(path);
+    char line[4200];
+    int result = REAL(unlink)(path);
+    if (result == 0 && name) {
+        snprintf(line, sizeof line, "unlink %.255s 0\n", name);
+        traces(name, line);
+    }
+    return result;
+}
+
+/* Appends what was written to a database, at an offset or, if that is -1, in front of the descriptor's own. */
+static ssize_t keeps(int fd, const void *bytes, ssize_t count, off_t offset) {
+    char path[4096], line[4200];
+    long long length;
+    if (count <= 0 || !getenv("CRASH_WRITES"))
         return count;
-    int now = ++writes;
-    if (now == failing + 1) {
+    int before = errno;
+    const char *name = name_of(fd, path, &length);
+    if (name && database_name(name)) {
+        long long place = offset < 0 ? lseek(fd, 0, SEEK_CUR) - count : offset;
+        snprintf(line, sizeof line, "write %s %lld %zd\n", name, place, count);
+        appends("CRASH_WRITES", line, bytes, count);
+    }
+    errno = before;
+    return count;
+}
+
+/* The number of bytes that a write to a log or a database may write: all, or a half, or -1 if it fails. */
+static ssize_t room_for(int fd, size_t count) {
+    char path[4096];
+    long long length;
+    long failing[] = {number_of("CRASH_FAIL_WRITE"), number_of("CRASH_FAIL_DATABASE_WRITE")};
+    const char *name = failing[0] || failing[1] ? name_of(fd, path, &length) : NULL;
+    int of_database = name && !log_name(name);
+    if (!name || *name == '/' || !failing[of_database])
+        return count;
+    int now = ++writes[of_database];
+    if (now == failing[of_database] + 1) {
         errno = ENOSPC;
         return -1;
     }
-    return now == failing ? (ssize_t) (count / 2) : (ssize_t) count;
+    return now == failing[of_database] ? (ssize_t) (count / 2) : (ssize_t) count;
 }
 
 ssize_t write(int fd, const void *bytes, size_t count) {
     ssize_t room = room_for(fd, count);
-    return room < 0 ? room : REAL(write)(fd, bytes, room);
+    return room < 0 ? room : keeps(fd, bytes, REAL(write)(fd, bytes, room), -1);
 }
 
 ssize_t pwrite(int fd, const void *bytes, size_t count, off_t offset) {
     ssize_t room = room_for(fd, count);
-    return room < 0 ? room : REAL(pwrite)(fd, bytes, room, offset);
+    return room < 0 ? room : keeps(fd, bytes, REAL(pwrite)(fd, bytes, room, offset), offset);
 }
 
 ssize_t pwrite64(int fd, const void *bytes, size_t count, off_t offset) {
     ssize_t room = room_for(fd, count);
-    return room < 0 ? room : REAL(pwrite64)(fd, bytes, room, offset);
+    return room < 0 ? room : keeps(fd, bytes, REAL(pwrite64)(fd, bytes, room, offset), offset);
 }
 
 ssize_t writev(int fd, const struct iovec *parts, int count) {
