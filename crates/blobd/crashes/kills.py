@@ -1,4 +1,5 @@
-"""Restarts, kills and losses of power."""
+"""Restarts, kills, losses of power, and starts that rewrite the log."""
+import re
 import shutil
 import signal
 import threading
@@ -7,8 +8,8 @@ import time
 import data_folder
 from data_folder import HEADER, MARK, Ended, Trace
 from frames import FREE_SLOTS, GREETING, SWEEP
-from model import Fault
-from room import SLOTS, all_there, calls_of, clients, compares, counts, ends_well, fault, looks, together
+from model import MIB, Fault
+from room import SLOTS, all_there, all_there_still, calls_of, clients, compares, counts, ends_well, fault, looks, together
 
 # The number of kills and of losses of power of a program, and of rounds after which they begin with an empty folder.
 ROUNDS, ROUNDS_OF_A_FOLDER = 20, 7
@@ -200,3 +201,91 @@ def first_starts(room):
     compares("a start with two logs", room.runs(folder)[:2], (0, GREETING))
     compares("a log that was being made", (folder / "log.new").exists(), False)
     compares("the log itself", (folder / "log").read_bytes()[:len(before)], before)
+
+
+def litter(room, folder, everybody):
+    """Leaves a log of which less than half is live: contents that are there, sessions that are open, and deleted blobs of several
+    MiB. The last tenant keeps nothing but its next number."""
+    blobd = room.starts(folder, "--sync", "never", connections=len(everybody))
+    lines = blobd.opens()
+    together(everybody, lines, "each", 100)
+    for client, line in zip(everybody, lines):
+        client.plays(line, client.state.starts(f"{client.tenant}/one"))
+        client.plays(line, client.state.appends(client.state.following - 1, room.rng.randbytes(1000)))
+    live = sum(client.state.use() for client in everybody)
+    client, line = everybody[0], lines[0]
+    for _ in range(2 + 2 * live // MIB):
+        client.plays(line, client.state.starts("t0/one"))
+        client.plays(line, client.state.closes(client.state.following - 1, room.rng.randbytes(MIB)))
+        client.plays(line, client.state.deletes("t0/one", list(client.state.links)[-1][1]))
+        line.calls(SWEEP)
+    everybody[-1].empties(lines[-1])
+    for client in everybody:
+        client.promises_all()
+    ends_well("a log with litter", blobd)
+
+
+def rewriting(room):
+    """Tests that a start makes a log shorter of which less than half is live, that all is there after it, and that the next start finds
+    nothing to do."""
+    folder, everybody = room.fresh(), clients(room)
+    litter(room, folder, everybody)
+    before = (folder / "log").stat().st_size
+    status, out, text = room.runs(folder)
+    after = (folder / "log").stat().st_size
+    compares("a start that rewrites", (status, out), (0, GREETING))
+    compares("a log that was rewritten is shorter", after < before / 2, True)
+    told = re.search(r"/log was rewritten: (\d+) of (\d+) bytes are left\n", text)
+    compares(f"the lengths that a start tells which rewrites, {text!r}", told and int(told[2]), before)
+    compares("the length of the new log that it tells", told and 0 <= after - int(told[1]) <= 2 * MARK, True)
+    compares("a log that was being made", (folder / "log.new").exists(), False)
+    room.runs(folder)
+    compares("the growth by another start", 0 <= (folder / "log").stat().st_size - after <= 2 * MARK, True)
+    blobd = room.starts(folder, connections=len(everybody))
+    lines = blobd.opens()
+    looks(everybody, blobd)
+    for client, line in zip(everybody, lines):
+        client.finishes(line, len(client.state.sessions))
+    together(everybody, lines, "closes", 50)
+    ends_well("a program after rewriting", blobd)
+    all_there(room, folder, everybody)
+
+
+def interrupted_rewriting(room):
+    """Kills starts that rewrite, and takes the power away from them. Everything is there afterwards."""
+    folder, everybody, trace = room.fresh(), clients(room), room.path / "trace"
+    litter(room, folder, everybody)
+    data = (folder / "log").read_bytes()
+    begun = time.monotonic()
+    room.runs(folder)
+    took = time.monotonic() - begun
+    for number in range(ROUNDS * room.long // 2):
+        (folder / "log").write_bytes(data)
+        trace.unlink(missing_ok=True)
+        blobd = room.starts(folder, settings={"CRASH_TRACE": str(trace), "CRASH_SYNC_MS": "5"})
+        time.sleep(room.rng.uniform(0, took))
+        blobd.kills()
+        counts["kills"] += 1
+        if number % 2:
+            lose_power(room, folder, data)
+        all_there_still(room, folder, everybody)
+        compares("a log that was being made", (folder / "log.new").exists(), False)
+
+
+def rewriting_without_room(room):
+    """Tests that a start whose disk fails while it rewrites goes on with the old log, or ends. Everything is there afterwards."""
+    folder, everybody = room.fresh(), clients(room)
+    litter(room, folder, everybody)
+    data = (folder / "log").read_bytes()
+    for kind in ("CRASH_FAIL_WRITE", "CRASH_FAIL_SYNC"):
+        for number in range(1, 6):
+            (folder / "log").write_bytes(data)
+            blobd = room.starts(folder, connections=len(everybody), settings={kind: str(number)})
+            try:
+                for client, connection in zip(everybody, blobd.opens()):
+                    counts["comparisons"] += client.finds(connection)
+            except Ended:
+                pass
+            status, text = blobd.ends()
+            compares(f"the status of a start with {kind}={number}, {text!r}", status in (0, 6, 9), True)
+            all_there_still(room, folder, everybody)

@@ -313,9 +313,15 @@ class Client:
             raise Fault(f"{self.tenant}: {self.difference(found, runs[-1])}")
         return fits, len(calls)
 
+    def finds(self, connection):
+        """Finds out which of the possible states is there. Returns the number of comparisons."""
+        fits, count = self.fitting(connection)
+        self.state = fits[-1]
+        self.promises_all()
+        return count
+
     def looks(self, connection):
-        """Finds out which of the possible states is there. Opens and abandons a session, whose number must be the next one. Returns the
-        number of comparisons."""
+        """Does the same, and opens and abandons a session, whose number must be the next one."""
         fits, count = self.fitting(connection)
         repository = self.repository()
         number = connection.calls(START, repository).first
@@ -340,3 +346,12 @@ class Client:
         """Closes some of the sessions that an earlier run has left. Their bytes must be those that were sent."""
         for number in sorted(self.state.sessions)[:count]:
             self.plays(connection, self.state.closes(number, b"the last bytes"))
+
+    def empties(self, connection):
+        """Removes everything from the tenant."""
+        while self.state.sessions:
+            self.plays(connection, self.state.abandons(min(self.state.sessions)))
+        while self.state.manifests:
+            self.plays(connection, self.state.deletes_manifest(*min(self.state.manifests)))
+        while self.state.links:
+            self.plays(connection, self.state.deletes(*min(self.state.links)))

@@ -144,3 +144,11 @@ def all_there(room, folder, everybody):
     blobd.opens()
     looks(everybody, blobd)
     ends_well("an end after a crash", blobd)
+
+
+def all_there_still(room, folder, everybody):
+    """Starts a program, compares what is there without a change, and ends it."""
+    blobd = room.starts(folder, connections=len(everybody))
+    for client, connection in zip(everybody, blobd.opens()):
+        counts["comparisons"] += client.finds(connection)
+    ends_well("a program without a change", blobd)

@@ -95,11 +95,22 @@ fn random_id(rt: &HostRuntime) -> io::Result<u64> {
     Ok(u64::from_le_bytes(bytes))
 }
 
-/// Writes a log without frames to a new file, and syncs it.
-fn write_new(rt: &HostRuntime, path: &str) -> io::Result<()> {
+/// Writes a log without frames to a new file, which can be read and written. Returns the file, at its end, and the id.
+fn write_new(rt: &HostRuntime, path: &str) -> io::Result<(File, u64)> {
     let id = random_id(rt)?;
-    let mut file = File::create(rt, path)?;
+    let mut file = File::options()
+        .read(true)
+        .write(true)
+        .create(true)
+        .truncate(true)
+        .open(rt, path)?;
     file.write_all(&header_bytes(id))?;
+    Ok((file, id))
+}
+
+/// Writes a log without frames to a new file, and syncs it.
+fn write_synced(rt: &HostRuntime, path: &str) -> io::Result<()> {
+    let (file, _) = write_new(rt, path)?;
     file.sync_all()
 }
 
@@ -134,8 +145,13 @@ impl<'w> DataFolder<'w> {
         Ok(opened)
     }
 
-    /// Removes a log that an earlier process did not finish making.
-    fn remove_unfinished(&self, rt: &HostRuntime) -> Result<(), Stop<'w>> {
+    /// Removes a log that was not finished, if there is one.
+    ///
+    /// # Errors
+    ///
+    /// - `Stop::Folder`
+    /// - `Stop::Memory`
+    pub fn remove_unfinished(&self, rt: &HostRuntime) -> Result<(), Stop<'w>> {
         let path = path_of(rt.alloc(), self.path, "/log.new")?;
         match fs::remove_file(rt, path.as_str()) {
             Ok(()) => Ok(()),
@@ -166,7 +182,7 @@ impl<'w> DataFolder<'w> {
     fn create_log(&self, rt: &HostRuntime) -> Result<(), Stop<'w>> {
         let new = path_of(rt.alloc(), self.path, "/log.new")?;
         let log = path_of(rt.alloc(), self.path, "/log")?;
-        if let Err(error) = write_new(rt, new.as_str()) {
+        if let Err(error) = write_synced(rt, new.as_str()) {
             return Err(folder_stop("create", self.path, "/log.new", error));
         }
         match fs::rename(rt, new.as_str(), log.as_str()) {
@@ -175,9 +191,27 @@ impl<'w> DataFolder<'w> {
         }
     }
 
+    /// Makes `log.new`, without frames. Returns the file, at its end, and the id.
+    pub fn create_new(&self, rt: &HostRuntime) -> io::Result<(File, u64)> {
+        let path = format!(in rt.alloc(); "{}/log.new", self.path)?;
+        write_new(rt, path.as_str())
+    }
+
+    /// Makes `log.new` the log, in place of the old one. A crash leaves one of them until the folder is synced.
+    pub fn replace_log(&self, rt: &HostRuntime) -> io::Result<()> {
+        let new = format!(in rt.alloc(); "{}/log.new", self.path)?;
+        let log = format!(in rt.alloc(); "{}/log", self.path)?;
+        fs::rename(rt, new.as_str(), log.as_str())
+    }
+
+    /// Syncs the entries of the folder, so that a crash leaves them.
+    pub fn sync_entries(&self, rt: &HostRuntime) -> io::Result<()> {
+        sync_folder(rt, self.path)
+    }
+
     /// Syncs the folder, so that a crash leaves the log in it.
     fn sync(&self, rt: &HostRuntime) -> Result<(), Stop<'w>> {
-        match sync_folder(rt, self.path) {
+        match self.sync_entries(rt) {
             Ok(()) => Ok(()),
             Err(error) => Err(folder_stop("sync", self.path, "", error)),
         }

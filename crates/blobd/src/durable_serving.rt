@@ -6,6 +6,7 @@ ghost use Rattle.blobd.specs.Connections.{AreServed, AreServedOn};
 
 use crate::connection::Connection;
 use crate::opening::OpenLog;
+use crate::rewriting::{ReplaceError, Replacement};
 use crate::service_end::EndCell;
 use crate::serving::serve_on;
 use blob_digest::Refusal;
@@ -18,7 +19,7 @@ use locked_book::{Step, StoreLog};
 use log_disk::{Disk, DiskError, FileDisk, ReplayedDisk};
 use log_frames::Ending;
 use std::alloc::{AllocError, Global};
-use std::io::{ErrorKind, Read, Write};
+use std::io::{self, ErrorKind, Read, Write};
 use std::marker::Brand;
 use std::sync::Wait;
 use std::thread::Threads;
@@ -38,6 +39,8 @@ pub enum ServeFault {
         /// The reason.
         cause: Cause,
     },
+    /// The log was rewritten, and the rewritten one did not take the place of the old one.
+    Replace(ReplaceError),
     /// The log cannot be written.
     Log(CommitError),
 }
@@ -45,6 +48,21 @@ pub enum ServeFault {
 impl From<AllocError> for ServeFault {
     fn from(_error: AllocError) -> ServeFault {
         ServeFault::Memory
+    }
+}
+
+impl From<io::Error> for ServeFault {
+    fn from(error: io::Error) -> ServeFault {
+        match error.kind() {
+            ErrorKind::OutOfMemory => ServeFault::Memory,
+            kind => ServeFault::Read(kind),
+        }
+    }
+}
+
+impl From<ReplaceError> for ServeFault {
+    fn from(error: ReplaceError) -> ServeFault {
+        ServeFault::Replace(error)
     }
 }
 
@@ -147,6 +165,14 @@ fn whole_log<W: Wait, S: Naming>(
     Err(ServeFault::Log(CommitError::Closed))
 }
 
+/// Makes a rewritten log that was replayed the log of its folder, if there is one.
+fn replace_old(replacement: Option<Replacement<'_>>) -> Result<(), ReplaceError> {
+    match replacement {
+        Some(replacement) => replacement.finish(),
+        None => Ok(()),
+    }
+}
+
 /// Writes what waits, syncs it unless the log is never synced, and marks the end of the log.
 fn finish_log<W: Wait, S: Naming>(
     rt: &W,
@@ -182,6 +208,7 @@ fn serve_log_parts<
     parts: Parts,
     input: &mut R,
     log: OpenLog,
+    replacement: Option<Replacement<'_>>,
     leases: SharedLog<LeaseEvent>,
     end: &EndCell,
     lines: &mut [Connection<I, O>],
@@ -194,7 +221,9 @@ fn serve_log_parts<
     let replayed = ReplayedDisk::new(alloc)?;
     let (store, device) = Store::<S>::with_log(parts, replayed);
     let device = replay_on(rt, alloc, &store, device, input, log)?;
-    let device = LeaderCell::new(whole_log(rt, &store, device)?);
+    let device = whole_log(rt, &store, device)?;
+    replace_old(replacement)?;
+    let device = LeaderCell::new(device);
     let totals = serve_on::<W, S, L, FramedDisk<FileDisk>, I, O>(
         rt,
         alloc,
@@ -214,6 +243,8 @@ fn serve_log_parts<
 /// does. Each change is recorded in the log, and is durable before its reply if the policy of the parts promises that. Returns
 /// the store's totals, in which the replayed changes are counted.
 ///
+/// A log that was rewritten takes the place of the old one after its replay.
+///
 /// If the log fails, no reply is sent any more, and `end` gets the error at once: the other connections may wait for requests.
 ///
 /// # Errors
@@ -221,6 +252,7 @@ fn serve_log_parts<
 /// - `Memory`
 /// - `Read`, if the log cannot be read.
 /// - `Record`, if a record cannot be replayed. Then no connection is served.
+/// - `Replace`, if the rewritten log did not take the place of the old one. Then no connection is served.
 /// - `Log`, if the log cannot be written, at the start or at the end.
 pub fn serve_log<W: Threads + Wait + Sync, R: Read, I: Read + Send + Drop, O: Write + Send + Drop>(
     rt: &W,
@@ -228,6 +260,7 @@ pub fn serve_log<W: Threads + Wait + Sync, R: Read, I: Read + Send + Drop, O: Wr
     parts: Parts,
     input: &mut R,
     log: OpenLog,
+    replacement: Option<Replacement<'_>>,
     end: &EndCell,
     lines: &mut [Connection<I, O>],
 ) -> Result<Totals, ServeFault>
@@ -235,5 +268,15 @@ pub fn serve_log<W: Threads + Wait + Sync, R: Read, I: Read + Send + Drop, O: Wr
     ensures totals { IfOk result (λ t. t.received ≡ t.in_sessions + t.closed + t.abandoned) }
 {
     let leases = SharedLog::new(alloc)?;
-    serve_log_parts::<W, Brand, Brand, R, I, O>(rt, alloc, parts, input, log, leases, end, lines)
+    serve_log_parts::<W, Brand, Brand, R, I, O>(
+        rt,
+        alloc,
+        parts,
+        input,
+        log,
+        replacement,
+        leases,
+        end,
+        lines,
+    )
 }

@@ -34,8 +34,10 @@ mod data_folder;
 mod durable_serving;
 mod flags;
 mod guard;
+mod log_service;
 mod opening;
 mod progress;
+mod rewriting;
 mod service_end;
 mod serving;
 mod shared;
@@ -44,24 +46,22 @@ mod totals;
 
 use crate::arguments::{Options, read_arguments};
 use crate::connection::Connection;
-use crate::damage::{Damage, Need};
-use crate::data_folder::{DataFolder, folder_stop};
-use crate::durable_serving::{ServeFault, serve_log};
+use crate::data_folder::DataFolder;
 use crate::flags::LogOptions;
-use crate::opening::{OpenLog, accept_loss, open_log, seek_frames};
-use crate::progress::Progress;
+use crate::log_service::serve_either;
+use crate::opening::{accept_loss, open_log};
+use crate::rewriting::rewritten;
 use crate::service_end::{EndCell, ServiceEnd};
 use crate::serving::serve_new;
 use crate::stop::Stop;
-use crate::totals::TotalsLine;
-use blob_store::{Parts, Totals};
+use crate::totals::conclude;
+use blob_store::Parts;
 use std::env;
 use std::fs::File;
 use std::io::{self, BufReader, BufWriter, ErrorKind, Read, Write};
 use std::process::ExitCode;
 use std::sync::{Arc, Wait};
 use std::thread::{self, Threads};
-use store_replay::Cause;
 
 /// A connection whose files are read and written through buffers.
 type Buffered<I, O> = Connection<BufReader<I>, BufWriter<O>>;
@@ -121,20 +121,6 @@ fn open_connections<'w>(
     Ok(lines)
 }
 
-/// Prints the totals of a store whose connections have ended. Fails with `Stop::Memory` if one was not served.
-fn conclude<I: Read + Drop, O: Write + Drop>(
-    rt: &HostRuntime,
-    totals: Totals,
-    lines: &[Connection<I, O>],
-) -> Result<(), Stop<'static>> {
-    let _ = eprint!(rt; "{}", TotalsLine { totals });
-    if lines.iter().all(|l| matches!(l.served(), Some(Ok(_)))) {
-        Ok(())
-    } else {
-        Err(Stop::Memory)
-    }
-}
-
 /// Serves connections on a store of these parts, and prints its totals.
 fn serve_all<I: Read + Send + Drop, O: Write + Send + Drop>(
     rt: &HostRuntime,
@@ -165,58 +151,6 @@ fn run_in_memory<'w>(
     serve_all(rt, threads, parts, lines.as_mut_slice())
 }
 
-/// Returns the stop for a log that has a record at this place which cannot be replayed.
-fn record_stop<'w>(folder: &'w str, place: u64, cause: Cause) -> Stop<'w> {
-    let need = match &cause {
-        Cause::Refused { name: _, refusal } => Need::of_refusal(*refusal),
-        _ => None,
-    };
-    match (cause, need) {
-        (Cause::Refused { name, refusal: _ }, Some(need)) => Stop::Settings {
-            folder,
-            place,
-            name,
-            need,
-        },
-        (cause, _) => Stop::Damaged {
-            folder,
-            place,
-            damage: Damage::Record(cause),
-        },
-    }
-}
-
-/// Returns the stop for a log that was not served.
-fn fault_stop<'w>(folder: &'w str, fault: ServeFault) -> Stop<'w> {
-    match fault {
-        ServeFault::Memory => Stop::Memory,
-        ServeFault::Read(kind) => folder_stop("read", folder, "/log", io::Error::from(kind)),
-        ServeFault::Log(error) => Stop::LogFailed { folder, error },
-        ServeFault::Record { place, cause } => record_stop(folder, place, cause),
-    }
-}
-
-/// Replays the log of a folder into a new store, serves connections on it, and prints its totals.
-fn serve_folder<'w, I: Read + Send + Drop, O: Write + Send + Drop>(
-    rt: &HostRuntime,
-    threads: &(impl Threads + Wait + Sync),
-    folder: &'w str,
-    parts: Parts,
-    mut log: OpenLog,
-    end: &EndCell,
-    lines: &mut [Connection<I, O>],
-) -> Result<(), Stop<'w>> {
-    let (copy, length) = seek_frames(folder, &mut log.file)?;
-    let progress = Progress::new(rt, folder, copy, length);
-    let Ok(mut input) = BufReader::new(rt.alloc(), progress) else {
-        return Err(Stop::Memory);
-    };
-    match serve_log(threads, rt.alloc(), parts, &mut input, log, end, lines) {
-        Ok(totals) => conclude(rt, totals, lines),
-        Err(fault) => Err(fault_stop(folder, fault)),
-    }
-}
-
 /// Serves the connections of the options on a store with the log of a folder.
 fn run_once<'w>(
     rt: &HostRuntime,
@@ -228,21 +162,31 @@ fn run_once<'w>(
 ) -> Result<(), Stop<'w>>
     requires { IsWithin (options.now).store }
 {
-    let log = open_log(rt, folder, how.accepted_loss)?;
-    let Ok(parts) = Parts::with_policy(rt.alloc(), &options.store, how.policy) else {
-        return Err(Stop::Memory);
-    };
+    let mut log = open_log(rt, folder, how.accepted_loss)?;
+    let new = rewritten(rt, folder, &mut log)?;
     if options.paths.is_empty() {
         let line = buffered(rt, rt.reader(), io::writer(rt))?;
-        return serve_folder(rt, threads, folder.path, parts, log, end, &mut [line]);
+        return serve_either(
+            rt,
+            threads,
+            options,
+            folder,
+            how,
+            log,
+            new,
+            end,
+            &mut [line],
+        );
     }
     let mut lines = open_connections(rt, options.paths)?;
-    serve_folder(
+    serve_either(
         rt,
         threads,
-        folder.path,
-        parts,
+        options,
+        folder,
+        how,
         log,
+        new,
         end,
         lines.as_mut_slice(),
     )

@@ -80,18 +80,10 @@ fn frames_of<'f, 'w>(
 }
 
 /// Returns a second handle of a log, whose frames are read next, and the length of its file.
-pub fn seek_frames<'w>(folder: &'w str, file: &mut File) -> Result<(File, u64), Stop<'w>> {
-    let length = match file.seek(SeekFrom::End(0)) {
-        Ok(length) => length,
-        Err(error) => return Err(read_stop(folder, error)),
-    };
-    if let Err(error) = file.seek(SeekFrom::Start(HEADER_LENGTH)) {
-        return Err(read_stop(folder, error));
-    }
-    match file.try_clone() {
-        Ok(copy) => Ok((copy, length)),
-        Err(error) => Err(read_stop(folder, error)),
-    }
+pub fn seek_frames(file: &mut File) -> io::Result<(File, u64)> {
+    let length = file.seek(SeekFrom::End(0))?;
+    let _ = file.seek(SeekFrom::Start(HEADER_LENGTH))?;
+    Ok((file.try_clone()?, length))
 }
 
 /// Decides what has to be done with a log that was scanned. `accepted_loss` is the offset from which on a damaged log may be

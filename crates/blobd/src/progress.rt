@@ -3,10 +3,20 @@
 use std::io::{self, Eprint, Read};
 use std::time::{Clock, Instant};
 
+/// What is done with a log that is read, as a verb and the name of the file with a slash before it.
+#[derive(Clone, Copy)]
+pub struct Work {
+    /// The verb.
+    pub verb: &'static str,
+    /// The file.
+    pub file: &'static str,
+}
+
 /// A reader of a log that prints to standard error how far it is, at most once a second.
 #[derive(Drop)]
 pub struct Progress<'r, R, I> {
     rt: &'r R,
+    work: Work,
     folder: &'r str,
     input: I,
     /// The bytes that were read, and those that there are.
@@ -19,9 +29,16 @@ pub struct Progress<'r, R, I> {
 
 impl<'r, R: Clock + Eprint, I> Progress<'r, R, I> {
     /// Wraps a reader of the log in a folder, which has `length` bytes.
-    pub fn new(rt: &'r R, folder: &'r str, input: I, length: u64) -> Progress<'r, R, I> {
+    pub fn new(
+        rt: &'r R,
+        work: Work,
+        folder: &'r str,
+        input: I,
+        length: u64,
+    ) -> Progress<'r, R, I> {
         Progress {
             rt,
+            work,
             folder,
             input,
             read: 0,
@@ -45,9 +62,10 @@ impl<'r, R: Clock + Eprint, I> Progress<'r, R, I> {
         }
         self.printed = seconds;
         let per_cent = self.read.saturating_mul(100) / self.length.max(1);
+        let Work { verb, file } = self.work;
         let (folder, read, length) = (self.folder, self.read, self.length);
         let _ = eprint!(self.rt;
-            "blobd: replaying {folder}/log: {read} of {length} bytes, {per_cent} %, {seconds} s\n"
+            "blobd: {verb} {folder}{file}: {read} of {length} bytes, {per_cent} %, {seconds} s\n"
         );
     }
 }

@@ -2,8 +2,11 @@
 ghost use Rattle.std.specs.Prelude.{Some};
 ghost use Rattle.blobd.specs.Totals.{totals_text};
 
+use crate::connection::Connection;
+use crate::stop::Stop;
 use blob_store::Totals;
 use std::fmt;
+use std::io::{Read, Write};
 
 /// The line of text that reports a store's totals.
 #[derive(Clone, Copy, Drop)]
@@ -28,5 +31,23 @@ impl fmt::Display for TotalsLine {
             f,
             "blobd: {commands} commands, {received} bytes received, {closed} closed, {abandoned} abandoned\n"
         )
+    }
+}
+
+/// Prints the totals of a store whose connections have ended.
+///
+/// # Errors
+///
+/// - `Stop::Memory`, if a connection was not served.
+pub fn conclude<I: Read + Drop, O: Write + Drop>(
+    rt: &HostRuntime,
+    totals: Totals,
+    lines: &[Connection<I, O>],
+) -> Result<(), Stop<'static>> {
+    let _ = eprint!(rt; "{}", TotalsLine { totals });
+    if lines.iter().all(|l| matches!(l.served(), Some(Ok(_)))) {
+        Ok(())
+    } else {
+        Err(Stop::Memory)
     }
 }

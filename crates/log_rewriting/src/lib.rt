@@ -2,21 +2,28 @@
 //! state.
 //!
 //! The records of the log are read twice. An [`Inventory`] notes each change of the first pass. The [`Filter`] made of it gives, for
-//! each change of the second pass, those of the rewritten log.
+//! each change of the second pass, those of the rewritten log. [`take_inventory`] and [`write_rewritten`] make the passes over the
+//! frames of a log.
 #![tactic(auto)]
 
 mod blobs;
 mod collect;
 mod empty_index;
 mod error;
+mod failure;
 mod filter;
 mod inventory;
+mod joining;
 mod kept;
 mod lengths;
+mod logs;
 mod names;
 mod place;
+mod writing;
 
 pub use error::InventoryError;
+pub use failure::RewriteError;
 pub use filter::Filter;
 pub use inventory::Inventory;
 pub use kept::Kept;
+pub use logs::{take_inventory, write_rewritten};

@@ -1,0 +1,197 @@
+//! Serves connections on a store with the log of a folder, which may have been rewritten.
+ghost use Rattle.blobd.specs.Arguments.{IsWithin};
+
+use crate::arguments::Options;
+use crate::connection::Connection;
+use crate::damage::{Damage, Need};
+use crate::data_folder::{DataFolder, folder_stop};
+use crate::durable_serving::{ServeFault, serve_log};
+use crate::flags::LogOptions;
+use crate::opening::{OpenLog, open_log, seek_frames};
+use crate::progress::{Progress, Work};
+use crate::rewriting::{NewLog, ReplaceError, Replacement, keep_old};
+use crate::service_end::EndCell;
+use crate::stop::Stop;
+use crate::totals::conclude;
+use blob_store::{Parts, Totals};
+use std::io::{self, BufReader, Read, Write};
+use std::sync::Wait;
+use std::thread::Threads;
+use store_replay::Cause;
+
+/// Returns the stop for a log that has a record at this place which cannot be replayed.
+fn record_stop<'w>(folder: &'w str, place: u64, cause: Cause) -> Stop<'w> {
+    let need = match &cause {
+        Cause::Refused { name: _, refusal } => Need::of_refusal(*refusal),
+        _ => None,
+    };
+    match (cause, need) {
+        (Cause::Refused { name, refusal: _ }, Some(need)) => Stop::Settings {
+            folder,
+            place,
+            name,
+            need,
+        },
+        (cause, _) => Stop::Damaged {
+            folder,
+            place,
+            damage: Damage::Record(cause),
+        },
+    }
+}
+
+/// Returns the stop for a log that was not served.
+fn fault_stop<'w>(folder: &'w str, fault: ServeFault) -> Stop<'w> {
+    match fault {
+        ServeFault::Memory => Stop::Memory,
+        ServeFault::Read(kind) => folder_stop("read", folder, "/log", io::Error::from(kind)),
+        ServeFault::Log(error) => Stop::LogFailed { folder, error },
+        ServeFault::Record { place, cause } => record_stop(folder, place, cause),
+        ServeFault::Replace(ReplaceError::Rename(error)) => {
+            folder_stop("rename", folder, "/log.new", error)
+        }
+        ServeFault::Replace(ReplaceError::Sync(error)) => folder_stop("sync", folder, "", error),
+    }
+}
+
+/// A log to be served, the name of its file, and the step after its replay if it was rewritten.
+#[derive(Drop)]
+struct Served<'f> {
+    log: OpenLog,
+    file: &'static str,
+    replacement: Option<Replacement<'f>>,
+}
+
+/// Replays a log of a folder into a new store, serves connections on it, and prints its totals.
+fn serve_folder<I: Read + Send + Drop, O: Write + Send + Drop>(
+    rt: &HostRuntime,
+    threads: &(impl Threads + Wait + Sync),
+    folder: &str,
+    parts: Parts,
+    served: Served<'_>,
+    end: &EndCell,
+    lines: &mut [Connection<I, O>],
+) -> Result<Totals, ServeFault> {
+    let Served {
+        mut log,
+        file,
+        replacement,
+    } = served;
+    let (copy, length) = seek_frames(&mut log.file)?;
+    let work = Work {
+        verb: "replaying",
+        file,
+    };
+    let progress = Progress::new(rt, work, folder, copy, length);
+    let mut input = BufReader::new(rt.alloc(), progress)?;
+    serve_log(
+        threads,
+        rt.alloc(),
+        parts,
+        &mut input,
+        log,
+        replacement,
+        end,
+        lines,
+    )
+}
+
+/// Returns the parts of the options' store, with the policy of its log.
+fn parts_of<'w>(
+    rt: &HostRuntime,
+    options: &Options<'w>,
+    how: LogOptions<'w>,
+) -> Result<Parts, Stop<'w>>
+    requires { IsWithin (options.now).store }
+{
+    match Parts::with_policy(rt.alloc(), &options.store, how.policy) {
+        Ok(parts) => Ok(parts),
+        Err(_) => Err(Stop::Memory),
+    }
+}
+
+/// Serves connections on a store with the log of a folder, and prints its totals.
+fn serve_old<'w, I: Read + Send + Drop, O: Write + Send + Drop>(
+    rt: &HostRuntime,
+    threads: &(impl Threads + Wait + Sync),
+    options: &Options<'w>,
+    how: LogOptions<'w>,
+    log: OpenLog,
+    end: &EndCell,
+    lines: &mut [Connection<I, O>],
+) -> Result<(), Stop<'w>>
+    requires { IsWithin (options.now).store }
+{
+    let parts = parts_of(rt, options, how)?;
+    let served = Served {
+        log,
+        file: "/log",
+        replacement: None,
+    };
+    match serve_folder(rt, threads, how.folder, parts, served, end, lines) {
+        Ok(totals) => conclude(rt, totals, lines),
+        Err(fault) => Err(fault_stop(how.folder, fault)),
+    }
+}
+
+/// Serves connections on a store with the rewritten log of a folder, and prints its totals. If that log cannot be replayed or
+/// renamed, the old one is used.
+fn serve_new_log<'w, I: Read + Send + Drop, O: Write + Send + Drop>(
+    rt: &HostRuntime,
+    threads: &(impl Threads + Wait + Sync),
+    options: &Options<'w>,
+    folder: &DataFolder<'w>,
+    how: LogOptions<'w>,
+    new: NewLog,
+    end: &EndCell,
+    lines: &mut [Connection<I, O>],
+) -> Result<(), Stop<'w>>
+    requires { IsWithin (options.now).store }
+{
+    let parts = parts_of(rt, options, how)?;
+    let NewLog { log, was, is } = new;
+    let replacement = Replacement {
+        rt,
+        folder,
+        was,
+        is,
+    };
+    let served = Served {
+        log,
+        file: "/log.new",
+        replacement: Some(replacement),
+    };
+    let reason = match serve_folder(rt, threads, how.folder, parts, served, end, lines) {
+        Ok(totals) => return conclude(rt, totals, lines),
+        Err(ServeFault::Record { .. }) => "a record of the new log cannot be replayed",
+        Err(ServeFault::Read(_)) => "the new log cannot be read",
+        Err(ServeFault::Replace(ReplaceError::Rename(_))) => "the new log cannot be renamed",
+        Err(fault) => return Err(fault_stop(how.folder, fault)),
+    };
+    keep_old(rt, folder, &reason)?;
+    let log = open_log(rt, folder, how.accepted_loss)?;
+    serve_old(rt, threads, options, how, log, end, lines)
+}
+
+/// Serves connections on a store with the log of a folder, or with the rewritten log if there is one.
+pub fn serve_either<'w, I: Read + Send + Drop, O: Write + Send + Drop>(
+    rt: &HostRuntime,
+    threads: &(impl Threads + Wait + Sync),
+    options: &Options<'w>,
+    folder: &DataFolder<'w>,
+    how: LogOptions<'w>,
+    log: OpenLog,
+    new: Option<NewLog>,
+    end: &EndCell,
+    lines: &mut [Connection<I, O>],
+) -> Result<(), Stop<'w>>
+    requires { IsWithin (options.now).store }
+{
+    match new {
+        Some(new) => {
+            drop(log);
+            serve_new_log(rt, threads, options, folder, how, new, end, lines)
+        }
+        None => serve_old(rt, threads, options, how, log, end, lines),
+    }
+}
