@@ -54,9 +54,16 @@ fn parent_of(folder: &str) -> &str {
     }
 }
 
-/// Syncs the entries of a folder.
-fn sync_folder(rt: &HostRuntime, folder: &str) -> io::Result<()> {
+/// Syncs the entries of a folder, so that a crash leaves them.
+pub fn sync_folder(rt: &HostRuntime, folder: &str) -> io::Result<()> {
     File::open(rt, folder)?.sync_all()
+}
+
+/// Makes `log.new` of a folder its log, in place of the old one. A crash leaves one of them until the folder is synced.
+pub fn replace_log(rt: &HostRuntime, folder: &str) -> io::Result<()> {
+    let new = format!(in rt.alloc(); "{folder}/log.new")?;
+    let log = format!(in rt.alloc(); "{folder}/log")?;
+    fs::rename(rt, new.as_str(), log.as_str())
 }
 
 /// Creates a folder, if it does not exist, so that it survives a crash. Its parent must exist. A folder that exists may be
@@ -197,21 +204,9 @@ impl<'w> DataFolder<'w> {
         write_new(rt, path.as_str())
     }
 
-    /// Makes `log.new` the log, in place of the old one. A crash leaves one of them until the folder is synced.
-    pub fn replace_log(&self, rt: &HostRuntime) -> io::Result<()> {
-        let new = format!(in rt.alloc(); "{}/log.new", self.path)?;
-        let log = format!(in rt.alloc(); "{}/log", self.path)?;
-        fs::rename(rt, new.as_str(), log.as_str())
-    }
-
-    /// Syncs the entries of the folder, so that a crash leaves them.
-    pub fn sync_entries(&self, rt: &HostRuntime) -> io::Result<()> {
-        sync_folder(rt, self.path)
-    }
-
     /// Syncs the folder, so that a crash leaves the log in it.
     fn sync(&self, rt: &HostRuntime) -> Result<(), Stop<'w>> {
-        match self.sync_entries(rt) {
+        match sync_folder(rt, self.path) {
             Ok(()) => Ok(()),
             Err(error) => Err(folder_stop("sync", self.path, "", error)),
         }

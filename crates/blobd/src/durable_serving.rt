@@ -166,7 +166,7 @@ fn whole_log<W: Wait, S: Naming>(
 }
 
 /// Makes a rewritten log that was replayed the log of its folder, if there is one.
-fn replace_old(replacement: Option<Replacement<'_>>) -> Result<(), ReplaceError> {
+fn replace_old(replacement: Option<Replacement<'_, '_>>) -> Result<(), ReplaceError> {
     match replacement {
         Some(replacement) => replacement.finish(),
         None => Ok(()),
@@ -208,7 +208,7 @@ fn serve_log_parts<
     parts: Parts,
     input: &mut R,
     log: OpenLog,
-    replacement: Option<Replacement<'_>>,
+    replacement: Option<Replacement<'_, '_>>,
     leases: SharedLog<LeaseEvent>,
     end: &EndCell,
     lines: &mut [Connection<I, O>],
@@ -260,7 +260,7 @@ pub fn serve_log<W: Threads + Wait + Sync, R: Read, I: Read + Send + Drop, O: Wr
     parts: Parts,
     input: &mut R,
     log: OpenLog,
-    replacement: Option<Replacement<'_>>,
+    replacement: Option<Replacement<'_, '_>>,
     end: &EndCell,
     lines: &mut [Connection<I, O>],
 ) -> Result<Totals, ServeFault>

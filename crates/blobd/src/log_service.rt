@@ -54,33 +54,25 @@ fn fault_stop<'w>(folder: &'w str, fault: ServeFault) -> Stop<'w> {
     }
 }
 
-/// A log to be served, the name of its file, and the step after its replay if it was rewritten.
-#[derive(Drop)]
-struct Served<'f> {
-    log: OpenLog,
-    file: &'static str,
-    replacement: Option<Replacement<'f>>,
-}
-
-/// Replays a log of a folder into a new store, serves connections on it, and prints its totals.
+/// Replays a log of a folder into a new store, and serves connections on it. With a replacement, the log is `log.new`.
 fn serve_folder<I: Read + Send + Drop, O: Write + Send + Drop>(
     rt: &HostRuntime,
     threads: &(impl Threads + Wait + Sync),
     folder: &str,
     parts: Parts,
-    served: Served<'_>,
+    mut log: OpenLog,
+    replacement: Option<Replacement<'_, '_>>,
     end: &EndCell,
     lines: &mut [Connection<I, O>],
 ) -> Result<Totals, ServeFault> {
-    let Served {
-        mut log,
-        file,
-        replacement,
-    } = served;
     let (copy, length) = seek_frames(&mut log.file)?;
     let work = Work {
         verb: "replaying",
-        file,
+        file: if replacement.is_some() {
+            "/log.new"
+        } else {
+            "/log"
+        },
     };
     let progress = Progress::new(rt, work, folder, copy, length);
     let mut input = BufReader::new(rt.alloc(), progress)?;
@@ -123,12 +115,7 @@ fn serve_old<'w, I: Read + Send + Drop, O: Write + Send + Drop>(
     requires { IsWithin (options.now).store }
 {
     let parts = parts_of(rt, options, how)?;
-    let served = Served {
-        log,
-        file: "/log",
-        replacement: None,
-    };
-    match serve_folder(rt, threads, how.folder, parts, served, end, lines) {
+    match serve_folder(rt, threads, how.folder, parts, log, None, end, lines) {
         Ok(totals) => conclude(rt, totals, lines),
         Err(fault) => Err(fault_stop(how.folder, fault)),
     }
@@ -150,18 +137,13 @@ fn serve_new_log<'w, I: Read + Send + Drop, O: Write + Send + Drop>(
 {
     let parts = parts_of(rt, options, how)?;
     let NewLog { log, was, is } = new;
-    let replacement = Replacement {
+    let new = Some(Replacement {
         rt,
-        folder,
+        folder: how.folder,
         was,
         is,
-    };
-    let served = Served {
-        log,
-        file: "/log.new",
-        replacement: Some(replacement),
-    };
-    let reason = match serve_folder(rt, threads, how.folder, parts, served, end, lines) {
+    });
+    let reason = match serve_folder(rt, threads, how.folder, parts, log, new, end, lines) {
         Ok(totals) => return conclude(rt, totals, lines),
         Err(ServeFault::Record { .. }) => "a record of the new log cannot be replayed",
         Err(ServeFault::Read(_)) => "the new log cannot be read",

@@ -1,6 +1,6 @@
 //! Rewrites a log at a start, if less than half of it is needed.
 
-use crate::data_folder::DataFolder;
+use crate::data_folder::{DataFolder, replace_log, sync_folder};
 use crate::opening::OpenLog;
 use crate::progress::{Progress, Work};
 use crate::stop::Stop;
@@ -26,11 +26,11 @@ pub struct NewLog {
 
 /// The step that ends a rewriting: `log.new` takes the place of the log.
 #[derive(Clone, Copy)]
-pub struct Replacement<'f> {
+pub struct Replacement<'r, 'f> {
     /// The runtime.
-    pub rt: &'f HostRuntime,
-    /// The folder.
-    pub folder: &'f DataFolder<'f>,
+    pub rt: &'r HostRuntime,
+    /// The path of the folder.
+    pub folder: &'f str,
     /// The length of the old log, in bytes.
     pub was: u64,
     /// The length of the rewritten one, in bytes.
@@ -46,16 +46,16 @@ pub enum ReplaceError {
     Sync(io::Error),
 }
 
-impl<'f> Replacement<'f> {
+impl<'r, 'f> Replacement<'r, 'f> {
     /// Makes the rewritten log the log of the folder, so that a crash leaves it there, and prints both lengths.
     pub fn finish(&self) -> Result<(), ReplaceError> {
-        if let Err(error) = self.folder.replace_log(self.rt) {
+        if let Err(error) = replace_log(self.rt, self.folder) {
             return Err(ReplaceError::Rename(error));
         }
-        if let Err(error) = self.folder.sync_entries(self.rt) {
+        if let Err(error) = sync_folder(self.rt, self.folder) {
             return Err(ReplaceError::Sync(error));
         }
-        let (folder, was, is) = (self.folder.path, self.was, self.is);
+        let (folder, was, is) = (self.folder, self.was, self.is);
         let _ = eprint!(self.rt;
             "blobd: {folder}/log was rewritten: {is} of {was} bytes are left\n"
         );
