@@ -29,7 +29,7 @@ sys.path[:0] = [str(TOP / "crates/blobd/crashes"), str(TOP / "crates/blobd")]
 import data_folder
 import registry
 from data_folder import Blobd, Trace
-from frames import ABANDON, APPEND, CLOSE, PUT_MANIFEST, START, request, sha256
+from frames import ABANDON, APPEND, CLOSE, DELETE, PUT_MANIFEST, START, SWEEP, request, sha256
 
 MIB = 1 << 20
 QUOTA = 1 << 40
@@ -55,6 +55,18 @@ def blobs(tenant, count, size):
         for place in range(0, last, MIB):
             yield request(APPEND, f"{tenant}/one", number=number, body=data[place:place + MIB])
         yield request(CLOSE, f"{tenant}/one", sha256(data), number=number, body=data[last:])
+
+
+def garbage(tenant, count, size):
+    """Yields requests that upload blobs, and delete each at once except one of four."""
+    rng = random.Random(tenant)
+    for number in range(1, count + 1):
+        data = rng.randbytes(size)
+        yield request(START, f"{tenant}/one")
+        yield request(CLOSE, f"{tenant}/one", sha256(data), number=number, body=data)
+        if number % 4:
+            yield request(DELETE, f"{tenant}/one", sha256(data))
+            yield request(SWEEP)
 
 
 class Bench:
@@ -129,7 +141,12 @@ class Bench:
         processor = (int(usage[11]) + int(usage[12])) / registry.TICKS
         peak = blobd.peak() / 1024
         blobd.ends()
-        print(f"{title}: {took:.2f} s, {processor:.2f} s of processor time, {peak:,.0f} MiB, from a log of {size / MIB:,.1f} MiB", flush=True)
+        left = (folder / "log").stat().st_size
+        told = f", of which {left / MIB:,.1f} MiB are left" if left < size else ""
+        print(
+            f"{title}: {took:.2f} s, {processor:.2f} s of processor time, {peak:,.0f} MiB, from a log of {size / MIB:,.1f} MiB{told}",
+            flush=True,
+        )
 
 
 def small_commands(bench):
@@ -155,6 +172,7 @@ def restarts(bench):
     print("\nStarts")
     count = bench.scaled(1024)
     bench.restart(f"{count} blobs of a MiB", "never", list(blobs("t0", count, MIB)))
+    bench.restart(f"{count} blobs of a MiB, three of four deleted", "never", list(garbage("t0", count, MIB)))
     count = bench.scaled(60_000)
     bench.restart(f"{count} small commands", "never", list(small("t0", count)))
 
