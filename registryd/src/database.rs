@@ -18,7 +18,7 @@ pub const FILE_NAME: &str = "registry.db";
 /// The time that the program before has to release the database.
 const WAIT: Duration = Duration::from_secs(5);
 
-/// The number in the file's head that marks it as a database of this program (`registryd` in the letters of a telephone).
+/// The number in the file's head that marks it as a database of this program (`regd` in ASCII).
 const APPLICATION: i64 = 0x7265_6764;
 
 /// The version of the tables.
