@@ -7,12 +7,12 @@ after the reply to the one before. The library of crates/blobd/crashes/shim.c co
 is in the temporary folder (TMPDIR), whose disk matters. The output has for each number of connections and policy: requests a
 second, requests a sync, and the median and the 99th percentile of the time of a request in milliseconds.
 
-The push is measured without HTTP for blobd, since registryd does not use the log yet, and over HTTP for docker-registry. So compare the
-order of magnitude only.
+The push is measured by blobd alone, and over HTTP by registryd with a folder and by docker-registry, in turn.
 
     bench/durable.py [--program BLOBD] [--scale F] [MEASURE..]
 
-It needs a built blobd and cc, and docker-registry for the push. With --scale 0.1 each measure has a tenth of its requests."""
+It needs a built blobd and cc, and registryd and docker-registry for the push (BLOBD and REGISTRYD name the programs). With --scale 0.1
+each measure has a tenth of its requests."""
 import argparse
 import http.client
 import pathlib
@@ -203,18 +203,19 @@ def asks(connection, method, path, body, wanted, **headers):
     return response.getheader("Location")
 
 
-def push_to_docker(bench, layers):
-    """Returns the seconds of the same push over HTTP to docker-registry, which keeps its files on the same disk."""
-    server = registry.Theirs(str(bench.folder()))
+def push_over_http(bench, make, layers):
+    """Returns the seconds of the same push over HTTP to a registry that keeps its files on the same disk."""
+    server = make(str(bench.folder()))
     try:
         connection = http.client.HTTPConnection(server.address, timeout=60)
         start = time.monotonic()
         for data in layers:
-            place = asks(connection, "POST", "/v2/t0/one/blobs/uploads/", b"", 202)
+            place = asks(connection, "POST", "/v2/acme/one/blobs/uploads/", b"", 202)
             sent = {"Content-Type": "application/octet-stream"}
-            asks(connection, "PUT", f"{place}&digest={sha256(data)}", data, 201, **sent)
+            joint = "&" if "?" in place else "?"
+            asks(connection, "PUT", f"{place}{joint}digest={sha256(data)}", data, 201, **sent)
         kind = {"Content-Type": "application/vnd.oci.image.manifest.v1+json"}
-        asks(connection, "PUT", "/v2/t0/one/manifests/latest", manifest(layers), 201, **kind)
+        asks(connection, "PUT", "/v2/acme/one/manifests/latest", manifest(layers), 201, **kind)
         return time.monotonic() - start
     finally:
         server.end()
@@ -224,11 +225,11 @@ def push(bench):
     rng = random.Random(1)
     layers = [rng.randbytes(8192) for _ in range(bench.scaled(100))]
     print(f"\nA push of {len(layers)} contents of 8 KiB by one client, synced before each reply")
-    ours = push_to_blobd(bench, layers)
-    print(f"blobd, over named pipes: {ours:.2f} s", flush=True)
-    if shutil.which("docker-registry"):
-        theirs = push_to_docker(bench, layers)
-        print(f"docker-registry, over HTTP: {theirs:.2f} s; ratio {ours / theirs:.2f}")
+    print(f"blobd, over named pipes: {push_to_blobd(bench, layers):.2f} s", flush=True)
+    makes = [registry.Kept] + [registry.Theirs] * bool(shutil.which("docker-registry"))
+    for turn in range(3):
+        took = [push_over_http(bench, make, layers) for make in makes]
+        print("over HTTP: registryd, docker-registry: " + ", ".join(f"{one:.2f} s" for one in took), flush=True)
 
 
 MEASURES = {

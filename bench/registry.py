@@ -29,13 +29,20 @@ class Ours:
     """A new registryd over blobd."""
     rest = "0"
 
-    def __init__(self, folder):
-        self.server = Server("--slots", "65536", "--sweep-ms", self.rest, tenants=["acme=100000000000"])
+    def __init__(self, folder, *options):
+        self.server = Server("--slots", "65536", "--sweep-ms", self.rest, *options, tenants=["acme=100000000000"])
         self.address = self.server.address
         self.pids = [self.server.process.pid, self.server.child()]
 
     def end(self):
         assert self.server.end() == 0
+
+
+class Kept(Ours):
+    """A new registryd that keeps everything in a folder."""
+
+    def __init__(self, folder):
+        super().__init__(folder, "--data", f"{folder}/registry")
 
 
 class Unswept(Ours):
