@@ -133,15 +133,21 @@ class Trace:
         self.calls = [(call, " ".join(name)) for call, *name, _ in lines]
         self.lengths = [int(last) if call == "sync" else 0 for call, *_, last in lines]
 
+    def renames(self):
+        """Returns the places of the last two calls that gave a new log its name, or -1."""
+        places = [place for place, call in enumerate(self.calls) if call[0] == "rename"]
+        return ([-1, -1] + places)[-2:]
+
     def renamed(self):
         """Returns the place of the last call that gave a new log its name, or -1."""
-        return max((place for place, call in enumerate(self.calls) if call[0] == "rename"), default=-1)
+        return self.renames()[1]
 
     def syncs(self):
         """Returns the lengths at its syncs of the file that has the log's name now."""
-        last = self.renamed()
-        named = [("sync", "log.new") if place < last else ("sync", "log") for place in range(len(self.calls))]
-        return [length for call, name, length in zip(self.calls, named, self.lengths) if call == name]
+        before, last = self.renames()
+        named = [("sync", "log.new") if before < place < last else ("sync", "log") for place in range(len(self.calls))]
+        calls = list(zip(self.calls, named, self.lengths))[before + 1 :]
+        return [length for call, name, length in calls if call == name]
 
     def is_name_sure(self):
         """Returns whether a folder was synced after the last rename."""
