@@ -25,7 +25,7 @@ ROUNDS_OF_A_FOLDER = 8
 MOST_TIME, EARLY, MOST_EARLY, IDLE = 1.5, 0.12, 0.3, 0.12
 
 # The number of folders in which a loss must be found if nothing is synced, and of turns of a client before others change something.
-MOST_TRIES, TURNS = 8, 60
+MOST_TRIES, TURNS, MOST_TURNS = 8, 60, 2000
 
 # By how many milliseconds each sync takes longer. Most losses of power then come between a write and its sync.
 SYNC_MS = (0, 3, 10, 30)
@@ -164,7 +164,8 @@ class Lane:
                     self.round(kind)
                 self.finish()
             except WRONG as error:
-                self.reports([f"{error!r}. The log ends with: {self.servers[-1].logged()[-1500:]}"])
+                said = self.servers[-1].logged()[-1500:] if self.servers else ""
+                self.reports([f"{error!r}. The log ends with: {said}"])
             self.ends_all()
 
     def planned(self, kills, losses):
@@ -330,7 +331,10 @@ class Lane:
         clients = self.folder.raw
         for client in clients:
             client.connects(server)
-            for _ in range(TURNS):
+        for turn in range(MOST_TURNS):
+            if turn >= TURNS and tampering.has_enough(self.folder.facts):
+                break
+            for client in clients:
                 client.turn()
         self.counts["requests"] += sum(client.requests for client in clients)
         missed = tampering.missed(server, self.folder.facts)

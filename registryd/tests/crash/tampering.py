@@ -76,11 +76,23 @@ class Tampering(Asker):
         return lambda: self.asks("DELETE", f"other/unknown/blobs/{sha256(b'unknown')}", wants=[202])
 
 
+# The number of open uploads that the changes need: a comparison gives up one that it does not find.
+UPLOADS = 3
+
 KINDS = [
     Tampering.deletes_a_tag, Tampering.deletes_a_manifest, Tampering.deletes_a_blob, Tampering.puts_a_blob_back, Tampering.moves_a_tag,
     Tampering.changes_a_media_type, Tampering.loses_bytes_of_an_upload, Tampering.adds_to_an_upload, Tampering.abandons_an_upload,
     Tampering.opens_an_upload_again, Tampering.uses_more, Tampering.adds_a_tag,
 ]
+
+
+def has_enough(facts):
+    """Returns whether there is something to change of each kind."""
+    tampering = Tampering("tampering", facts, 0)
+    try:
+        return all([tampering.one("tag"), tampering.one("manifest"), tampering.free_blob(), len(facts.uploads) >= UPLOADS])
+    except (StopIteration, AssertionError):
+        return False
 
 
 def missed(server, facts):
