@@ -1,6 +1,8 @@
-//! The tags and media types of the manifests that the store has. They are in this process, and in the database if there is
-//! one. A change is durable before it is visible.
-use crate::tags::Tags;
+//! The tags and facts of the manifests that the store has. They are in this process, and in the database if there is one. A
+//! change is durable before it is visible.
+use crate::clock::now;
+use crate::document::Facts;
+use crate::tags::{ListedBy, Tags};
 use crate::writer::{Change, DatabaseUnavailable, Done, Writer};
 use std::ops::Deref;
 use std::sync::Arc;
@@ -13,6 +15,18 @@ pub struct Catalog {
 
 /// The tags of a manifest that is being deleted.
 pub struct RemovedTags(Vec<String>);
+
+/// The reason why a manifest is not going to be deleted.
+pub enum NoRemoval {
+    DatabaseUnavailable,
+    ListedBy(ListedBy),
+}
+
+impl From<DatabaseUnavailable> for NoRemoval {
+    fn from(_: DatabaseUnavailable) -> NoRemoval {
+        NoRemoval::DatabaseUnavailable
+    }
+}
 
 impl Deref for Catalog {
     type Target = Tags;
@@ -33,16 +47,16 @@ impl Catalog {
     }
 
     /// Adds a manifest that the store accepted, and its tag if it was put under one.
-    pub async fn put(&self, repo: &str, digest: &str, media_type: &str, tag: Option<&str>) -> Result<(), DatabaseUnavailable> {
+    pub async fn put(&self, repo: &str, digest: &str, facts: Facts, tag: Option<&str>) -> Result<(), DatabaseUnavailable> {
         let writer = match &self.writer {
             Some(writer) => writer,
             None => {
-                self.tags.put(repo, digest, media_type, tag);
+                self.tags.put(repo, digest, facts, tag, now());
                 return Ok(());
             }
         };
-        let (repo, digest, media_type) = (repo.to_string(), digest.to_string(), media_type.to_string());
-        writer.write(Change::PutManifest { repo, digest, media_type, tag: tag.map(str::to_string) }).await?;
+        let (repo, digest) = (repo.to_string(), digest.to_string());
+        writer.write(Change::PutManifest { repo, digest, facts, tag: tag.map(str::to_string) }).await?;
         Ok(())
     }
 
@@ -50,16 +64,16 @@ impl Catalog {
     pub async fn remove_tag(&self, repo: &str, tag: &str) -> Result<bool, DatabaseUnavailable> {
         let writer = match &self.writer {
             Some(writer) if self.tags.by_tag(repo, tag).is_some() => writer,
-            _ => return Ok(self.tags.remove_tag(repo, tag)),
+            _ => return Ok(self.tags.remove_tag(repo, tag, now())),
         };
         let removed = writer.write(Change::RemoveTag { repo: repo.to_string(), tag: tag.to_string() }).await?;
         Ok(removed != Done::Removed(Vec::new()))
     }
 
     /// Marks a manifest that the store is going to be asked to delete. With a database, it and its tags are removed there
-    /// before the store deletes it, so that no tag names a missing manifest after a crash.
-    pub async fn begin_removal(&self, repo: &str, digest: &str) -> Result<RemovedTags, DatabaseUnavailable> {
-        self.tags.mark(repo, digest, true);
+    /// before the store deletes it, so that no tag names a missing manifest after a crash. Fails if an index lists it.
+    pub async fn begin_removal(&self, repo: &str, digest: &str) -> Result<RemovedTags, NoRemoval> {
+        self.tags.begin_removal(repo, digest).map_err(NoRemoval::ListedBy)?;
         let writer = match &self.writer {
             Some(writer) if self.tags.is_known(repo, digest) => writer,
             _ => return Ok(RemovedTags(Vec::new())),
@@ -72,11 +86,11 @@ impl Catalog {
 
     /// Shows a manifest and its tags again that the store did not delete. A tag that names another manifest by now stays.
     pub async fn undo_removal(&self, repo: &str, digest: &str, tags: RemovedTags) -> Result<(), DatabaseUnavailable> {
-        if let (Some(writer), Some(media_type)) = (&self.writer, self.tags.any_media_type(repo, digest)) {
+        if let (Some(writer), Some((facts, since))) = (&self.writer, self.tags.any_facts(repo, digest)) {
             let (repo, digest) = (repo.to_string(), digest.to_string());
-            writer.write(Change::RestoreManifest { repo, digest, media_type, tags: tags.0 }).await?;
+            writer.write(Change::RestoreManifest { repo, digest, facts, since, tags: tags.0 }).await?;
         }
-        self.tags.mark(repo, digest, false);
+        self.tags.end_removal(repo, digest);
         Ok(())
     }
 }

@@ -1,5 +1,6 @@
-//! The database of a registry with a folder, `registry.db` (SQLite): tags, media types, the secret of the names of uploads,
-//! and what is needed to find open uploads after a restart.
+//! The database of a registry with a folder, `registry.db` (SQLite): tags, facts of manifests, the secret of the names of
+//! uploads, and what is needed to find open uploads after a restart.
+use crate::document::Facts;
 use crate::limits::tenant_of;
 use crate::upload_name::{Secret, SECRET_LEN};
 use crate::writer::Change;
@@ -22,8 +23,9 @@ const WAIT: Duration = Duration::from_secs(5);
 const APPLICATION: i64 = 0x7265_6764;
 
 /// The version of the tables.
-const VERSION: i64 = 1;
+const VERSION: i64 = 2;
 
+/// The tables of version 1.
 const TABLES: &str = "
     CREATE TABLE settings (name TEXT PRIMARY KEY, value BLOB NOT NULL) WITHOUT ROWID;
     CREATE TABLE repositories (name TEXT PRIMARY KEY) WITHOUT ROWID;
@@ -42,6 +44,20 @@ const TABLES: &str = "
         PRIMARY KEY (tenant, number)
     ) WITHOUT ROWID;
     CREATE TABLE tenants (name TEXT PRIMARY KEY, recorded INTEGER NOT NULL) WITHOUT ROWID;
+";
+
+/// What version 2 adds. `size` is missing for a manifest whose other facts are not known yet.
+const ADDITIONS: &str = "
+    ALTER TABLE manifests ADD COLUMN size INTEGER;
+    ALTER TABLE manifests ADD COLUMN artifact_type TEXT;
+    ALTER TABLE manifests ADD COLUMN subject TEXT;
+    ALTER TABLE manifests ADD COLUMN since INTEGER NOT NULL DEFAULT 0;
+    CREATE INDEX manifests_by_subject ON manifests (repository, subject);
+    CREATE TABLE listed (
+        repository TEXT NOT NULL, digest TEXT NOT NULL, listed TEXT NOT NULL,
+        PRIMARY KEY (repository, digest, listed),
+        FOREIGN KEY (repository, digest) REFERENCES manifests ON DELETE CASCADE
+    ) WITHOUT ROWID;
 ";
 
 /// The reason why a database cannot be opened.
@@ -83,12 +99,16 @@ impl OpenError {
     }
 }
 
-/// A manifest with its media type.
+/// A manifest.
 #[derive(Clone, Debug, PartialEq, Eq)]
 pub struct ManifestRow {
     pub repo: String,
     pub digest: String,
-    pub media_type: String,
+    pub facts: Facts,
+    /// Whether all facts are known, and not its media type alone.
+    pub is_complete: bool,
+    /// The last time at which it was pushed or something ceased to hold it, in seconds since 1970.
+    pub since: u64,
 }
 
 /// A tag with the digest of its manifest.
@@ -164,9 +184,7 @@ impl Database {
         let secret = self.secret()?;
         let connection = &self.connection;
         let repositories = all(connection, "SELECT name FROM repositories", |row| row.get(0))?;
-        let manifests = all(connection, "SELECT repository, digest, media_type FROM manifests", |row| {
-            Ok(ManifestRow { repo: row.get(0)?, digest: row.get(1)?, media_type: row.get(2)? })
-        })?;
+        let manifests = manifest_rows(connection)?;
         let tags = all(connection, "SELECT repository, tag, digest FROM tags", |row| {
             Ok(TagRow { repo: row.get(0)?, tag: row.get(1)?, digest: row.get(2)? })
         })?;
@@ -196,16 +214,17 @@ impl Database {
     }
 
     /// Makes changes in one transaction, in their order. `recorded` has the tenants whose number changes up to which all open
-    /// sessions are recorded. Nothing is changed if it fails.
+    /// sessions are recorded. `now` is the time, in seconds since 1970. Nothing is changed if it fails.
     pub fn commit<'c>(
         &mut self,
         changes: impl Iterator<Item = &'c Change>,
         recorded: &[(String, u32)],
+        now: u64,
     ) -> rusqlite::Result<()> {
         let transaction = self.connection.transaction_with_behavior(TransactionBehavior::Immediate)?;
         let mut uploads = UploadChanges::default();
         for change in changes {
-            make(&transaction, change, &mut uploads)?;
+            make(&transaction, change, now, &mut uploads)?;
         }
         uploads.make(&transaction)?;
         for (tenant, number) in recorded {
@@ -231,6 +250,29 @@ fn all<T>(
     connection.prepare(query)?.query_map([], read)?.collect()
 }
 
+/// Returns all manifests.
+fn manifest_rows(connection: &Connection) -> rusqlite::Result<Vec<ManifestRow>> {
+    let mut lists: HashMap<(String, String), Vec<String>> = HashMap::new();
+    let query = "SELECT repository, digest, listed FROM listed ORDER BY repository, digest, listed";
+    for (key, listed) in all(connection, query, |row| Ok(((row.get(0)?, row.get(1)?), row.get(2)?)))? {
+        lists.entry(key).or_default().push(listed);
+    }
+    let query = "SELECT repository, digest, media_type, size, artifact_type, subject, since FROM manifests";
+    all(connection, query, |row| {
+        let (repo, digest): (String, String) = (row.get(0)?, row.get(1)?);
+        let size: Option<i64> = row.get(3)?;
+        let lists = lists.remove(&(repo.clone(), digest.clone())).unwrap_or_default();
+        let facts = Facts {
+            media_type: row.get(2)?,
+            size: size.unwrap_or(0) as u64,
+            artifact_type: row.get(4)?,
+            subject: row.get(5)?,
+            lists,
+        };
+        Ok(ManifestRow { repo, digest, facts, is_complete: size.is_some(), since: row.get::<_, i64>(6)? as u64 })
+    })
+}
+
 /// Sets how the database writes and checks. Other programs can read it meanwhile, for a backup. The store's lock on the folder
 /// keeps a second registry out.
 fn set_up(connection: &Connection, is_synced: bool) -> rusqlite::Result<()> {
@@ -241,13 +283,17 @@ fn set_up(connection: &Connection, is_synced: bool) -> rusqlite::Result<()> {
     connection.execute_batch("PRAGMA foreign_keys = ON")
 }
 
-/// Checks the database, or makes its tables if it is empty. Returns what is wrong, if anything is.
+/// Checks the database, or makes its tables if it is empty, or adds to those of version 1. Returns what is wrong, if anything is.
 fn check_or_make(connection: &mut Connection) -> rusqlite::Result<Option<String>> {
     let transaction = connection.transaction_with_behavior(TransactionBehavior::Exclusive)?;
     let number = |query: &str| transaction.query_row(query, [], |row| row.get::<_, i64>(0));
     let found = (number("PRAGMA application_id")?, number("PRAGMA user_version")?);
-    if found == (0, 0) && number("SELECT count(*) FROM sqlite_schema")? == 0 {
+    let is_empty = found == (0, 0) && number("SELECT count(*) FROM sqlite_schema")? == 0;
+    if is_empty {
         transaction.execute_batch(TABLES)?;
+    }
+    if is_empty || found == (APPLICATION, 1) {
+        transaction.execute_batch(ADDITIONS)?;
         transaction.execute_batch(&format!("PRAGMA application_id = {APPLICATION}; PRAGMA user_version = {VERSION}"))?;
     } else if found != (APPLICATION, VERSION) {
         return Ok(Some("not a database of this version of registryd".to_string()));
@@ -260,31 +306,79 @@ fn check_or_make(connection: &mut Connection) -> rusqlite::Result<Option<String>
     Ok(None)
 }
 
-/// Makes a change, except that of an upload, which it notes.
-fn make<'c>(transaction: &Transaction<'_>, change: &'c Change, uploads: &mut UploadChanges<'c>) -> rusqlite::Result<()> {
-    let run = |query: &str, values: &[&dyn rusqlite::ToSql]| -> rusqlite::Result<()> {
-        transaction.prepare_cached(query)?.execute(values).map(|_| ())
-    };
+/// Runs a statement.
+fn run(transaction: &Transaction<'_>, query: &str, values: &[&dyn rusqlite::ToSql]) -> rusqlite::Result<()> {
+    transaction.prepare_cached(query)?.execute(values).map(|_| ())
+}
+
+/// Writes a manifest. One that is there keeps the time since when it is held as it is, unless `is_put`.
+fn put_manifest(
+    transaction: &Transaction<'_>,
+    (repo, digest): (&str, &str),
+    facts: &Facts,
+    since: u64,
+    is_put: bool,
+) -> rusqlite::Result<()> {
+    let query = "INSERT INTO manifests (repository, digest, media_type, size, artifact_type, subject, since)
+                 VALUES (?1, ?2, ?3, ?4, ?5, ?6, ?7)
+                 ON CONFLICT DO UPDATE SET media_type = excluded.media_type, size = excluded.size,
+                     artifact_type = excluded.artifact_type, subject = excluded.subject, since = excluded.since
+                 WHERE ?8";
+    let Facts { media_type, size, artifact_type, subject, lists } = facts;
+    let (size, since) = (*size as i64, since as i64);
+    run(transaction, query, params![repo, digest, media_type, size, artifact_type, subject, since, is_put])?;
+    for listed in lists {
+        let query = "INSERT OR IGNORE INTO listed (repository, digest, listed) VALUES (?1, ?2, ?3)";
+        run(transaction, query, params![repo, digest, listed])?;
+    }
+    Ok(())
+}
+
+/// Notes that a tag ceases to name its manifest.
+fn release_tagged(transaction: &Transaction<'_>, repo: &str, tag: &str, now: u64) -> rusqlite::Result<()> {
+    let query = "UPDATE manifests SET since = ?3 WHERE repository = ?1
+                 AND digest = (SELECT digest FROM tags WHERE repository = ?1 AND tag = ?2)";
+    run(transaction, query, params![repo, tag, now as i64])
+}
+
+/// Removes a manifest with its tags. It ceases to hold what it lists, and what has it as subject.
+fn remove_manifest(transaction: &Transaction<'_>, repo: &str, digest: &str, now: u64) -> rusqlite::Result<()> {
+    for query in [
+        "UPDATE manifests SET since = ?3 WHERE repository = ?1
+         AND digest IN (SELECT listed FROM listed WHERE repository = ?1 AND digest = ?2)",
+        "UPDATE manifests SET since = ?3 WHERE repository = ?1 AND subject = ?2",
+    ] {
+        run(transaction, query, params![repo, digest, now as i64])?;
+    }
+    run(transaction, "DELETE FROM manifests WHERE repository = ?1 AND digest = ?2", params![repo, digest])
+}
+
+/// Makes a change, except that of an upload, which it notes. `now` is the time.
+fn make<'c>(
+    transaction: &Transaction<'_>,
+    change: &'c Change,
+    now: u64,
+    uploads: &mut UploadChanges<'c>,
+) -> rusqlite::Result<()> {
+    let run = |query: &str, values: &[&dyn rusqlite::ToSql]| run(transaction, query, values);
     let add_repository = |repo: &String| run("INSERT OR IGNORE INTO repositories (name) VALUES (?1)", params![repo]);
     match change {
         Change::AddRepository { repo } => add_repository(repo),
         Change::RemoveRepository { repo } => run("DELETE FROM repositories WHERE name = ?1", params![repo]),
-        Change::PutManifest { repo, digest, media_type, tag } => {
+        Change::PutManifest { repo, digest, facts, tag } => {
             add_repository(repo)?;
-            let query = "INSERT INTO manifests (repository, digest, media_type) VALUES (?1, ?2, ?3)
-                         ON CONFLICT DO UPDATE SET media_type = excluded.media_type";
-            run(query, params![repo, digest, media_type])?;
+            put_manifest(transaction, (repo, digest), facts, now, true)?;
             match tag {
                 Some(tag) => {
+                    release_tagged(transaction, repo, tag, now)?;
                     let query = "INSERT OR REPLACE INTO tags (repository, tag, digest) VALUES (?1, ?2, ?3)";
                     run(query, params![repo, tag, digest])
                 }
                 None => Ok(()),
             }
         }
-        Change::RestoreManifest { repo, digest, media_type, tags } => {
-            let query = "INSERT OR IGNORE INTO manifests (repository, digest, media_type) VALUES (?1, ?2, ?3)";
-            run(query, params![repo, digest, media_type])?;
+        Change::RestoreManifest { repo, digest, facts, since, tags } => {
+            put_manifest(transaction, (repo, digest), facts, *since, false)?;
             for tag in tags {
                 let query = "INSERT OR IGNORE INTO tags (repository, tag, digest) VALUES (?1, ?2, ?3)";
                 run(query, params![repo, tag, digest])?;
@@ -292,11 +386,10 @@ fn make<'c>(transaction: &Transaction<'_>, change: &'c Change, uploads: &mut Upl
             Ok(())
         }
         Change::RemoveTag { repo, tag } => {
+            release_tagged(transaction, repo, tag, now)?;
             run("DELETE FROM tags WHERE repository = ?1 AND tag = ?2", params![repo, tag])
         }
-        Change::RemoveManifest { repo, digest } => {
-            run("DELETE FROM manifests WHERE repository = ?1 AND digest = ?2", params![repo, digest])
-        }
+        Change::RemoveManifest { repo, digest } => remove_manifest(transaction, repo, digest, now),
         Change::OpenUpload { repo, number } => {
             uploads.open(repo, *number);
             Ok(())
@@ -366,8 +459,13 @@ mod tests {
     }
 
     fn put(digest: &str, media_type: &str, tag: Option<&str>) -> Change {
-        let (repo, digest, media_type) = ("acme/web".to_string(), digest.to_string(), media_type.to_string());
-        Change::PutManifest { repo, digest, media_type, tag: tag.map(str::to_string) }
+        let facts = Facts { media_type: media_type.to_string(), ..Facts::default() };
+        put_facts(digest, facts, tag)
+    }
+
+    fn put_facts(digest: &str, facts: Facts, tag: Option<&str>) -> Change {
+        let (repo, digest) = ("acme/web".to_string(), digest.to_string());
+        Change::PutManifest { repo, digest, facts, tag: tag.map(str::to_string) }
     }
 
     fn tags(rows: &Rows) -> Vec<(&str, &str)> {
@@ -381,12 +479,12 @@ mod tests {
         let secret = database.read().unwrap().secret;
         let remove = Change::RemoveTag { repo: "acme/web".to_string(), tag: "v2".to_string() };
         let changes = [put("a", "x/a", Some("v1")), put("a", "x/b", Some("v2")), put("b", "x/b", Some("v3")), remove];
-        database.commit(changes.iter(), &[("acme".to_string(), 7)]).unwrap();
+        database.commit(changes.iter(), &[("acme".to_string(), 7)], 1).unwrap();
         drop(database);
         let rows = folder.open().read().unwrap();
         assert!(rows.secret == secret);
         assert_eq!(tags(&rows), [("v1", "a"), ("v3", "b")]);
-        let types: Vec<(&str, &str)> = rows.manifests.iter().map(|row| (&*row.digest, &*row.media_type)).collect();
+        let types: Vec<(&str, &str)> = rows.manifests.iter().map(|row| (&*row.digest, &*row.facts.media_type)).collect();
         assert_eq!(types, [("a", "x/b"), ("b", "x/b")]);
         assert_eq!((rows.repositories, rows.recorded), (vec!["acme/web".to_string()], [("acme".to_string(), 7)].into()));
     }
@@ -398,12 +496,72 @@ mod tests {
         let (repo, digest) = ("acme/web".to_string(), "a".to_string());
         let remove = Change::RemoveManifest { repo: repo.clone(), digest: digest.clone() };
         let changes = [put("a", "x/a", Some("v1")), put("a", "x/a", Some("v2")), remove, put("b", "x/b", Some("v2"))];
-        database.commit(changes.iter(), &[]).unwrap();
+        database.commit(changes.iter(), &[], 1).unwrap();
         assert_eq!(tags(&database.read().unwrap()), [("v2", "b")]);
         let tags_before = vec!["v1".to_string(), "v2".to_string()];
-        let restore = Change::RestoreManifest { repo, digest, media_type: "x/a".to_string(), tags: tags_before };
-        database.commit([restore].iter(), &[]).unwrap();
+        let restore = Change::RestoreManifest { repo, digest, facts: Facts::default(), since: 1, tags: tags_before };
+        database.commit([restore].iter(), &[], 1).unwrap();
         assert_eq!(tags(&database.read().unwrap()), [("v1", "a"), ("v2", "b")]);
+    }
+
+    fn since(rows: &Rows) -> Vec<(&str, u64)> {
+        rows.manifests.iter().map(|row| (&*row.digest, row.since)).collect()
+    }
+
+    #[test]
+    fn facts_are_there_when_it_is_opened_again() {
+        let folder = TestFolder::new();
+        let facts = Facts {
+            media_type: "x/a".to_string(),
+            size: 7,
+            artifact_type: Some("c/d".to_string()),
+            subject: Some("s".to_string()),
+            lists: vec!["l1".to_string(), "l2".to_string()],
+        };
+        let mut database = folder.open();
+        database.commit([put_facts("a", facts.clone(), None), put("b", "x/b", None)].iter(), &[], 5).unwrap();
+        drop(database);
+        let rows = folder.open().read().unwrap().manifests;
+        let expected = |digest: &str, facts| {
+            let (repo, digest) = ("acme/web".to_string(), digest.to_string());
+            ManifestRow { repo, digest, facts, is_complete: true, since: 5 }
+        };
+        let plain = Facts { media_type: "x/b".to_string(), ..Facts::default() };
+        assert_eq!(rows, [expected("a", facts), expected("b", plain)]);
+    }
+
+    #[test]
+    fn a_manifest_is_held_since_the_last_time_something_ceased_to_hold_it() {
+        let folder = TestFolder::new();
+        let mut database = folder.open();
+        let index = Facts { lists: vec!["b".to_string()], ..Facts::default() };
+        let referrer = Facts { subject: Some("a".to_string()), ..Facts::default() };
+        let (repo, digest, tag) = ("acme/web".to_string(), "a".to_string(), "v1".to_string());
+        let changes = [put("b", "x/b", Some("v1")), put_facts("a", index, None), put_facts("c", referrer, None)];
+        database.commit(changes.iter(), &[], 1).unwrap();
+        database.commit([put("a", "x/a", Some("v1"))].iter(), &[], 2).unwrap();
+        assert_eq!(since(&database.read().unwrap()), [("a", 2), ("b", 2), ("c", 1)]);
+        database.commit([Change::RemoveTag { repo: repo.clone(), tag }].iter(), &[], 3).unwrap();
+        assert_eq!(since(&database.read().unwrap()), [("a", 3), ("b", 2), ("c", 1)]);
+        database.commit([Change::RemoveManifest { repo, digest }].iter(), &[], 4).unwrap();
+        assert_eq!(since(&database.read().unwrap()), [("b", 4), ("c", 4)]);
+    }
+
+    #[test]
+    fn a_database_of_version_1_is_taken_over() {
+        let folder = TestFolder::new();
+        let old = Connection::open(folder.0.join(FILE_NAME)).unwrap();
+        old.execute_batch(TABLES).unwrap();
+        old.execute_batch(&format!("PRAGMA application_id = {APPLICATION}; PRAGMA user_version = 1")).unwrap();
+        old.execute_batch(
+            "INSERT INTO manifests VALUES ('acme/web', 'a', 'x/a'); INSERT INTO tags VALUES ('acme/web', 'v1', 'a')",
+        )
+        .unwrap();
+        drop(old);
+        let rows = folder.open().read().unwrap();
+        let row = &rows.manifests[0];
+        assert_eq!((&*row.facts.media_type, row.is_complete, tags(&rows)), ("x/a", false, vec![("v1", "a")]));
+        assert_eq!(folder.open().read().unwrap().manifests, rows.manifests);
     }
 
     #[test]
@@ -412,8 +570,8 @@ mod tests {
         let mut database = folder.open();
         let open = |number| Change::OpenUpload { repo: "acme/web".to_string(), number };
         let end = |number| Change::EndUpload { repo: "acme/web".to_string(), number };
-        database.commit([open(1), open(2), end(1), open(3)].iter(), &[]).unwrap();
-        database.commit([end(2), open(4)].iter(), &[]).unwrap();
+        database.commit([open(1), open(2), end(1), open(3)].iter(), &[], 1).unwrap();
+        database.commit([end(2), open(4)].iter(), &[], 1).unwrap();
         let numbers: Vec<u32> = database.read().unwrap().uploads.iter().map(|row| row.number).collect();
         assert_eq!(numbers, [3, 4]);
     }
@@ -424,7 +582,7 @@ mod tests {
         let mut database = folder.open();
         database.connection.execute_batch("DROP TABLE uploads").unwrap();
         let open = Change::OpenUpload { repo: "acme/web".to_string(), number: 1 };
-        assert!(database.commit([put("a", "x/a", Some("v1")), open].iter(), &[]).is_err());
+        assert!(database.commit([put("a", "x/a", Some("v1")), open].iter(), &[], 1).is_err());
         let count = |table| database.connection.query_row(&format!("SELECT count(*) FROM {table}"), [], |row| row.get(0));
         assert_eq!((count("manifests"), count("tags")), (Ok(0), Ok(0)));
     }

@@ -61,6 +61,12 @@ impl Fault {
             .with_header("Retry-After", "1")
     }
 
+    /// An index of the repository lists the manifest.
+    pub fn listed(index: &str) -> Fault {
+        Fault::new(StatusCode::FORBIDDEN, "DENIED", "an index lists the manifest: delete the index first")
+            .with_detail(json!({ "manifest": index }))
+    }
+
     /// The content is not a manifest, or differs from its description in the request.
     pub fn manifest_invalid(message: impl Into<String>) -> Fault {
         Fault::new(StatusCode::BAD_REQUEST, "MANIFEST_INVALID", message)

@@ -167,6 +167,13 @@ pub struct Refusal {
     pub digest: String,
 }
 
+impl Refusal {
+    /// Makes a refusal without details.
+    pub fn of(reason: Reason) -> Refusal {
+        Refusal { reason, first: 0, second: 0, digest: String::new() }
+    }
+}
+
 #[cfg(test)]
 mod tests {
     use super::*;

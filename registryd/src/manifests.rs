@@ -1,13 +1,18 @@
 //! Manifests and tags.
+use crate::catalog::NoRemoval;
+use crate::clock::now;
 use crate::conditional::{entity_tag, has_content, not_modified};
 use crate::content::{RequestContent, MAX_MANIFEST};
+use crate::document::{self, Document, Facts};
 use crate::fault::Fault;
 use crate::frames::{Reason, Refusal};
 use crate::limits::Limit;
 use crate::media_type::{media_type_of, MediaType};
+use crate::pages::{page_response, WantedPage};
 use crate::registry::{empty, with_body, Call, HandlerResult};
 use crate::store::Answer;
-use crate::tags::{is_tag, NamedManifest, Page, MAX_PAGE};
+use crate::tags::{is_tag, ListedBy, NamedManifest};
+use crate::writer::DatabaseUnavailable;
 use bytes::Bytes;
 use hyper::{Body, StatusCode};
 use serde_json::json;
@@ -18,7 +23,7 @@ use std::future::Future;
 const LOOK_UPS: usize = 8;
 
 /// Returns whether a reference is a digest and not a tag.
-fn is_digest(reference: &str) -> bool {
+pub fn is_digest(reference: &str) -> bool {
     reference.contains(':')
 }
 
@@ -48,12 +53,18 @@ async fn adopt(call: &Call, digest: &str) -> Result<NamedManifest, Fault> {
     let _turn = call.registry.turns.take(&call.repo, digest).await;
     if !tags.is_known(&call.repo, digest) {
         let content = [call.registry.store.get_manifest(&call.repo, digest).await??];
-        let media_type = tokio::task::block_in_place(|| media_type_of(None, &content));
-        let media_type = media_type.map_err(|_| Fault::manifest_unknown())?;
-        tags.put(&call.repo, digest, &media_type.text, None).await?;
+        let facts = tokio::task::block_in_place(|| facts_of_stored(&content)).ok_or_else(Fault::manifest_unknown)?;
+        tags.put(&call.repo, digest, facts, None).await?;
         tracing::info!(repo = %call.repo, digest, "found a manifest whose push was interrupted");
     }
     tags.by_digest(&call.repo, digest).ok_or_else(Fault::manifest_unknown)
+}
+
+/// Returns the facts of a manifest that the store has, by its content alone.
+fn facts_of_stored(content: &[Bytes]) -> Option<Facts> {
+    let document = document::read(content).ok()?;
+    let media_type = media_type_of(None, &document).ok()?.text;
+    Some(document.facts_of_stored(media_type, size_of(content)))
 }
 
 /// Finds the manifest of a reference, and asks the store about it. The manifest may be deleted after the look-up while its
@@ -108,22 +119,48 @@ pub async fn put(call: &Call, reference: &str, content: &mut RequestContent) -> 
     }
     let bytes = content.manifest().await?;
     // Parsing a long manifest takes long, so it runs in a blocking thread.
-    let header = call.header("content-type");
-    let (digest, media_type) = tokio::task::block_in_place(|| (digest_of(&bytes), media_type_of(header, &bytes)));
+    let (digest, document) = tokio::task::block_in_place(|| (digest_of(&bytes), document::read(&bytes)));
     if is_digest(reference) {
         check_digest(&digest, reference)?;
     }
-    let given = media_type?;
+    let document = document?;
+    let given = media_type_of(call.header("content-type"), &document)?;
     let tag = Some(reference).filter(|reference| !is_digest(reference));
     let turn = call.registry.turns.take(&call.repo, &digest).await;
-    let media_type = media_type_to_store(call, &digest, given)?;
+    let facts = facts_to_store(call, &digest, document, given, size_of(&bytes))?;
     call.check_limit(call.registry.store.put_manifest(&call.repo, &bytes).await?, Limit::Manifests)?;
-    call.registry.tags.put(&call.repo, &digest, &media_type, tag).await?;
+    let (subject, missing) = (facts.subject.clone(), call.registry.tags.count_missing(&call.repo, &facts.lists));
+    call.registry.tags.put(&call.repo, &digest, facts, tag).await?;
     // With a database, the repository is recorded there from now on.
     call.registry.repositories.add(&call.repo);
     drop(turn);
+    accepted(call, &digest, subject.as_deref(), missing)
+}
+
+/// Returns the response to a manifest that was put. `missing` is how many of the manifests that it lists are missing.
+fn accepted(call: &Call, digest: &str, subject: Option<&str>, missing: usize) -> HandlerResult {
     let location = format!("/v2/{}/manifests/{digest}", call.repo);
-    empty(StatusCode::CREATED, &[("Location", &location), ("Docker-Content-Digest", &digest)])
+    let mut headers = vec![("Location", &*location), ("Docker-Content-Digest", digest)];
+    headers.extend(subject.map(|subject| ("OCI-Subject", subject)));
+    let sparse = warning(&format!("the repository lacks {missing} of the manifests that the index lists"));
+    if missing > 0 {
+        headers.push(("Warning", &sparse));
+    }
+    let volatile = warning("the registry keeps this in memory: it is lost when the registry ends");
+    if !call.registry.tags.is_kept() {
+        headers.push(("Warning", &volatile));
+    }
+    empty(StatusCode::CREATED, &headers)
+}
+
+/// Returns the value of a header `Warning` (OCI Distribution Specification 1.1, "Warnings").
+fn warning(text: &str) -> String {
+    format!("299 - \"{text}\"")
+}
+
+/// Returns the length of a manifest, in bytes.
+fn size_of(parts: &[Bytes]) -> u64 {
+    parts.iter().map(|part| part.len() as u64).sum()
 }
 
 /// Returns the digest by which the store stores a manifest.
@@ -147,17 +184,18 @@ fn check_digest(digest: &str, reference: &str) -> Result<(), Fault> {
     Ok(())
 }
 
-/// Returns the media type of a manifest: the stored one if the repository already has the manifest, and else the given one.
-/// Fails if they differ.
-fn media_type_to_store(call: &Call, digest: &str, given: MediaType) -> Result<String, Fault> {
-    match call.registry.tags.by_digest(&call.repo, digest) {
+/// Returns the facts of a manifest. Its media type is the stored one if the repository already has the manifest, and else the
+/// given one. Fails if they differ.
+fn facts_to_store(call: &Call, digest: &str, document: Document, given: MediaType, size: u64) -> Result<Facts, Fault> {
+    let media_type = match call.registry.tags.by_digest(&call.repo, digest) {
         Some(stored) if given.is_given && !stored.media_type.eq_ignore_ascii_case(&given.text) => {
             let message = format!("the repository has the manifest with media type {}, not {}", stored.media_type, given.text);
-            Err(Fault::manifest_invalid(message))
+            return Err(Fault::manifest_invalid(message));
         }
-        Some(stored) => Ok(stored.media_type),
-        None => Ok(given.text),
-    }
+        Some(stored) => stored.media_type,
+        None => given.text,
+    };
+    document.facts(media_type, size)
 }
 
 /// end-9: deletes a manifest and its tags, or one tag.
@@ -170,15 +208,23 @@ pub async fn delete(call: &Call, reference: &str) -> HandlerResult {
     empty(StatusCode::ACCEPTED, &[])
 }
 
-/// Deletes a manifest and its tags. They are hidden from now on, and are shown again if the store does not delete it.
+/// Deletes a manifest and its tags. They are hidden from now on, and are shown again if the store does not delete it. Fails if
+/// an index lists it.
 async fn delete_manifest(call: &Call, digest: &str) -> Result<(), Fault> {
     let (store, tags) = (&call.registry.store, &call.registry.tags);
     let _turn = call.registry.turns.take(&call.repo, digest).await;
-    let removed = tags.begin_removal(&call.repo, digest).await?;
+    let removed = match tags.begin_removal(&call.repo, digest).await {
+        Ok(removed) => removed,
+        Err(NoRemoval::DatabaseUnavailable) => return Err(DatabaseUnavailable.into()),
+        Err(NoRemoval::ListedBy(ListedBy(index))) => {
+            store.stat_manifest(&call.repo, digest).await??;
+            return Err(Fault::listed(&index));
+        }
+    };
     match store.delete_manifest(&call.repo, digest).await? {
-        Ok(()) => tags.remove_manifest(&call.repo, digest),
+        Ok(()) => tags.remove_manifest(&call.repo, digest, now()),
         Err(refusal @ Refusal { reason: Reason::ManifestUnknown, .. }) => {
-            tags.remove_manifest(&call.repo, digest);
+            tags.remove_manifest(&call.repo, digest, now());
             return Err(refusal.into());
         }
         Err(refusal) => {
@@ -191,24 +237,12 @@ async fn delete_manifest(call: &Call, digest: &str) -> Result<(), Fault> {
 
 /// end-8: returns a page of the tags.
 pub async fn tags(call: &Call) -> HandlerResult {
-    let last = call.query("last").unwrap_or_default();
-    let most: usize = match call.query("n") {
-        None => MAX_PAGE,
-        Some(text) => text.parse().map_err(|_| {
-            Fault::new(StatusCode::BAD_REQUEST, "UNSUPPORTED", "n must be a number")
-        })?,
-    };
-    let most = most.min(MAX_PAGE);
-    let page = call.registry.tags.page(&call.repo, &last, most);
-    let Page { tags, more } = page.ok_or_else(|| {
+    let wanted = WantedPage::of(call.head.uri.query())?;
+    let page = call.registry.tags.page(&call.repo, &wanted.last, wanted.most);
+    let page = page.ok_or_else(|| {
         Fault::new(StatusCode::NOT_FOUND, "NAME_UNKNOWN", "the repository has no manifests")
     })?;
-    let text = json!({ "name": call.repo, "tags": tags }).to_string() + "\n";
-    let next = match (more, tags.last()) {
-        (true, Some(last)) => format!("</v2/{}/tags/list?n={most}&last={last}>; rel=\"next\"", call.repo),
-        _ => String::new(),
-    };
-    let headers = [("Content-Type", "application/json"), ("Link", &*next)];
-    let shown = if next.is_empty() { 1 } else { 2 };
-    with_body(StatusCode::OK, &headers[..shown], Body::from(text))
+    let last = page.items.last().filter(|_| page.more);
+    let link = last.map(|last| wanted.next(&format!("/v2/{}/tags/list", call.repo), last, &[]));
+    page_response(&json!({ "name": call.repo, "tags": page.items }), link)
 }

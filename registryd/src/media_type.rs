@@ -1,22 +1,18 @@
 //! The media type of a manifest: that of the header, that of the document, or the default of its form (OCI Distribution
 //! Specification 1.1, "Pushing Manifests"; OCI Image Specification 1.1, "Image Manifest", "Image Index").
+use crate::document::{Document, MAX_LEN};
 use crate::fault::Fault;
-use bytes::{Buf, Bytes};
-use serde::de::{Deserialize, Deserializer, IgnoredAny, MapAccess, Visitor};
-use std::collections::VecDeque;
-use std::fmt;
-use std::io::{self, Read};
-
-/// The maximum length of a media type, in bytes.
-const MAX_LEN: usize = 255;
 
 /// The media types of an image manifest, the standard's first.
 const IMAGE_TYPES: [&str; 2] =
     ["application/vnd.oci.image.manifest.v1+json", "application/vnd.docker.distribution.manifest.v2+json"];
 
+/// The standard's media type of an image index.
+pub const INDEX_TYPE: &str = "application/vnd.oci.image.index.v1+json";
+
 /// The media types of an image index, the standard's first.
 const INDEX_TYPES: [&str; 2] =
-    ["application/vnd.oci.image.index.v1+json", "application/vnd.docker.distribution.manifest.list.v2+json"];
+    [INDEX_TYPE, "application/vnd.docker.distribution.manifest.list.v2+json"];
 
 /// The media type of a manifest.
 #[derive(Debug, PartialEq, Eq)]
@@ -26,34 +22,23 @@ pub struct MediaType {
     pub is_given: bool,
 }
 
-/// The members of a document that decide its media type.
-#[derive(Debug, Default, PartialEq, Eq)]
-struct Document {
-    media_type: Option<String>,
-    /// Whether it has a member `manifests`, as an index has.
-    is_index: bool,
-}
-
 /// Returns the media type of a manifest that was sent with a header `Content-Type`, if any.
 ///
 /// # Errors
 ///
-/// - The content is not a JSON object, or its `mediaType` is not a text.
 /// - The header and the document have different media types.
 /// - A media type is malformed or has more than 255 bytes.
 /// - The media type is that of an image manifest and the document is an index, or the other way round.
-pub fn media_type_of(header: Option<&str>, content: &[Bytes]) -> Result<MediaType, Fault> {
-    let document: Document = serde_json::from_reader(Parts { parts: content.iter().cloned().collect() })
-        .map_err(|error| Fault::manifest_invalid(format!("the content is not a manifest: {error}")))?;
+pub fn media_type_of(header: Option<&str>, document: &Document) -> Result<MediaType, Fault> {
     let given = header.map(without_parameters).filter(|text| !text.is_empty());
     let known = if document.is_index { INDEX_TYPES[0] } else { IMAGE_TYPES[0] };
     let is_given = given.is_some() || document.media_type.is_some();
-    let text = match (given, document.media_type) {
-        (Some(given), Some(own)) if !given.eq_ignore_ascii_case(&own) => {
+    let text = match (given, document.media_type.as_deref()) {
+        (Some(given), Some(own)) if !given.eq_ignore_ascii_case(own) => {
             let message = format!("Content-Type is {given:.255}, but the manifest's mediaType is {own:.255}");
             return Err(Fault::manifest_invalid(message));
         }
-        (_, Some(own)) => own,
+        (_, Some(own)) => own.to_string(),
         (Some(given), None) => given.to_ascii_lowercase(),
         (None, None) => known.to_string(),
     };
@@ -81,71 +66,19 @@ fn is_media_type(text: &str) -> bool {
     text.len() <= MAX_LEN && text.split_once('/').map_or(false, |(kind, subtype)| is_token(kind) && is_token(subtype))
 }
 
-/// A reader over content in parts.
-struct Parts {
-    parts: VecDeque<Bytes>,
-}
-
-impl Read for Parts {
-    fn read(&mut self, bytes: &mut [u8]) -> io::Result<usize> {
-        while let Some(part) = self.parts.front_mut() {
-            if part.is_empty() {
-                self.parts.pop_front();
-                continue;
-            }
-            let count = part.len().min(bytes.len());
-            part.copy_to_slice(&mut bytes[..count]);
-            return Ok(count);
-        }
-        Ok(0)
-    }
-}
-
-impl<'de> Deserialize<'de> for Document {
-    fn deserialize<D: Deserializer<'de>>(deserializer: D) -> Result<Document, D::Error> {
-        deserializer.deserialize_map(Members)
-    }
-}
-
-/// Reads the members of a document. The last of duplicate members counts, as in the store.
-struct Members;
-
-impl<'de> Visitor<'de> for Members {
-    type Value = Document;
-
-    fn expecting(&self, text: &mut fmt::Formatter) -> fmt::Result {
-        text.write_str("an object")
-    }
-
-    fn visit_map<A: MapAccess<'de>>(self, mut members: A) -> Result<Document, A::Error> {
-        let mut document = Document::default();
-        while let Some(name) = members.next_key::<String>()? {
-            match &*name {
-                "mediaType" => document.media_type = members.next_value()?,
-                name => {
-                    document.is_index |= name == "manifests";
-                    members.next_value::<IgnoredAny>()?;
-                }
-            }
-        }
-        Ok(document)
-    }
-}
-
 #[cfg(test)]
 mod tests {
     use super::*;
+    use crate::document::read;
+    use bytes::Bytes;
 
     const IMAGE: &str = IMAGE_TYPES[0];
     const DOCKER_IMAGE: &str = IMAGE_TYPES[1];
     const INDEX: &str = INDEX_TYPES[0];
 
     fn media_type_text(header: Option<&str>, text: &str) -> Option<String> {
-        // The text is in two parts, as content may arrive.
-        let (one, two) = text.as_bytes().split_at(text.len() / 2);
-        media_type_of(header, &[Bytes::copy_from_slice(one), Bytes::new(), Bytes::copy_from_slice(two)])
-            .ok()
-            .map(|media_type| media_type.text)
+        let document = read(&[Bytes::copy_from_slice(text.as_bytes())]).ok()?;
+        media_type_of(header, &document).ok().map(|media_type| media_type.text)
     }
 
     #[test]
@@ -187,7 +120,7 @@ mod tests {
 
     #[test]
     fn a_media_type_is_given_or_the_form_s() {
-        let is_given = |header, text: &'static str| media_type_of(header, &[Bytes::from(text)]).unwrap().is_given;
+        let is_given = |header, text: &'static str| media_type_of(header, &read(&[Bytes::from(text)]).unwrap()).unwrap().is_given;
         assert!(is_given(Some(IMAGE), "{}"));
         assert!(is_given(None, r#"{"mediaType":"a/b"}"#));
         assert!(!is_given(None, "{}"));

@@ -6,6 +6,8 @@ use std::borrow::Cow;
 pub enum Target<'p> {
     /// end-1.
     Base,
+    /// The list of repositories.
+    Catalog,
     /// end-8.
     Tags { repo: &'p str },
     /// end-3, end-7, end-9: a tag or a digest.
@@ -16,6 +18,8 @@ pub enum Target<'p> {
     Upload { repo: &'p str, name: &'p str },
     /// end-2, end-10.
     Blob { repo: &'p str, digest: &'p str },
+    /// end-12.
+    Referrers { repo: &'p str, digest: &'p str },
 }
 
 /// Decodes the percent-encoding of a path once (RFC 3986, 2.4). Returns `None` if the result is not UTF-8.
@@ -29,6 +33,9 @@ impl<'p> Target<'p> {
     pub fn of(path: &'p str) -> Option<Target<'p>> {
         if path == "/v2" || path == "/v2/" {
             return Some(Target::Base);
+        }
+        if path == "/v2/_catalog" {
+            return Some(Target::Catalog);
         }
         let rest = path.strip_prefix("/v2/")?;
         if let Some(repo) = rest.strip_suffix("/tags/list") {
@@ -44,14 +51,16 @@ impl<'p> Target<'p> {
         if let Some(repo) = before.strip_suffix("/blobs/uploads") {
             return Some(Target::Upload { repo, name });
         }
+        if let Some(repo) = before.strip_suffix("/referrers") {
+            return Some(Target::Referrers { repo, digest: name });
+        }
         before.strip_suffix("/blobs").map(|repo| Target::Blob { repo, digest: name })
     }
 
     /// Returns the methods that the path supports, in the form of a header `Allow`.
     pub fn methods(&self) -> &'static str {
         match self {
-            Target::Base => "GET, HEAD",
-            Target::Tags { .. } => "GET",
+            Target::Base | Target::Catalog | Target::Tags { .. } | Target::Referrers { .. } => "GET, HEAD",
             Target::Manifest { .. } => "GET, HEAD, PUT, DELETE",
             Target::Uploads { .. } => "POST",
             Target::Upload { .. } => "GET, PATCH, PUT, DELETE",
@@ -62,12 +71,13 @@ impl<'p> Target<'p> {
     /// Returns the repository of the path.
     pub fn repo(&self) -> Option<&'p str> {
         match *self {
-            Target::Base => None,
+            Target::Base | Target::Catalog => None,
             Target::Tags { repo }
             | Target::Manifest { repo, .. }
             | Target::Uploads { repo }
             | Target::Upload { repo, .. }
-            | Target::Blob { repo, .. } => Some(repo),
+            | Target::Blob { repo, .. }
+            | Target::Referrers { repo, .. } => Some(repo),
         }
     }
 }
@@ -105,6 +115,14 @@ mod tests {
             ("/v2/a/blobs/uploads/blobs/uploads/x", Some(Target::Upload { repo: "a/blobs/uploads", name: "x" })),
             ("/v2/a/blobs/uploads/tags/list", Some(Target::Tags { repo: "a/blobs/uploads" })),
             ("/v2/a/tags/list/manifests/list", Some(Target::Manifest { repo: "a/tags/list", reference: "list" })),
+            ("/v2/a/b/referrers/sha256:0", Some(Target::Referrers { repo: "a/b", digest: "sha256:0" })),
+            ("/v2/a/referrers/referrers/sha256:0", Some(Target::Referrers { repo: "a/referrers", digest: "sha256:0" })),
+            ("/v2/a/referrers/manifests/v1", Some(Target::Manifest { repo: "a/referrers", reference: "v1" })),
+            ("/v2/a/manifests/referrers/sha256:0", Some(Target::Referrers { repo: "a/manifests", digest: "sha256:0" })),
+            ("/v2/_catalog", Some(Target::Catalog)),
+            ("/v2/_catalog/", None),
+            ("/v2/a/_catalog", None),
+            ("/v2/referrers/sha256:0", None),
             ("/v2/a/manifests/b/c", None),
             ("/v2/manifests/v1", None),
             ("/v2/a/b/blobs/uploadsx", Some(Target::Blob { repo: "a/b", digest: "uploadsx" })),

@@ -14,7 +14,7 @@ use crate::store::{StoreUnavailable, Store};
 use crate::tenants;
 use crate::turns::Turns;
 use crate::uploads::{UploadTimeouts, Upload, Uploads};
-use crate::{blobs, manifests, uploading};
+use crate::{blobs, manifests, referrers, repositories, uploading};
 use hyper::body::HttpBody;
 use hyper::header::{CONTENT_TYPE, EXPECT, HOST};
 use hyper::http::request::Parts;
@@ -271,6 +271,7 @@ impl Registry {
         }
         let repo = match target.repo() {
             Some(repo) => repo.to_string(),
+            None if target == Target::Catalog => return repositories::list(&self, &user, head.uri.query()),
             None => return self.probe(&[("Docker-Distribution-API-Version", "registry/2.0")]).await,
         };
         Access::check(&user, &repo)?;
@@ -284,7 +285,8 @@ impl Registry {
             call.admit(content, is_charged).await?;
         }
         match (&method, target) {
-            (&Method::GET, Target::Tags { .. }) => manifests::tags(&call).await,
+            (&Method::GET | &Method::HEAD, Target::Tags { .. }) => manifests::tags(&call).await,
+            (&Method::GET | &Method::HEAD, Target::Referrers { digest, .. }) => referrers::list(&call, digest).await,
             (&Method::GET, Target::Manifest { reference, .. }) => {
                 let mut reserved = call.reserve(MAX_MANIFEST as u64)?;
                 let mut answer = manifests::get(&call, reference).await?;

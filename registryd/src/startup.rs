@@ -1,8 +1,10 @@
 //! The start of a registry with a folder: reads the database, and compares it with the store.
 //!
-//! The store is asked about each manifest and each open upload. So after any crash no tag names a missing manifest, and each
-//! open upload has a name and is abandoned if nobody continues it.
+//! The store is asked about each manifest and each open upload. So after any crash no tag and no list of referrers names a
+//! missing manifest, and each open upload has a name and is abandoned if nobody continues it.
+use crate::clock::now;
 use crate::database::{Database, ManifestRow, Rows, UploadRow};
+use crate::document::{self, Facts};
 use crate::ending::Failure;
 use crate::frames::{Command, Reason, Refusal, Request};
 use crate::limits::{tenant_of, MAX_UPLOADS};
@@ -53,7 +55,7 @@ struct Findings {
 
 /// Opens the database of a folder, compares it with the store, and corrects it.
 pub async fn recover(store: &Store, folder: PathBuf, is_synced: bool, had_log: bool) -> Result<Kept, Failure> {
-    let (mut database, rows) = blocking(move || {
+    let (mut database, mut rows) = blocking(move || {
         let (mut database, existed) = Database::open(&folder, is_synced)?;
         if had_log && !existed {
             tracing::warn!("the folder has a log but had no database: tags are unknown, manifests are found by digest");
@@ -66,6 +68,8 @@ pub async fn recover(store: &Store, folder: PathBuf, is_synced: bool, had_log: b
     let mut findings = Findings::default();
     let missing = missing_manifests(store, &rows.manifests).await.map_err(unavailable)?;
     findings.changes.extend(missing.iter().map(ManifestRow::removal));
+    drop_missing(&mut rows, &missing);
+    findings.changes.extend(complete(store, &mut rows.manifests).await.map_err(unavailable)?);
     for (tenant, repos) in by_tenant(store, &rows.repositories) {
         find_uploads(store, tenant, &repos, &rows, &mut findings).await.map_err(unavailable)?;
     }
@@ -85,11 +89,11 @@ pub async fn recover(store: &Store, folder: PathBuf, is_synced: bool, had_log: b
         if have_numbers_returned {
             secret = database.renew_secret().map_err(failed)?;
         }
-        database.commit(changes.iter(), &found).map_err(failed)?;
+        database.commit(changes.iter(), &found, now()).map_err(failed)?;
         Ok((database, secret))
     })
     .await?;
-    let tags = tags_of(&rows, &missing);
+    let tags = tags_of(&rows);
     Ok(Kept { database, secret, tags, repositories: rows.repositories, uploads, recorded })
 }
 
@@ -105,16 +109,41 @@ impl ManifestRow {
     }
 }
 
-/// Returns the tags and media types, without manifests that are missing.
-fn tags_of(rows: &Rows, missing: &[ManifestRow]) -> Tags {
+/// Removes the rows of manifests that are missing, and of their tags.
+fn drop_missing(rows: &mut Rows, missing: &[ManifestRow]) {
     let missing: HashSet<(&str, &str)> = missing.iter().map(|row| (&*row.repo, &*row.digest)).collect();
-    let tags = Tags::default();
-    for ManifestRow { repo, digest, media_type } in &rows.manifests {
-        if !missing.contains(&(&**repo, &**digest)) {
-            tags.put(repo, digest, media_type, None);
+    rows.manifests.retain(|row| !missing.contains(&(&*row.repo, &*row.digest)));
+    rows.tags.retain(|row| !missing.contains(&(&*row.repo, &*row.digest)));
+}
+
+/// Finds the facts of manifests that were put by a program which did not keep them, and returns the changes that record them.
+async fn complete(store: &Store, rows: &mut [ManifestRow]) -> Result<Vec<Change>, StoreUnavailable> {
+    let mut changes = Vec::new();
+    for row in rows.iter_mut().filter(|row| !row.is_complete) {
+        if let Ok(content) = store.get_manifest(&row.repo, &row.digest).await? {
+            let (media_type, size) = (row.facts.media_type.clone(), content.len() as u64);
+            row.facts = match document::read(&[content]) {
+                Ok(document) => document.facts_of_stored(media_type, size),
+                Err(_) => Facts { media_type, size, ..Facts::default() },
+            };
+            row.since = now();
+            let (repo, digest, facts) = (row.repo.clone(), row.digest.clone(), row.facts.clone());
+            changes.push(Change::PutManifest { repo, digest, facts, tag: None });
         }
     }
-    for row in rows.tags.iter().filter(|row| !missing.contains(&(&*row.repo, &*row.digest))) {
+    if !changes.is_empty() {
+        tracing::info!(count = changes.len(), "read manifests of a database of an earlier version");
+    }
+    Ok(changes)
+}
+
+/// Returns the tags and facts of the rows.
+fn tags_of(rows: &Rows) -> Tags {
+    let tags = Tags::default();
+    for ManifestRow { repo, digest, facts, since, .. } in &rows.manifests {
+        tags.put(repo, digest, facts.clone(), None, *since);
+    }
+    for row in &rows.tags {
         tags.add_tag(&row.repo, &row.tag, &row.digest);
     }
     tags

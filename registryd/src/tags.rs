@@ -1,18 +1,20 @@
-//! The data of a manifest that the store does not have: its tags and its media type.
+//! The data of the manifests that the store does not have: their tags, media types, and which of them name others.
 //!
 //! A manifest is added here after the store accepted it. It is marked before the store is asked to delete it. A marked
 //! manifest and its tags are hidden. So a visible tag names a manifest that the store has, unless the manifest was marked
 //! after the look-up. No lock is held during a call to the store or the database.
+use crate::document::Facts;
+use crate::namers::Namers;
+use crate::pages::{Page, MAX_PAGE};
 use std::collections::{BTreeMap, HashMap};
 use std::ops::Bound;
 use std::sync::{Arc, Mutex, RwLock};
 
-/// The maximum number of tags of a page.
-pub const MAX_PAGE: usize = 1000;
-
 /// A manifest of the store.
 struct Manifest {
-    media_type: String,
+    facts: Facts,
+    /// The last time at which it was pushed or something ceased to hold it, in seconds since 1970.
+    since: u64,
     /// Whether the manifest is marked: the store is being asked to delete it.
     is_leaving: bool,
 }
@@ -24,12 +26,16 @@ struct Repository {
     tags: BTreeMap<String, String>,
     /// The manifests by digest.
     manifests: HashMap<String, Manifest>,
+    /// The indexes that list a manifest, marked or not.
+    listed: Namers,
+    /// The manifests whose subject is a manifest, marked or not.
+    referrers: Namers,
 }
 
-/// The tags and media types of all repositories. Each repository has its own lock. The store bounds their number.
+/// The tags and manifests of all repositories. Each repository has its own lock. The store bounds their number.
 #[derive(Default)]
 pub struct Tags {
-    repos: RwLock<HashMap<String, Arc<Mutex<Repository>>>>,
+    repos: RwLock<BTreeMap<String, Arc<Mutex<Repository>>>>,
 }
 
 /// The manifest that a reference names.
@@ -39,13 +45,18 @@ pub struct NamedManifest {
     pub media_type: String,
 }
 
-/// A page of tags.
+/// A manifest that has a subject.
 #[derive(Debug, PartialEq, Eq)]
-pub struct Page {
-    pub tags: Vec<String>,
-    /// Whether more tags follow.
-    pub more: bool,
+pub struct Referrer {
+    pub digest: String,
+    pub media_type: String,
+    pub artifact_type: Option<String>,
+    pub size: u64,
 }
+
+/// What prevents that a manifest is deleted: an index lists it.
+#[derive(Debug, PartialEq, Eq)]
+pub struct ListedBy(pub String);
 
 /// Returns whether a text is a tag (OCI Distribution Specification 1.1, "Pulling manifests").
 pub fn is_tag(text: &str) -> bool {
@@ -62,38 +73,91 @@ impl Repository {
         self.manifests.get(digest).filter(|manifest| !manifest.is_leaving)
     }
 
-    fn named(&self, digest: &str) -> Option<NamedManifest> {
-        let manifest = self.manifest(digest)?;
-        Some(NamedManifest { digest: digest.to_string(), media_type: manifest.media_type.clone() })
+    /// Returns whether it has a manifest that is not marked.
+    fn is_visible(&self) -> bool {
+        self.manifests.values().any(|manifest| !manifest.is_leaving)
+    }
+
+    /// Adds a manifest, or replaces its media type and shows it. What it names depends on its digest alone.
+    fn put(&mut self, digest: &str, facts: Facts, now: u64) {
+        if !self.manifests.contains_key(digest) {
+            facts.lists.iter().for_each(|named| self.listed.add(named, digest));
+            facts.subject.iter().for_each(|named| self.referrers.add(named, digest));
+        }
+        self.manifests.insert(digest.to_string(), Manifest { facts, since: now, is_leaving: false });
+    }
+
+    /// Adds a tag, or moves it.
+    fn put_tag(&mut self, tag: &str, digest: &str, now: u64) {
+        if let Some(before) = self.tags.insert(tag.to_string(), digest.to_string()) {
+            self.release(&before, now);
+        }
+    }
+
+    /// Removes a tag.
+    fn remove_tag(&mut self, tag: &str, now: u64) {
+        if let Some(digest) = self.tags.remove(tag) {
+            self.release(&digest, now);
+        }
+    }
+
+    /// Notes that something ceases to hold a manifest.
+    fn release(&mut self, digest: &str, now: u64) {
+        if let Some(manifest) = self.manifests.get_mut(digest) {
+            manifest.since = now;
+        }
+    }
+
+    /// Removes a manifest and its tags. It ceases to hold what it lists, and what has it as subject.
+    fn remove(&mut self, digest: &str, now: u64) {
+        let facts = match self.manifests.remove(digest) {
+            Some(manifest) => manifest.facts,
+            None => return,
+        };
+        self.tags.retain(|_, named| named != digest);
+        for named in &facts.lists {
+            self.listed.remove(named, digest);
+            self.release(named, now);
+        }
+        facts.subject.iter().for_each(|named| self.referrers.remove(named, digest));
+        let referrers: Vec<String> = self.referrers.after(digest, "").cloned().collect();
+        referrers.iter().for_each(|referrer| self.release(referrer, now));
     }
 }
 
 impl Tags {
-    /// Calls `look` with a repository. Returns `None` if the repository has never had a manifest.
-    fn with<T>(&self, repo: &str, look: impl FnOnce(&mut Repository) -> T) -> Option<T> {
-        let found = self.repos.read().unwrap().get(repo)?.clone();
-        let mut found = found.lock().unwrap();
-        Some(look(&mut found))
+    /// Runs a function on a repository, if it has had a manifest. The function must not wait.
+    fn with<T>(&self, repo: &str, run: impl FnOnce(&mut Repository) -> T) -> Option<T> {
+        let found = self.repos.read().unwrap().get(repo).cloned();
+        found.map(|repo| run(&mut repo.lock().unwrap()))
     }
 
-    /// Returns the manifest with a digest.
-    pub fn by_digest(&self, repo: &str, digest: &str) -> Option<NamedManifest> {
-        self.with(repo, |repo| repo.named(digest)).flatten()
-    }
-
-    /// Returns the manifest with a tag.
+    /// Returns the manifest of a tag.
     pub fn by_tag(&self, repo: &str, tag: &str) -> Option<NamedManifest> {
-        self.with(repo, |repo| repo.named(repo.tags.get(tag)?)).flatten()
+        let find = |repo: &mut Repository| {
+            let digest = repo.tags.get(tag)?;
+            let media_type = repo.manifest(digest)?.facts.media_type.clone();
+            Some(NamedManifest { digest: digest.clone(), media_type })
+        };
+        self.with(repo, find).flatten()
+    }
+
+    /// Returns the manifest of a digest, if it is here.
+    pub fn by_digest(&self, repo: &str, digest: &str) -> Option<NamedManifest> {
+        let find = |repo: &mut Repository| {
+            let media_type = repo.manifest(digest)?.facts.media_type.clone();
+            Some(NamedManifest { digest: digest.to_string(), media_type })
+        };
+        self.with(repo, find).flatten()
     }
 
     /// Adds a manifest that the store accepted, and its tag if it was put under one.
-    pub fn put(&self, repo: &str, digest: &str, media_type: &str, tag: Option<&str>) {
+    pub fn put(&self, repo: &str, digest: &str, facts: Facts, tag: Option<&str>, now: u64) {
         let found = self.repos.write().unwrap().entry(repo.to_string()).or_default().clone();
         let mut found = found.lock().unwrap();
-        let manifest = Manifest { media_type: media_type.to_string(), is_leaving: false };
-        found.manifests.insert(digest.to_string(), manifest);
+        found.put(digest, facts, now);
         if let Some(tag) = tag {
-            found.tags.insert(tag.to_string(), digest.to_string());
+            found.put_tag(tag, digest, now);
         }
     }
 
@@ -103,17 +167,25 @@ impl Tags {
     }
 
     /// Removes a tag. Returns whether it was there.
-    pub fn remove_tag(&self, repo: &str, tag: &str) -> bool {
+    pub fn remove_tag(&self, repo: &str, tag: &str, now: u64) -> bool {
         let remove = |repo: &mut Repository| {
             let is_there = repo.tags.get(tag).map_or(false, |digest| repo.manifest(digest).is_some());
-            is_there && repo.tags.remove(tag).is_some()
+            if is_there {
+                repo.remove_tag(tag, now);
+            }
+            is_there
         };
         self.with(repo, remove).unwrap_or(false)
     }
 
     /// Removes a tag, also if its manifest is marked. Returns it if it was there.
-    pub fn take_tag(&self, repo: &str, tag: String) -> Option<String> {
-        self.with(repo, |repo| repo.tags.remove(&tag)).flatten().map(|_| tag)
+    pub fn take_tag(&self, repo: &str, tag: String, now: u64) -> Option<String> {
+        let take = |repo: &mut Repository| {
+            let is_there = repo.tags.contains_key(&tag);
+            repo.remove_tag(&tag, now);
+            is_there
+        };
+        self.with(repo, take).filter(|is_there| *is_there).map(|_| tag)
     }
 
     /// Removes all tags of a manifest, and returns them.
@@ -128,8 +200,8 @@ impl Tags {
     }
 
     /// Adds a manifest and its tags that were removed. A tag that names another manifest by now stays as it is.
-    pub fn restore(&self, repo: &str, digest: &str, media_type: &str, tags: Vec<String>) {
-        self.put(repo, digest, media_type, None);
+    pub fn restore(&self, repo: &str, digest: &str, facts: Facts, since: u64, tags: Vec<String>) {
+        self.put(repo, digest, facts, None, since);
         self.with(repo, |repo| {
             for tag in tags {
                 repo.tags.entry(tag).or_insert_with(|| digest.to_string());
@@ -139,45 +211,104 @@ impl Tags {
 
     /// Returns whether a manifest is known, marked or not.
     pub fn is_known(&self, repo: &str, digest: &str) -> bool {
-        self.any_media_type(repo, digest).is_some()
+        self.with(repo, |repo| repo.manifests.contains_key(digest)).unwrap_or(false)
     }
 
-    /// Returns the media type of a manifest, marked or not.
-    pub fn any_media_type(&self, repo: &str, digest: &str) -> Option<String> {
-        self.with(repo, |repo| repo.manifests.get(digest).map(|manifest| manifest.media_type.clone())).flatten()
+    /// Returns how many of these manifests a repository does not have.
+    pub fn count_missing(&self, repo: &str, digests: &[String]) -> usize {
+        let count = |repo: &mut Repository| digests.iter().filter(|digest| repo.manifest(digest).is_none()).count();
+        self.with(repo, count).unwrap_or(digests.len())
     }
 
-    /// Marks a manifest before it is deleted, or removes the mark.
-    pub fn mark(&self, repo: &str, digest: &str, is_leaving: bool) {
+    /// Returns the facts of a manifest, marked or not, and since when it is held as it is.
+    pub fn any_facts(&self, repo: &str, digest: &str) -> Option<(Facts, u64)> {
+        let find = |repo: &mut Repository| {
+            repo.manifests.get(digest).map(|manifest| (manifest.facts.clone(), manifest.since))
+        };
+        self.with(repo, find).flatten()
+    }
+
+    /// Marks a manifest before it is deleted. Fails if an index lists it.
+    pub fn begin_removal(&self, repo: &str, digest: &str) -> Result<(), ListedBy> {
+        let begin = |repo: &mut Repository| {
+            if let Some(index) = repo.listed.first(digest) {
+                return Err(ListedBy(index.clone()));
+            }
+            if let Some(manifest) = repo.manifests.get_mut(digest) {
+                manifest.is_leaving = true;
+            }
+            Ok(())
+        };
+        self.with(repo, begin).unwrap_or(Ok(()))
+    }
+
+    /// Removes the mark of a manifest.
+    pub fn end_removal(&self, repo: &str, digest: &str) {
         self.with(repo, |repo| {
             if let Some(manifest) = repo.manifests.get_mut(digest) {
-                manifest.is_leaving = is_leaving;
+                manifest.is_leaving = false;
             }
         });
     }
 
     /// Removes a manifest that the store has deleted, and its tags.
-    pub fn remove_manifest(&self, repo: &str, digest: &str) {
-        self.with(repo, |repo| {
-            if repo.manifests.remove(digest).is_some() {
-                repo.tags.retain(|_, named| named != digest);
-            }
-        });
+    pub fn remove_manifest(&self, repo: &str, digest: &str, now: u64) {
+        self.with(repo, |repo| repo.remove(digest, now));
     }
 
     /// Returns the first tags after `last` in order, at most `most` and at most `MAX_PAGE`. Returns `None` if the repository
     /// has no manifest.
-    pub fn page(&self, repo: &str, last: &str, most: usize) -> Option<Page> {
+    pub fn page(&self, repo: &str, last: &str, most: usize) -> Option<Page<String>> {
         let page = |repo: &mut Repository| {
-            if !repo.manifests.values().any(|manifest| !manifest.is_leaving) {
+            if !repo.is_visible() {
                 return None;
             }
             let after = repo.tags.range::<str, _>((Bound::Excluded(last), Bound::Unbounded));
-            let mut visible = after.filter(|(_, digest)| repo.manifest(digest).is_some());
-            let tags = visible.by_ref().take(most.min(MAX_PAGE)).map(|(tag, _)| tag.clone()).collect();
-            Some(Page { tags, more: visible.next().is_some() })
+            let visible = after.filter(|(_, digest)| repo.manifest(digest).is_some());
+            Some(Page::of(visible.map(|(tag, _)| tag.clone()), most.min(MAX_PAGE)))
         };
         self.with(repo, page).flatten()
+    }
+
+    /// Returns the first repositories after `last` in order that have manifests and that may be listed, at most `most` and at
+    /// most `MAX_PAGE`.
+    pub fn repositories(&self, last: &str, most: usize, may_list: impl Fn(&str) -> bool) -> Page<String> {
+        let repos = self.repos.read().unwrap();
+        let after = repos.range::<str, _>((Bound::Excluded(last), Bound::Unbounded));
+        let visible = after.filter(|(name, repo)| may_list(name) && repo.lock().unwrap().is_visible());
+        Page::of(visible.map(|(name, _)| name.clone()), most.min(MAX_PAGE))
+    }
+
+    /// Returns the first manifests after `last` in order whose subject is a digest, at most `most` and at most `MAX_PAGE`.
+    /// With `artifact_type` it returns those of this type. After the first, no one is added that makes their sizes exceed
+    /// `most_bytes`.
+    pub fn referrers(
+        &self,
+        repo: &str,
+        subject: &str,
+        artifact_type: Option<&str>,
+        last: &str,
+        (most, most_bytes): (usize, u64),
+    ) -> Page<Referrer> {
+        let page = |repo: &mut Repository| {
+            let mut bytes = 0_u64;
+            let all = repo.referrers.after(subject, last);
+            let visible = all.filter_map(|digest| Some((digest, &repo.manifest(digest)?.facts)));
+            let mut wanted = visible
+                .filter(|(_, facts)| artifact_type.map_or(true, |wanted| facts.artifact_type.as_deref() == Some(wanted)))
+                .peekable();
+            let mut items = Vec::new();
+            while let Some((digest, facts)) = wanted.next_if(|(_, facts)| {
+                let has_room = items.is_empty() || bytes.saturating_add(facts.size) <= most_bytes;
+                items.len() < most.min(MAX_PAGE) && has_room
+            }) {
+                bytes = bytes.saturating_add(facts.size);
+                let (media_type, artifact_type) = (facts.media_type.clone(), facts.artifact_type.clone());
+                items.push(Referrer { digest: digest.clone(), media_type, artifact_type, size: facts.size });
+            }
+            Page { more: wanted.peek().is_some(), items }
+        };
+        self.with(repo, page).unwrap_or(Page { items: Vec::new(), more: false })
     }
 }
 
@@ -186,6 +317,16 @@ mod tests {
     use super::*;
 
     const TYPE: &str = "application/vnd.oci.image.manifest.v1+json";
+
+    fn facts(media_type: &str) -> Facts {
+        Facts { media_type: media_type.to_string(), ..Facts::default() }
+    }
+
+    impl Tags {
+        fn add(&self, digest: &str, media_type: &str, tag: Option<&str>) {
+            self.put("acme/web", digest, facts(media_type), tag, 1);
+        }
+    }
 
     #[test]
     fn tags_are_words_of_the_specification() {
@@ -201,15 +342,15 @@ mod tests {
     fn pages_follow_one_another() {
         let tags = Tags::default();
         for tag in ["v3", "v1", "v2"] {
-            tags.put("acme/web", "sha256:a", TYPE, Some(tag));
+            tags.add("sha256:a", TYPE, Some(tag));
         }
         let page = |last, most| tags.page("acme/web", last, most).unwrap();
         let texts = |words: &[&str]| words.iter().map(|word| word.to_string()).collect::<Vec<_>>();
-        assert_eq!(page("", 2), Page { tags: texts(&["v1", "v2"]), more: true });
-        assert_eq!(page("v2", 2), Page { tags: texts(&["v3"]), more: false });
-        assert_eq!(page("v1x", 2), Page { tags: texts(&["v2", "v3"]), more: false });
-        assert_eq!(page("", 3), Page { tags: texts(&["v1", "v2", "v3"]), more: false });
-        assert_eq!(page("", 0), Page { tags: vec![], more: true });
+        assert_eq!(page("", 2), Page { items: texts(&["v1", "v2"]), more: true });
+        assert_eq!(page("v2", 2), Page { items: texts(&["v3"]), more: false });
+        assert_eq!(page("v1x", 2), Page { items: texts(&["v2", "v3"]), more: false });
+        assert_eq!(page("", 3), Page { items: texts(&["v1", "v2", "v3"]), more: false });
+        assert_eq!(page("", 0), Page { items: vec![], more: true });
         assert_eq!(tags.page("acme/other", "", 2), None);
     }
 
@@ -217,30 +358,30 @@ mod tests {
     fn a_page_has_a_bound() {
         let tags = Tags::default();
         for number in 0..=MAX_PAGE {
-            tags.put("acme/web", "sha256:a", TYPE, Some(&format!("v{number:05}")));
+            tags.add("sha256:a", TYPE, Some(&format!("v{number:05}")));
         }
         let first = tags.page("acme/web", "", usize::MAX).unwrap();
-        assert_eq!((first.tags.len(), first.more), (MAX_PAGE, true));
-        let second = tags.page("acme/web", first.tags.last().unwrap(), usize::MAX).unwrap();
-        assert_eq!((second.tags.len(), second.more), (1, false));
+        assert_eq!((first.items.len(), first.more), (MAX_PAGE, true));
+        let second = tags.page("acme/web", first.items.last().unwrap(), usize::MAX).unwrap();
+        assert_eq!((second.items.len(), second.more), (1, false));
     }
 
     #[test]
     fn a_manifests_tags_go_with_it() {
         let tags = Tags::default();
-        tags.put("acme/web", "sha256:a", "text/a", Some("v1"));
-        tags.put("acme/web", "sha256:b", "text/b", Some("v2"));
-        tags.put("acme/web", "sha256:a", "text/a", Some("v3"));
+        tags.add("sha256:a", "text/a", Some("v1"));
+        tags.add("sha256:b", "text/b", Some("v2"));
+        tags.add("sha256:a", "text/a", Some("v3"));
         let named = NamedManifest { digest: "sha256:a".to_string(), media_type: "text/a".to_string() };
         assert_eq!(tags.by_tag("acme/web", "v1"), Some(named));
-        tags.remove_manifest("acme/web", "sha256:a");
+        tags.remove_manifest("acme/web", "sha256:a", 2);
         assert_eq!(tags.by_tag("acme/web", "v1"), None);
         assert_eq!(tags.by_digest("acme/web", "sha256:a"), None);
         assert_eq!(tags.by_tag("acme/web", "v2").unwrap().digest, "sha256:b");
-        assert!(tags.remove_tag("acme/web", "v2"));
-        assert!(!tags.remove_tag("acme/web", "v2"));
-        assert!(tags.page("acme/web", "", 1).unwrap().tags.is_empty());
-        tags.remove_manifest("acme/web", "sha256:b");
+        assert!(tags.remove_tag("acme/web", "v2", 2));
+        assert!(!tags.remove_tag("acme/web", "v2", 2));
+        assert!(tags.page("acme/web", "", 1).unwrap().items.is_empty());
+        tags.remove_manifest("acme/web", "sha256:b", 2);
         assert_eq!(tags.page("acme/web", "", 1), None);
     }
 
@@ -248,17 +389,17 @@ mod tests {
     fn tags_that_were_removed_come_back() {
         let tags = Tags::default();
         for tag in ["v1", "v2", "v3"] {
-            tags.put("acme/web", "sha256:a", TYPE, Some(tag));
+            tags.add("sha256:a", TYPE, Some(tag));
         }
-        tags.mark("acme/web", "sha256:a", true);
-        assert_eq!(tags.take_tag("acme/web", "v3".to_string()).as_deref(), Some("v3"));
-        assert_eq!(tags.take_tag("acme/web", "v3".to_string()), None);
+        tags.begin_removal("acme/web", "sha256:a").unwrap();
+        assert_eq!(tags.take_tag("acme/web", "v3".to_string(), 2).as_deref(), Some("v3"));
+        assert_eq!(tags.take_tag("acme/web", "v3".to_string(), 2), None);
         let removed = tags.take_tags_of("acme/web", "sha256:a");
         assert_eq!(removed, ["v1", "v2"]);
         assert!(tags.is_known("acme/web", "sha256:a") && !tags.is_known("acme/web", "sha256:b"));
-        tags.put("acme/web", "sha256:b", TYPE, Some("v2"));
-        tags.restore("acme/web", "sha256:a", TYPE, removed);
-        assert_eq!(tags.page("acme/web", "", 9).unwrap().tags, ["v1", "v2"]);
+        tags.add("sha256:b", TYPE, Some("v2"));
+        tags.restore("acme/web", "sha256:a", facts(TYPE), 1, removed);
+        assert_eq!(tags.page("acme/web", "", 9).unwrap().items, ["v1", "v2"]);
         assert_eq!(tags.by_tag("acme/web", "v1").unwrap().digest, "sha256:a");
         assert_eq!(tags.by_tag("acme/web", "v2").unwrap().digest, "sha256:b");
     }
@@ -266,20 +407,20 @@ mod tests {
     #[test]
     fn a_manifest_that_is_leaving_is_not_seen() {
         let tags = Tags::default();
-        tags.put("acme/web", "sha256:a", TYPE, Some("v1"));
-        tags.put("acme/web", "sha256:b", TYPE, Some("v2"));
-        tags.mark("acme/web", "sha256:a", true);
+        tags.add("sha256:a", TYPE, Some("v1"));
+        tags.add("sha256:b", TYPE, Some("v2"));
+        tags.begin_removal("acme/web", "sha256:a").unwrap();
         assert_eq!(tags.by_tag("acme/web", "v1"), None);
         assert_eq!(tags.by_digest("acme/web", "sha256:a"), None);
-        assert_eq!(tags.page("acme/web", "", 9).unwrap().tags, ["v2"]);
-        assert!(!tags.remove_tag("acme/web", "v1"));
+        assert_eq!(tags.page("acme/web", "", 9).unwrap().items, ["v2"]);
+        assert!(!tags.remove_tag("acme/web", "v1", 2));
         // Its tag may be moved to another manifest meanwhile, and then belongs to that one.
-        tags.put("acme/web", "sha256:b", TYPE, Some("v1"));
-        tags.remove_manifest("acme/web", "sha256:a");
+        tags.add("sha256:b", TYPE, Some("v1"));
+        tags.remove_manifest("acme/web", "sha256:a", 2);
         assert_eq!(tags.by_tag("acme/web", "v1").unwrap().digest, "sha256:b");
-        tags.mark("acme/web", "sha256:b", true);
+        tags.begin_removal("acme/web", "sha256:b").unwrap();
         assert_eq!(tags.page("acme/web", "", 9), None);
-        tags.mark("acme/web", "sha256:b", false);
-        assert_eq!(tags.page("acme/web", "", 9).unwrap().tags, ["v1", "v2"]);
+        tags.end_removal("acme/web", "sha256:b");
+        assert_eq!(tags.page("acme/web", "", 9).unwrap().items, ["v1", "v2"]);
     }
 }

@@ -1,6 +1,8 @@
 //! The thread that writes the database. It puts all changes that wait into one transaction, so that one sync serves many
 //! requests, and then makes them in the tables of this process, in the same order. So what a request reads is durable.
+use crate::clock::now;
 use crate::database::Database;
+use crate::document::Facts;
 use crate::limits::tenant_of;
 use crate::numbers::Numbers;
 use crate::tags::Tags;
@@ -25,9 +27,9 @@ pub enum Change {
     /// No upload was opened in a repository, because the store refused it.
     RemoveRepository { repo: String },
     /// The store has a manifest, and a tag names it from now on.
-    PutManifest { repo: String, digest: String, media_type: String, tag: Option<String> },
+    PutManifest { repo: String, digest: String, facts: Facts, tag: Option<String> },
     /// The store has a manifest that was to be deleted.
-    RestoreManifest { repo: String, digest: String, media_type: String, tags: Vec<String> },
+    RestoreManifest { repo: String, digest: String, facts: Facts, since: u64, tags: Vec<String> },
     RemoveTag { repo: String, tag: String },
     /// A manifest is going to be deleted. Its tags are removed too.
     RemoveManifest { repo: String, digest: String },
@@ -52,14 +54,16 @@ pub enum Done {
 pub struct DatabaseUnavailable;
 
 impl Change {
-    /// Makes a durable change in the tables of this process.
-    fn apply(self, tags: &Tags) -> Done {
+    /// Makes a change in the tables of this process that became durable at this time.
+    fn apply(self, tags: &Tags, now: u64) -> Done {
         match self {
-            Change::PutManifest { repo, digest, media_type, tag } => tags.put(&repo, &digest, &media_type, tag.as_deref()),
-            Change::RestoreManifest { repo, digest, media_type, tags: names } => {
-                tags.restore(&repo, &digest, &media_type, names)
+            Change::PutManifest { repo, digest, facts, tag } => tags.put(&repo, &digest, facts, tag.as_deref(), now),
+            Change::RestoreManifest { repo, digest, facts, since, tags: names } => {
+                tags.restore(&repo, &digest, facts, since, names)
             }
-            Change::RemoveTag { repo, tag } => return Done::Removed(tags.take_tag(&repo, tag).into_iter().collect()),
+            Change::RemoveTag { repo, tag } => {
+                return Done::Removed(tags.take_tag(&repo, tag, now).into_iter().collect())
+            }
             Change::RemoveManifest { repo, digest } => return Done::Removed(tags.take_tags_of(&repo, &digest)),
             _ => {}
         }
@@ -229,14 +233,14 @@ impl Writer {
     fn run(&self, mut database: Database, tags: &Tags, mut numbers: HashMap<String, Numbers>) -> rusqlite::Result<()> {
         let _guard = FailOnPanic(self);
         while let Some(batch) = self.next() {
-            let recorded = see_numbers(&mut numbers, &batch);
-            if let Err(error) = database.commit(batch.iter().map(|waiting| &waiting.change), &recorded) {
+            let (recorded, now) = (see_numbers(&mut numbers, &batch), now());
+            if let Err(error) = database.commit(batch.iter().map(|waiting| &waiting.change), &recorded, now) {
                 self.fail(error.to_string());
                 return Err(error);
             }
             self.commits.inc();
             for Waiting { change, reply } in batch {
-                let done = change.apply(tags);
+                let done = change.apply(tags, now);
                 if let Some(reply) = reply {
                     let _ = reply.send(done);
                 }
@@ -283,8 +287,9 @@ mod tests {
     }
 
     fn put(tag: &str) -> Change {
-        let (repo, digest, media_type) = ("acme/web".to_string(), "sha256:a".to_string(), "x/a".to_string());
-        Change::PutManifest { repo, digest, media_type, tag: Some(tag.to_string()) }
+        let (repo, digest) = ("acme/web".to_string(), "sha256:a".to_string());
+        let facts = Facts { media_type: "x/a".to_string(), ..Facts::default() };
+        Change::PutManifest { repo, digest, facts, tag: Some(tag.to_string()) }
     }
 
     #[tokio::test]

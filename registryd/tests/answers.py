@@ -78,7 +78,8 @@ def each_limit_is_named():
 def unsupported_methods_are_rejected():
     """Checks that a 405 lists the methods of the path in Allow (RFC 9110, 15.5.6)."""
     some = "5bd5e3a4-0c7b-4a79-b7a6-d5ae4cd1b3a5"
-    cases = {"/v2/": "GET, HEAD", "/v2/acme/one/tags/list": "GET", "/v2/acme/one/manifests/v1": "GET, HEAD, PUT, DELETE",
+    cases = {"/v2/": "GET, HEAD", "/v2/acme/one/tags/list": "GET, HEAD", "/v2/_catalog": "GET, HEAD",
+             f"/v2/acme/one/referrers/{sha256(b'')}": "GET, HEAD", "/v2/acme/one/manifests/v1": "GET, HEAD, PUT, DELETE",
              f"/v2/acme/one/blobs/{sha256(b'')}": "GET, HEAD, DELETE", "/v2/acme/one/blobs/uploads/": "POST",
              f"/v2/acme/one/blobs/uploads/{some}": "GET, PATCH, PUT, DELETE"}
     with serving_stub({}) as server:

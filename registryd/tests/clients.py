@@ -41,6 +41,11 @@ class Podman:
         run(*self.words, "pull", "-q", "--tls-verify=false", name)
         return files_of(run(*self.words, "image", "mount", name))
 
+    def finds(self, address, repo):
+        """Checks that podman finds the repository in the list of the registry."""
+        found = run(*self.words, "search", "--tls-verify=false", "--format", "{{.Name}}", f"{address}/")
+        assert found.splitlines() == [f"{address}/{repo}"], found
+
     def forget(self):
         run(*self.words, "rmi", "-a", "-f")
 
@@ -119,6 +124,8 @@ def play(client, server, repo, files):
     at, http = f"{server.address}/{repo}", server.client()
     client.push(f"{at}:v1")
     client.forget()
+    if isinstance(client, Podman):
+        client.finds(server.address, repo)
     pushed = http.ask("GET", f"/v2/{repo}/manifests/v1")
     digest, manifest = pushed["Docker-Content-Digest"], json.loads(pushed.body)
     for reference in (":v1", f"@{digest}"):

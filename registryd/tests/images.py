@@ -1,9 +1,9 @@
 #!/usr/bin/env python3
 """skopeo pushes an image, pulls it by tag and by digest, copies it within the registry and deletes it. The image pulled has
-to equal the one pushed, and after a sweep the store has to be empty."""
+to equal the one pushed, and after a sweep the store has to be empty. It does the same with an index of two images."""
 import filecmp, gzip, io, json, os, random, shutil, subprocess, tarfile, tempfile
 
-from server import MANIFEST, serving, sha256
+from server import INDEX, MANIFEST, serving, sha256
 
 
 def layer(name, size, seed):
@@ -79,19 +79,60 @@ def play(server, folder):
 def delete_blobs(server, folder):
     """Deletes the blobs. skopeo deletes only manifests; a client of the specification deletes the blobs too."""
     client = server.client()
-    for name in ("tiny", "many", "big"):
+    for name in ("tiny", "many", "big", "index"):
         for blob in os.listdir(f"{folder}/{name}/blobs/sha256"):
             for repo in (name, f"copy-of-{name}"):
                 client.ask("DELETE", f"/v2/acme/{repo}/blobs/sha256:{blob}")
     assert not server.left(), server.left()
 
 
+def index_of(top, tops):
+    """Writes the OCI layout of an index of images, and returns the digests of the images and of the index."""
+    os.makedirs(f"{top}/blobs/sha256")
+    listed = []
+    for number, one in enumerate(tops):
+        shutil.copytree(f"{one}/blobs", f"{top}/blobs", dirs_exist_ok=True)
+        with open(f"{one}/index.json") as file:
+            entry = json.load(file)["manifests"][0]
+        del entry["annotations"]
+        listed.append({**entry, "platform": {"os": "linux", "architecture": ("amd64", "arm64")[number]}})
+    data = json.dumps({"schemaVersion": 2, "mediaType": INDEX, "manifests": listed}).encode()
+    with open(f"{top}/blobs/sha256/{sha256(data)[7:]}", "wb") as file:
+        file.write(data)
+    named = {"mediaType": INDEX, "digest": sha256(data), "size": len(data), "annotations": {"org.opencontainers.image.ref.name": "latest"}}
+    for name, value in (("index.json", {"schemaVersion": 2, "manifests": [named]}), ("oci-layout", {"imageLayoutVersion": "1.0.0"})):
+        with open(f"{top}/{name}", "w") as file:
+            json.dump(value, file)
+    return [entry["digest"] for entry in listed], sha256(data)
+
+
+def play_index(server, folder):
+    """Pushes and pulls an index with all of its images. skopeo deletes the index first, and then the images."""
+    at = f"docker://{server.address}/acme/index"
+    for name, seed in (("one", 100), ("two", 200)):
+        image(f"{folder}/{name}", [1000, 2000], seed)
+    images, _ = index_of(f"{folder}/index", [f"{folder}/one", f"{folder}/two"])
+    skopeo("copy", "--all", "--dest-tls-verify=false", f"oci:{folder}/index:latest", f"{at}:v1")
+    skopeo("copy", "--all", "--src-tls-verify=false", f"{at}:v1", f"oci:{folder}/back:latest")
+    same_blobs(f"{folder}/index", f"{folder}/back")
+    try:
+        skopeo("delete", "--tls-verify=false", f"{at}@{images[0]}")
+    except AssertionError as error:
+        assert "an index lists the manifest" in str(error), error
+    else:
+        raise AssertionError("an image was deleted that an index lists")
+    skopeo("delete", "--tls-verify=false", f"{at}:v1")
+    for digest in images:
+        skopeo("delete", "--tls-verify=false", f"{at}@{digest}")
+
+
 def main():
     with tempfile.TemporaryDirectory() as folder, serving("--slots", "128", "--sweep-ms", "20") as server:
         play(server, folder)
+        play_index(server, folder)
         delete_blobs(server, folder)
         assert server.end() == 0
-    print("images: three were pushed, pulled by tag and by digest, copied and deleted; the store is empty")
+    print("images: three and an index were pushed, pulled, copied and deleted; the store is empty")
 
 
 if __name__ == "__main__":

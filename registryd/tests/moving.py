@@ -6,11 +6,10 @@ import os, signal, sqlite3, tempfile
 from documented import Shell, blocks
 from playing import until
 from pushing import CONTENT, Raw, Skopeo, check_listed
-from server import MANIFEST, TOP, Client, free_port, manifest_of, serving, sha256
+from server import INDEX, MANIFEST, TOP, Client, free_port, manifest_of, serving, sha256
 
 DOCUMENT = "docs/BACKUP.md"
 TENANTS = ("acme=1000000000", "other=1000000000")
-INDEX = "application/vnd.oci.image.index.v1+json"
 DOCKER = "application/vnd.docker.distribution.manifest.v2+json"
 
 

@@ -3,11 +3,11 @@
 import contextlib, json, os, random, signal, sqlite3, tempfile, threading, time
 
 from playing import play, until
-from server import MANIFEST, manifest_of, serving, sha256, sha512
+from referrers import artifact, descriptor, index, page, referrers
+from server import INDEX, MANIFEST, manifest_of, serving, sha256, sha512
 
 PATCH = {"Content-Type": "application/octet-stream"}
 DOCKER = "application/vnd.docker.distribution.manifest.v2+json"
-INDEX = "application/vnd.oci.image.index.v1+json"
 CONFIG = b"{}"
 
 
@@ -271,9 +271,9 @@ def a_tag_without_its_manifest_is_dropped():
             by_signal(server)
         missing = sha256(b"missing")
         with database(path) as rows:
-            rows.execute("INSERT INTO manifests VALUES ('acme/one', ?, ?)", (missing, MANIFEST))
+            rows.execute("INSERT INTO manifests (repository, digest, media_type) VALUES ('acme/one', ?, ?)", (missing, MANIFEST))
             rows.executemany("INSERT INTO tags VALUES ('acme/one', ?, ?)", [("old", missing), ("older", missing)])
-            rows.execute("INSERT INTO manifests VALUES ('nobody/one', ?, ?)", (missing, MANIFEST))
+            rows.execute("INSERT INTO manifests (repository, digest, media_type) VALUES ('nobody/one', ?, ?)", (missing, MANIFEST))
         with serving("--data", path) as server:
             client = server.client()
             assert "dropped manifests that the store does not have, with their tags count=2" in server.logged(), server.logged()
@@ -283,6 +283,81 @@ def a_tag_without_its_manifest_is_dropped():
         with database(path) as rows:
             assert rows.execute("SELECT tag FROM tags").fetchall() == [("v1",)]
             assert rows.execute("SELECT count(*) FROM manifests").fetchone() == (1,)
+
+
+def referrers_are_the_same_after_a_restart():
+    """After each way to end the programs, lists of referrers have what was pushed, and indexes protect what they list."""
+    with folder() as path:
+        gone = []
+        for number, way in enumerate(WAYS):
+            with serving("--data", path) as server:
+                client = server.client()
+                image = pushed(client)
+                for content in (artifact(image, annotations={"n": str(number)}), artifact(image, annotations={"gone": str(number)})):
+                    push_manifest(client, "acme/one", sha256(content), content)
+                assert client.ask("DELETE", f"/v2/acme/one/manifests/{sha256(content)}").status == 202
+                gone.append(content)
+                push_manifest(client, "acme/one", "all", index(descriptor(image), subject=descriptor(image), artifactType="a/b"), INDEX)
+                before = referrers(client, "acme/one", image)
+                assert len(before) == number + 2, before
+                way(server)
+            with serving("--data", path) as server:
+                client = server.client()
+                assert referrers(client, "acme/one", image) == before, way
+                assert {pulled(client, "acme/one", sha256(content)) for content in gone} == {404}, way
+                assert client.ask("DELETE", f"/v2/acme/one/manifests/{sha256(image)}").status == 403, way
+                assert server.end() == 0
+
+
+def a_database_of_version_1_is_taken_over():
+    """Referrers that were pushed before there was a list of them are listed (OCI Distribution Specification 1.1, "Enabling the Referrers API")."""
+    with folder() as path:
+        with serving("--data", path) as server:
+            client = server.client()
+            image = pushed(client)
+            first, second = artifact(image, annotations={"n": "1"}), index(descriptor(image), subject=descriptor(image))
+            for content, kind in ((first, MANIFEST), (second, INDEX)):
+                push_manifest(client, "acme/one", sha256(content), content, kind)
+            # The list that a client keeps in a tag if the registry has none.
+            push_manifest(client, "acme/one", sha256(image).replace(":", "-"), index(descriptor(first), descriptor(second, INDEX)), INDEX)
+            before = referrers(client, "acme/one", image)
+            by_signal(server)
+        with database(path) as rows:
+            rows.execute("DROP TABLE listed")
+            rows.execute("DROP INDEX manifests_by_subject")
+            for column in ("size", "artifact_type", "subject", "since"):
+                rows.execute(f"ALTER TABLE manifests DROP COLUMN {column}")
+            rows.execute("PRAGMA user_version = 1")
+        for way in (by_kill_of_both, by_signal):
+            with serving("--data", path) as server:
+                client = server.client()
+                assert len(before) == 2 and referrers(client, "acme/one", image) == before
+                for content in (image, first):
+                    assert client.ask("DELETE", f"/v2/acme/one/manifests/{sha256(content)}").status == 403
+                assert ("read manifests of a database of an earlier version count=4" in server.logged()) == (way == by_kill_of_both)
+                way(server)
+
+
+def an_interrupted_push_of_a_referrer_is_found():
+    """The store has a referrer whose row is missing: a crash came before it was durable, or within its delete."""
+    with folder() as path:
+        with serving("--data", path) as server:
+            client = server.client()
+            image = pushed(client)
+            referrer = artifact(image)
+            push_manifest(client, "acme/one", sha256(referrer), referrer)
+            by_signal(server)
+        with database(path) as rows:
+            rows.execute("DELETE FROM manifests WHERE digest = ?", [sha256(referrer)])
+            # A referrer that the store does not have.
+            rows.execute("INSERT INTO manifests (repository, digest, media_type, size, subject) VALUES ('acme/one', ?, ?, 1, ?)",
+                         (sha256(b"missing"), MANIFEST, sha256(image)))
+        with serving("--data", path) as server:
+            client = server.client()
+            assert page(client, f"/v2/acme/one/referrers/{sha256(image)}") == ([], None)
+            assert pulled(client, "acme/one", sha256(referrer)) == (referrer, MANIFEST)
+            assert [one["digest"] for one in referrers(client, "acme/one", image)] == [sha256(referrer)]
+            by_signal(server)
 
 
 def a_database_that_is_lost_costs_the_tags():
@@ -397,6 +472,7 @@ def main():
         what_was_answered_is_there, an_upload_is_resumed_by_its_location,
         an_upload_whose_chunk_is_lost_goes_on_where_the_store_says, an_upload_expires_after_a_restart, all_open_uploads_are_found,
         a_name_is_made_by_this_registry_alone, a_manifest_without_its_tag_is_found, a_tag_without_its_manifest_is_dropped,
+        referrers_are_the_same_after_a_restart, a_database_of_version_1_is_taken_over, an_interrupted_push_of_a_referrer_is_found,
         a_database_that_is_lost_costs_the_tags, numbers_that_return_get_other_names,
         a_tag_that_many_move_at_once_is_the_same_after_a_restart, refused_uploads_leave_no_repository,
         a_registry_that_is_never_synced_survives_the_end_of_the_programs, the_folder_is_measured])

@@ -5,6 +5,7 @@ TOP = os.path.dirname(os.path.dirname(os.path.abspath(__file__)))
 REGISTRYD = os.environ.get("REGISTRYD", f"{TOP}/target/release/registryd")
 BLOBD = os.environ.get("BLOBD", f"{os.path.dirname(TOP)}/crates/blobd/out/blobd")
 MANIFEST = "application/vnd.oci.image.manifest.v1+json"
+INDEX = "application/vnd.oci.image.index.v1+json"
 
 
 def sha256(data):

@@ -5,9 +5,8 @@ import time
 
 from crash.asking import BYTES, Asker
 from crash.facts import Fault, Upload
-from server import MANIFEST, sha256, sha512
+from server import INDEX, MANIFEST, sha256, sha512
 
-INDEX = "application/vnd.oci.image.index.v1+json"
 DOCKER = "application/vnd.docker.distribution.manifest.v2+json"
 
 # Bounds for what a client keeps.
