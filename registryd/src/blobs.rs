@@ -35,6 +35,7 @@ fn headers_of<'h>(digest: &'h str, tag: &'h str, len: &'h str) -> [(&'static str
 
 /// end-2: returns the headers of a blob, with its length.
 pub async fn head(call: &Call, digest: &str) -> HandlerResult {
+    call.registry.loose.ask(&call.repo, digest)?;
     let size = call.registry.store.stat(&call.repo, digest).await??.to_string();
     if has_content(call, digest) {
         return not_modified(digest);
@@ -44,6 +45,7 @@ pub async fn head(call: &Call, digest: &str) -> HandlerResult {
 
 /// end-2: returns a blob or a part of it.
 pub async fn get(call: &Call, digest: &str) -> HandlerResult {
+    call.registry.loose.ask(&call.repo, digest)?;
     if has_content(call, digest) {
         call.registry.store.stat(&call.repo, digest).await??;
         return not_modified(digest);

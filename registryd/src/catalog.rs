@@ -2,7 +2,7 @@
 //! change is durable before it is visible.
 use crate::clock::now;
 use crate::document::Facts;
-use crate::tags::{ListedBy, Tags};
+use crate::tags::{Kept, Removal, Tags};
 use crate::writer::{Change, DatabaseUnavailable, Done, Writer};
 use std::ops::Deref;
 use std::sync::Arc;
@@ -15,18 +15,6 @@ pub struct Catalog {
 
 /// The tags of a manifest that is being deleted.
 pub struct RemovedTags(Vec<String>);
-
-/// The reason why a manifest is not going to be deleted.
-pub enum NoRemoval {
-    DatabaseUnavailable,
-    ListedBy(ListedBy),
-}
-
-impl From<DatabaseUnavailable> for NoRemoval {
-    fn from(_: DatabaseUnavailable) -> NoRemoval {
-        NoRemoval::DatabaseUnavailable
-    }
-}
 
 impl Deref for Catalog {
     type Target = Tags;
@@ -71,16 +59,24 @@ impl Catalog {
     }
 
     /// Marks a manifest that the store is going to be asked to delete. With a database, it and its tags are removed there
-    /// before the store deletes it, so that no tag names a missing manifest after a crash. Fails if an index lists it.
-    pub async fn begin_removal(&self, repo: &str, digest: &str) -> Result<RemovedTags, NoRemoval> {
-        self.tags.begin_removal(repo, digest).map_err(NoRemoval::ListedBy)?;
+    /// before the store deletes it, so that no tag names a missing manifest after a crash. Fails if it is not to be deleted
+    /// on this condition.
+    pub async fn begin_removal(
+        &self,
+        repo: &str,
+        digest: &str,
+        removal: Removal,
+    ) -> Result<Result<RemovedTags, Kept>, DatabaseUnavailable> {
+        if let Err(kept) = self.tags.begin_removal(repo, digest, removal) {
+            return Ok(Err(kept));
+        }
         let writer = match &self.writer {
             Some(writer) if self.tags.is_known(repo, digest) => writer,
-            _ => return Ok(RemovedTags(Vec::new())),
+            _ => return Ok(Ok(RemovedTags(Vec::new()))),
         };
         match writer.write(Change::RemoveManifest { repo: repo.to_string(), digest: digest.to_string() }).await? {
-            Done::Removed(tags) => Ok(RemovedTags(tags)),
-            Done::Nothing => Ok(RemovedTags(Vec::new())),
+            Done::Removed(tags) => Ok(Ok(RemovedTags(tags))),
+            Done::Nothing => Ok(Ok(RemovedTags(Vec::new()))),
         }
     }
 

@@ -58,6 +58,10 @@ const ADDITIONS: &str = "
         PRIMARY KEY (repository, digest, listed),
         FOREIGN KEY (repository, digest) REFERENCES manifests ON DELETE CASCADE
     ) WITHOUT ROWID;
+    CREATE TABLE loose_blobs (
+        repository TEXT NOT NULL, digest TEXT NOT NULL,
+        PRIMARY KEY (repository, digest)
+    ) WITHOUT ROWID;
 ";
 
 /// The reason why a database cannot be opened.
@@ -133,6 +137,8 @@ pub struct Rows {
     pub manifests: Vec<ManifestRow>,
     pub tags: Vec<TagRow>,
     pub uploads: Vec<UploadRow>,
+    /// The repositories and digests of blobs that are to be unlinked after some time.
+    pub loose_blobs: Vec<(String, String)>,
     /// For each tenant, a number up to which all its sessions that may be open are rows of `uploads`.
     pub recorded: HashMap<String, u32>,
 }
@@ -191,8 +197,11 @@ impl Database {
         let uploads = all(connection, "SELECT repository, number FROM uploads", |row| {
             Ok(UploadRow { repo: row.get(0)?, number: row.get(1)? })
         })?;
+        let query = "SELECT repository, digest FROM loose_blobs";
+        let loose_blobs = all(connection, query, |row| Ok((row.get(0)?, row.get(1)?)))?;
         let recorded = all(connection, "SELECT name, recorded FROM tenants", |row| Ok((row.get(0)?, row.get(1)?)))?;
-        Ok(Rows { secret, repositories, manifests, tags, uploads, recorded: recorded.into_iter().collect() })
+        let recorded = recorded.into_iter().collect();
+        Ok(Rows { secret, repositories, manifests, tags, uploads, loose_blobs, recorded })
     }
 
     /// Returns the secret of the names of uploads, and makes it if there is none.
@@ -390,6 +399,12 @@ fn make<'c>(
             run("DELETE FROM tags WHERE repository = ?1 AND tag = ?2", params![repo, tag])
         }
         Change::RemoveManifest { repo, digest } => remove_manifest(transaction, repo, digest, now),
+        Change::AddLooseBlob { repo, digest } => {
+            run("INSERT OR IGNORE INTO loose_blobs (repository, digest) VALUES (?1, ?2)", params![repo, digest])
+        }
+        Change::RemoveLooseBlob { repo, digest } => {
+            run("DELETE FROM loose_blobs WHERE repository = ?1 AND digest = ?2", params![repo, digest])
+        }
         Change::OpenUpload { repo, number } => {
             uploads.open(repo, *number);
             Ok(())

@@ -43,7 +43,7 @@ enum Part {
     Null,
     Text(String),
     Descriptor { media_type: Option<String>, digest: Option<String> },
-    /// The digests of the manifests in an array of descriptors.
+    /// The digests of the descriptors in an array.
     Digests(Vec<String>),
     Other,
 }
@@ -112,6 +112,7 @@ impl Document {
             return Err(Fault::manifest_invalid(format!("the type of the artifact has more than {MAX_LEN} bytes")));
         }
         let mut lists = self.lists;
+        lists.retain(|digest| is_of_manifest(digest));
         lists.sort_unstable();
         lists.dedup();
         Ok(Facts { media_type, size, artifact_type, subject, lists })
@@ -128,6 +129,11 @@ impl Document {
 pub fn annotations(content: &[u8]) -> Option<Box<RawValue>> {
     let Annotated(found) = serde_json::from_slice(content).ok()?;
     found.filter(|value| serde_json::from_str::<Texts>(value.get()).is_ok())
+}
+
+/// Returns the digests of the blobs that a manifest refers to: those of its config and of its layers.
+pub fn blobs(content: &[u8]) -> Vec<String> {
+    serde_json::from_slice(content).map_or(Vec::new(), |Blobs(digests)| digests)
 }
 
 /// A reader over content in parts.
@@ -239,7 +245,7 @@ impl<'de> Visitor<'de> for AnyPart {
         let mut digests = Vec::new();
         while let Some(element) = elements.next_element()? {
             match element {
-                Part::Descriptor { digest: Some(digest), .. } if is_of_manifest(&digest) => digests.push(digest),
+                Part::Descriptor { digest: Some(digest), .. } if is_digest(&digest) => digests.push(digest),
                 _ => {}
             }
         }
@@ -291,6 +297,53 @@ impl<'de> Visitor<'de> for AnnotatedMembers {
             }
         }
         Ok(Annotated(found))
+    }
+}
+
+/// The digests of the blobs of a document.
+struct Blobs(Vec<String>);
+
+impl<'de> Deserialize<'de> for Blobs {
+    fn deserialize<D: Deserializer<'de>>(deserializer: D) -> Result<Blobs, D::Error> {
+        deserializer.deserialize_map(BlobMembers)
+    }
+}
+
+/// Reads the blobs among the members of a document.
+struct BlobMembers;
+
+impl<'de> Visitor<'de> for BlobMembers {
+    type Value = Blobs;
+
+    fn expecting(&self, text: &mut fmt::Formatter) -> fmt::Result {
+        text.write_str("an object")
+    }
+
+    fn visit_map<A: MapAccess<'de>>(self, mut members: A) -> Result<Blobs, A::Error> {
+        let (mut config, mut layers) = (None, Vec::new());
+        while let Some(name) = members.next_key::<String>()? {
+            match &*name {
+                "config" => {
+                    config = match members.next_value()? {
+                        Part::Descriptor { digest, .. } => digest.filter(|digest| is_digest(digest)),
+                        _ => None,
+                    }
+                }
+                "layers" => {
+                    layers = match members.next_value()? {
+                        Part::Digests(digests) => digests,
+                        _ => Vec::new(),
+                    }
+                }
+                _ => {
+                    members.next_value::<IgnoredAny>()?;
+                }
+            }
+        }
+        layers.extend(config);
+        layers.sort_unstable();
+        layers.dedup();
+        Ok(Blobs(layers))
     }
 }
 
@@ -400,6 +453,19 @@ mod tests {
         assert_eq!(facts(&text).unwrap().lists, [two.clone(), one.clone()]);
         for text in [r#"{"manifests":null}"#, r#"{"manifests":{}}"#, r#"{"manifests":"x"}"#] {
             assert_eq!(facts(text).unwrap().lists, [""; 0], "{text}");
+        }
+    }
+
+    #[test]
+    fn blobs_are_the_config_and_the_layers() {
+        let [one, two] = ["1", "0"].map(|letter| format!("sha256:{}", hex(letter, 64)));
+        let long = format!("sha512:{}", hex("0", 128));
+        let entry = |digest: &String| format!(r#"{{"digest":"{digest}"}}"#);
+        let layers = [&two, &long, &two].map(entry).join(",");
+        let text = format!(r#"{{"config":{},"layers":[{layers},{{"digest":"x"}},5]}}"#, entry(&one));
+        assert_eq!(blobs(text.as_bytes()), [two, one, long]);
+        for text in ["{}", "[]", "{", r#"{"config":5,"layers":{}}"#, r#"{"manifests":[{"digest":"sha256:0"}]}"#] {
+            assert_eq!(blobs(text.as_bytes()), [""; 0], "{text}");
         }
     }
 

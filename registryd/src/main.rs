@@ -1,4 +1,4 @@
-//! A container registry (OCI Distribution Specification 1.1). A `blobd` stores the blobs and manifests. Tags, media types
+//! A container registry (OCI Distribution Specification 1.1). A `blobd` stores the blobs and manifests. Tags, facts of manifests
 //! and open uploads are in this process, and with `--data` in a database too. Without `--data` all data is in memory.
 mod access;
 mod appending;
@@ -16,6 +16,7 @@ mod fault;
 mod folder;
 mod frames;
 mod limits;
+mod loose;
 mod manifests;
 mod media_type;
 mod memory;
@@ -31,6 +32,7 @@ mod range;
 mod referrers;
 mod registry;
 mod repositories;
+mod retention;
 mod server;
 mod startup;
 mod store;
@@ -50,6 +52,7 @@ use crate::connections::{Connections, Limits};
 use crate::ending::Failure;
 use crate::folder::Folder;
 use crate::limits::Repositories;
+use crate::loose::LooseBlobs;
 use crate::memory::Memory;
 use crate::metrics::Metrics;
 use crate::options::Options;
@@ -232,7 +235,7 @@ async fn start(options: &Options, access: Access) -> Result<Started, Failure> {
     let secret = kept.as_ref().map_or_else(Secret::random, |kept| Ok(kept.secret))?;
     let uploads = Uploads::new(secret, writer.clone());
     let repositories = Repositories::recorded_by(writer.clone());
-    let (mut tags, mut database) = (Arc::default(), None);
+    let (mut tags, mut database, mut loose_blobs) = (Arc::default(), None, Vec::new());
     if let (Some(kept), Some(writer)) = (kept, &writer) {
         for upload in &kept.uploads {
             uploads.add_known(&upload.repo, upload.number, upload.received);
@@ -240,6 +243,7 @@ async fn start(options: &Options, access: Access) -> Result<Started, Failure> {
         kept.repositories.iter().for_each(|repo| repositories.add(repo));
         kept.recorded.keys().for_each(|tenant| repositories.set_numbered(tenant));
         tags = Arc::new(kept.tags);
+        loose_blobs = kept.loose_blobs;
         database = Some((writer.clone(), writer.start(kept.database, tags.clone(), kept.recorded)?));
     }
     let registry = Arc::new(Registry {
@@ -248,6 +252,7 @@ async fn start(options: &Options, access: Access) -> Result<Started, Failure> {
         access,
         uploads,
         repositories,
+        loose: options.keep_untagged.map_or_else(LooseBlobs::default, |_| LooseBlobs::new(writer.clone(), loose_blobs)),
         tags: Catalog::new(tags, writer),
         folder: options.data.clone().map(|path| Folder::new(path, options.min_free())),
         turns: Default::default(),
@@ -261,7 +266,7 @@ async fn start(options: &Options, access: Access) -> Result<Started, Failure> {
     Ok(Started { registry, child, database })
 }
 
-/// Starts the garbage collector, the expiry of uploads, and the reserve of memory.
+/// Starts the garbage collector, the expiry of uploads and of manifests without tags, and the reserve of memory.
 fn work_in_background(registry: &Arc<Registry>, options: &Options) {
     let rest = Duration::from_millis(options.sweep_ms);
     let sweeper = registry.clone();
@@ -269,6 +274,10 @@ fn work_in_background(registry: &Arc<Registry>, options: &Options) {
     let expirer = registry.clone();
     let patience = options.patience();
     tokio::spawn(async move { expirer.expire(patience).await });
+    if let Some(time) = options.keep_untagged {
+        let keeper = registry.clone();
+        tokio::spawn(async move { keeper.keep_untagged(time).await });
+    }
     tokio::spawn(memory::keep_reserve());
 }
 

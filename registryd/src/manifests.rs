@@ -1,5 +1,4 @@
 //! Manifests and tags.
-use crate::catalog::NoRemoval;
 use crate::clock::now;
 use crate::conditional::{entity_tag, has_content, not_modified};
 use crate::content::{RequestContent, MAX_MANIFEST};
@@ -9,10 +8,9 @@ use crate::frames::{Reason, Refusal};
 use crate::limits::Limit;
 use crate::media_type::{media_type_of, MediaType};
 use crate::pages::{page_response, WantedPage};
-use crate::registry::{empty, with_body, Call, HandlerResult};
+use crate::registry::{empty, with_body, Call, HandlerResult, Registry};
 use crate::store::Answer;
-use crate::tags::{is_tag, ListedBy, NamedManifest};
-use crate::writer::DatabaseUnavailable;
+use crate::tags::{is_tag, Kept, NamedManifest, Removal};
 use bytes::Bytes;
 use hyper::{Body, StatusCode};
 use serde_json::json;
@@ -34,6 +32,7 @@ async fn look_up(call: &Call, reference: &str) -> Result<NamedManifest, Fault> {
         return tags.by_tag(&call.repo, reference).ok_or_else(Fault::manifest_unknown);
     }
     if let Some(named) = tags.by_digest(&call.repo, reference) {
+        tags.touch(&call.repo, reference, now());
         return Ok(named);
     }
     // The store checks the name and the digest. A manifest that it has is being put or deleted at this moment, or it was put
@@ -201,38 +200,47 @@ fn facts_to_store(call: &Call, digest: &str, document: Document, given: MediaTyp
 /// end-9: deletes a manifest and its tags, or one tag.
 pub async fn delete(call: &Call, reference: &str) -> HandlerResult {
     if is_digest(reference) {
-        delete_manifest(call, reference).await?;
+        let deleted = delete_manifest(&call.registry, &call.repo, reference, Removal::Asked).await?;
+        if let Err(Kept::ListedBy(index)) = deleted {
+            call.registry.store.stat_manifest(&call.repo, reference).await??;
+            return Err(Fault::listed(&index));
+        }
     } else if !call.registry.tags.remove_tag(&call.repo, reference).await? {
         return Err(Fault::manifest_unknown());
     }
     empty(StatusCode::ACCEPTED, &[])
 }
 
-/// Deletes a manifest and its tags. They are hidden from now on, and are shown again if the store does not delete it. Fails if
-/// an index lists it.
-async fn delete_manifest(call: &Call, digest: &str) -> Result<(), Fault> {
-    let (store, tags) = (&call.registry.store, &call.registry.tags);
-    let _turn = call.registry.turns.take(&call.repo, digest).await;
-    let removed = match tags.begin_removal(&call.repo, digest).await {
+/// Deletes a manifest and its tags. They are hidden from now on, and are shown again if the store does not delete it. Nothing
+/// is deleted if the manifest is to be kept.
+pub async fn delete_manifest(
+    registry: &Registry,
+    repo: &str,
+    digest: &str,
+    removal: Removal,
+) -> Result<Result<(), Kept>, Fault> {
+    let Registry { store, tags, turns, .. } = registry;
+    let _turn = turns.take(repo, digest).await;
+    let blobs = registry.blobs_to_loosen(repo, digest).await?;
+    let removed = match tags.begin_removal(repo, digest, removal).await? {
         Ok(removed) => removed,
-        Err(NoRemoval::DatabaseUnavailable) => return Err(DatabaseUnavailable.into()),
-        Err(NoRemoval::ListedBy(ListedBy(index))) => {
-            store.stat_manifest(&call.repo, digest).await??;
-            return Err(Fault::listed(&index));
-        }
+        Err(kept) => return Ok(Err(kept)),
     };
-    match store.delete_manifest(&call.repo, digest).await? {
-        Ok(()) => tags.remove_manifest(&call.repo, digest, now()),
+    match store.delete_manifest(repo, digest).await? {
+        Ok(()) => {
+            tags.remove_manifest(repo, digest, now());
+            registry.loosen(repo, &blobs);
+        }
         Err(refusal @ Refusal { reason: Reason::ManifestUnknown, .. }) => {
-            tags.remove_manifest(&call.repo, digest, now());
+            tags.remove_manifest(repo, digest, now());
             return Err(refusal.into());
         }
         Err(refusal) => {
-            tags.undo_removal(&call.repo, digest, removed).await?;
+            tags.undo_removal(repo, digest, removed).await?;
             return Err(refusal.into());
         }
     }
-    Ok(())
+    Ok(Ok(()))
 }
 
 /// end-8: returns a page of the tags.

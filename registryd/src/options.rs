@@ -1,5 +1,6 @@
 //! The options and arguments of the command line.
 use crate::registry::MetricsAccess;
+use crate::retention::hours;
 use crate::tenants::{self, tenant_word};
 use crate::uploads::UploadTimeouts;
 use clap::{Parser, ValueEnum};
@@ -62,6 +63,9 @@ pub struct Options {
     /// Abandon an upload without bytes after this time
     #[arg(long, value_name = "S", default_value_t = 60)]
     pub empty_session_s: u64,
+    /// Delete manifests that nothing has held for this time
+    #[arg(long, value_name = "HOURS", value_parser = hours)]
+    pub keep_untagged: Option<Duration>,
     /// Keep all data in this folder
     #[arg(long, value_name = "DIR")]
     pub data: Option<PathBuf>,

@@ -7,6 +7,7 @@ use crate::fault::Fault;
 use crate::folder::Folder;
 use crate::frames::{Reason, Refusal};
 use crate::limits::{tenant_of, Entering, Limit, Repositories};
+use crate::loose::LooseBlobs;
 use crate::memory::{Memory, Reserved};
 use crate::metrics::Metrics;
 use crate::path::{decoded, query_value, Target};
@@ -14,7 +15,7 @@ use crate::store::{StoreUnavailable, Store};
 use crate::tenants;
 use crate::turns::Turns;
 use crate::uploads::{UploadTimeouts, Upload, Uploads};
-use crate::{blobs, manifests, referrers, repositories, uploading};
+use crate::{blobs, manifests, referrers, repositories, retention, uploading};
 use hyper::body::HttpBody;
 use hyper::header::{CONTENT_TYPE, EXPECT, HOST};
 use hyper::http::request::Parts;
@@ -35,6 +36,8 @@ pub struct Registry {
     pub uploads: Uploads,
     pub repositories: Repositories,
     pub tags: Catalog,
+    /// The blobs that are to be unlinked after some time.
+    pub loose: LooseBlobs,
     /// The folder, if the registry survives restarts.
     pub folder: Option<Folder>,
     /// The writers of a manifest take turns, each for the time of its call to the store. Readers take no turn.
@@ -263,6 +266,10 @@ impl Registry {
             self.metrics_access.check(&user)?;
             return self.metrics().await;
         }
+        if path == "/untagged" && self.metrics_access != MetricsAccess::Elsewhere {
+            self.metrics_access.check(&user)?;
+            return retention::list(&self, head.uri.query());
+        }
         let path = decoded(&path).ok_or_else(Fault::path)?;
         let target = Target::of(&path).ok_or_else(Fault::path)?;
         let allowed = target.methods();
@@ -314,6 +321,7 @@ impl Registry {
         let answered = tokio::spawn(async move {
             match (request.method(), request.uri().path()) {
                 (&Method::GET, "/metrics") => self.metrics().await,
+                (&Method::GET, "/untagged") => retention::list(&self, request.uri().query()),
                 (&Method::GET, "/healthz") => self.probe(&[]).await,
                 _ => Err(Fault::path()),
             }

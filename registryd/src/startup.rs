@@ -39,6 +39,8 @@ pub struct Kept {
     pub tags: Tags,
     pub repositories: Vec<String>,
     pub uploads: Vec<FoundUpload>,
+    /// The repositories and digests of blobs that are to be unlinked after some time.
+    pub loose_blobs: Vec<(String, String)>,
     /// For each tenant, a number up to which all uploads are recorded.
     pub recorded: HashMap<String, u32>,
 }
@@ -94,7 +96,8 @@ pub async fn recover(store: &Store, folder: PathBuf, is_synced: bool, had_log: b
     })
     .await?;
     let tags = tags_of(&rows);
-    Ok(Kept { database, secret, tags, repositories: rows.repositories, uploads, recorded })
+    let Rows { repositories, loose_blobs, .. } = rows;
+    Ok(Kept { database, secret, tags, repositories, uploads, loose_blobs, recorded })
 }
 
 /// Runs work that waits for the disk in a thread of its own.

@@ -6,7 +6,7 @@
 use crate::document::Facts;
 use crate::namers::Namers;
 use crate::pages::{Page, MAX_PAGE};
-use std::collections::{BTreeMap, HashMap};
+use std::collections::{BTreeMap, HashMap, HashSet};
 use std::ops::Bound;
 use std::sync::{Arc, Mutex, RwLock};
 
@@ -54,9 +54,36 @@ pub struct Referrer {
     pub size: u64,
 }
 
-/// What prevents that a manifest is deleted: an index lists it.
+/// The condition on which a manifest is deleted.
+#[derive(Clone, Copy, Debug)]
+pub enum Removal {
+    /// No index lists it: a client asked for the delete.
+    Asked,
+    /// Nothing holds it, nothing has held it since this time, in seconds since 1970, and it was pushed before.
+    UnheldSince(u64),
+}
+
+/// The reason why a manifest is not deleted.
 #[derive(Debug, PartialEq, Eq)]
-pub struct ListedBy(pub String);
+pub enum Kept {
+    /// An index lists it.
+    ListedBy(String),
+    /// Something else holds it, or did not long ago.
+    Held,
+}
+
+/// A manifest without a tag.
+#[derive(Debug, PartialEq, Eq)]
+pub struct Untagged {
+    pub repo: String,
+    pub digest: String,
+    pub media_type: String,
+    pub size: u64,
+    /// The last time at which it was pushed or something ceased to hold it, in seconds since 1970.
+    pub since: u64,
+    /// The index that lists it, or its subject, if it is there.
+    pub held_by: Option<String>,
+}
 
 /// Returns whether a text is a tag (OCI Distribution Specification 1.1, "Pulling manifests").
 pub fn is_tag(text: &str) -> bool {
@@ -78,13 +105,20 @@ impl Repository {
         self.manifests.values().any(|manifest| !manifest.is_leaving)
     }
 
-    /// Adds a manifest, or replaces its media type and shows it. What it names depends on its digest alone.
+    /// Adds a manifest, or replaces its facts and shows it.
     fn put(&mut self, digest: &str, facts: Facts, now: u64) {
-        if !self.manifests.contains_key(digest) {
-            facts.lists.iter().for_each(|named| self.listed.add(named, digest));
-            facts.subject.iter().for_each(|named| self.referrers.add(named, digest));
+        if let Some(before) = self.manifests.remove(digest) {
+            self.remove_names(digest, &before.facts);
         }
+        facts.lists.iter().for_each(|named| self.listed.add(named, digest));
+        facts.subject.iter().for_each(|named| self.referrers.add(named, digest));
         self.manifests.insert(digest.to_string(), Manifest { facts, since: now, is_leaving: false });
+    }
+
+    /// Removes what a manifest names.
+    fn remove_names(&mut self, digest: &str, facts: &Facts) {
+        facts.lists.iter().for_each(|named| self.listed.remove(named, digest));
+        facts.subject.iter().for_each(|named| self.referrers.remove(named, digest));
     }
 
     /// Adds a tag, or moves it.
@@ -108,6 +142,31 @@ impl Repository {
         }
     }
 
+    /// Returns what holds a manifest other than a tag: an index that lists it, or its subject.
+    fn holder(&self, digest: &str) -> Option<&String> {
+        let subject = self.manifests.get(digest).and_then(|manifest| manifest.facts.subject.as_ref());
+        self.listed.first(digest).or_else(|| subject.filter(|subject| self.manifests.contains_key(*subject)))
+    }
+
+    /// Returns the digests that have a tag.
+    fn tagged(&self) -> HashSet<&String> {
+        self.tags.values().collect()
+    }
+
+    /// Fails if a manifest is not to be deleted on a condition.
+    fn check_removal(&self, digest: &str, removal: Removal) -> Result<(), Kept> {
+        match removal {
+            Removal::Asked => self.listed.first(digest).map_or(Ok(()), |index| Err(Kept::ListedBy(index.clone()))),
+            Removal::UnheldSince(time) => match self.manifest(digest) {
+                Some(manifest) if manifest.since <= time && self.holder(digest).is_none() => {
+                    let is_tagged = self.tags.values().any(|tagged| tagged == digest);
+                    if is_tagged { Err(Kept::Held) } else { Ok(()) }
+                }
+                _ => Err(Kept::Held),
+            },
+        }
+    }
+
     /// Removes a manifest and its tags. It ceases to hold what it lists, and what has it as subject.
     fn remove(&mut self, digest: &str, now: u64) {
         let facts = match self.manifests.remove(digest) {
@@ -115,11 +174,8 @@ impl Repository {
             None => return,
         };
         self.tags.retain(|_, named| named != digest);
-        for named in &facts.lists {
-            self.listed.remove(named, digest);
-            self.release(named, now);
-        }
-        facts.subject.iter().for_each(|named| self.referrers.remove(named, digest));
+        self.remove_names(digest, &facts);
+        facts.lists.iter().for_each(|named| self.release(named, now));
         let referrers: Vec<String> = self.referrers.after(digest, "").cloned().collect();
         referrers.iter().for_each(|referrer| self.release(referrer, now));
     }
@@ -228,12 +284,10 @@ impl Tags {
         self.with(repo, find).flatten()
     }
 
-    /// Marks a manifest before it is deleted. Fails if an index lists it.
-    pub fn begin_removal(&self, repo: &str, digest: &str) -> Result<(), ListedBy> {
+    /// Marks a manifest before it is deleted. Fails if it is not to be deleted on this condition.
+    pub fn begin_removal(&self, repo: &str, digest: &str, removal: Removal) -> Result<(), Kept> {
         let begin = |repo: &mut Repository| {
-            if let Some(index) = repo.listed.first(digest) {
-                return Err(ListedBy(index.clone()));
-            }
+            repo.check_removal(digest, removal)?;
             if let Some(manifest) = repo.manifests.get_mut(digest) {
                 manifest.is_leaving = true;
             }
@@ -277,6 +331,37 @@ impl Tags {
         let after = repos.range::<str, _>((Bound::Excluded(last), Bound::Unbounded));
         let visible = after.filter(|(name, repo)| may_list(name) && repo.lock().unwrap().is_visible());
         Page::of(visible.map(|(name, _)| name.clone()), most.min(MAX_PAGE))
+    }
+
+    /// Returns the names of all repositories, in order.
+    pub fn names(&self) -> Vec<String> {
+        self.repos.read().unwrap().keys().cloned().collect()
+    }
+
+    /// Returns the manifests of a repository that have no tag, in the order of digests.
+    pub fn untagged(&self, name: &str) -> Vec<Untagged> {
+        let find = |repo: &mut Repository| {
+            let tagged = repo.tagged();
+            let visible = repo.manifests.iter().filter(|(digest, manifest)| !manifest.is_leaving && !tagged.contains(digest));
+            let mut found: Vec<Untagged> = visible
+                .map(|(digest, manifest)| Untagged {
+                    repo: name.to_string(),
+                    digest: digest.clone(),
+                    media_type: manifest.facts.media_type.clone(),
+                    size: manifest.facts.size,
+                    since: manifest.since,
+                    held_by: repo.holder(digest).cloned(),
+                })
+                .collect();
+            found.sort_unstable_by(|one, other| one.digest.cmp(&other.digest));
+            found
+        };
+        self.with(name, find).unwrap_or_default()
+    }
+
+    /// Notes that a client asked for a manifest by its digest, and so may be about to push something that holds it.
+    pub fn touch(&self, repo: &str, digest: &str, now: u64) {
+        self.with(repo, |repo| repo.release(digest, now));
     }
 
     /// Returns the first manifests after `last` in order whose subject is a digest, at most `most` and at most `MAX_PAGE`.
@@ -391,7 +476,7 @@ mod tests {
         for tag in ["v1", "v2", "v3"] {
             tags.add("sha256:a", TYPE, Some(tag));
         }
-        tags.begin_removal("acme/web", "sha256:a").unwrap();
+        tags.begin_removal("acme/web", "sha256:a", Removal::Asked).unwrap();
         assert_eq!(tags.take_tag("acme/web", "v3".to_string(), 2).as_deref(), Some("v3"));
         assert_eq!(tags.take_tag("acme/web", "v3".to_string(), 2), None);
         let removed = tags.take_tags_of("acme/web", "sha256:a");
@@ -405,11 +490,52 @@ mod tests {
     }
 
     #[test]
+    fn what_holds_a_manifest_is_known() {
+        let tags = Tags::default();
+        let put = |digest: &str, subject: Option<&str>, lists: &[&str], now| {
+            let lists = lists.iter().map(|digest| digest.to_string()).collect();
+            let facts = Facts { subject: subject.map(str::to_string), lists, size: 7, ..facts(TYPE) };
+            tags.put("acme/web", digest, facts, None, now);
+        };
+        put("image", None, &[], 1);
+        put("index", None, &["image", "missing"], 2);
+        put("signature", Some("index"), &[], 3);
+        let index = tags.any_facts("acme/web", "index").unwrap().0;
+        let held = || -> Vec<(String, u64, Option<String>)> {
+            tags.untagged("acme/web").into_iter().map(|one| (one.digest, one.since, one.held_by)).collect()
+        };
+        let expected = |rows: &[(&str, u64, Option<&str>)]| -> Vec<(String, u64, Option<String>)> {
+            rows.iter().map(|(digest, since, by)| (digest.to_string(), *since, by.map(str::to_string))).collect()
+        };
+        let (by_index, by_subject) = (("image", 1, Some("index")), ("signature", 3, Some("index")));
+        assert_eq!(held(), expected(&[by_index, ("index", 2, None), by_subject]));
+        let remove = |digest, removal| tags.begin_removal("acme/web", digest, removal);
+        assert_eq!(remove("image", Removal::Asked), Err(Kept::ListedBy("index".to_string())));
+        for (digest, time) in [("image", 9), ("signature", 9), ("index", 1), ("missing", 9)] {
+            assert_eq!(remove(digest, Removal::UnheldSince(time)), Err(Kept::Held), "{digest}");
+        }
+        tags.put("acme/web", "index", index, Some("v1"), 4);
+        assert_eq!(remove("index", Removal::UnheldSince(9)), Err(Kept::Held));
+        assert!(tags.remove_tag("acme/web", "v1", 5));
+        assert_eq!(remove("index", Removal::UnheldSince(4)), Err(Kept::Held));
+        assert_eq!(remove("index", Removal::UnheldSince(5)), Ok(()));
+        // An index that is being deleted still holds what it lists.
+        assert_eq!(remove("index", Removal::UnheldSince(9)), Err(Kept::Held));
+        assert_eq!(held(), expected(&[by_index, by_subject]));
+        tags.remove_manifest("acme/web", "index", 8);
+        assert_eq!(held(), expected(&[("image", 8, None), ("signature", 8, None)]));
+        tags.touch("acme/web", "image", 9);
+        assert_eq!(remove("image", Removal::UnheldSince(8)), Err(Kept::Held));
+        assert_eq!(remove("signature", Removal::UnheldSince(8)), Ok(()));
+        assert_eq!(remove("image", Removal::Asked), Ok(()));
+    }
+
+    #[test]
     fn a_manifest_that_is_leaving_is_not_seen() {
         let tags = Tags::default();
         tags.add("sha256:a", TYPE, Some("v1"));
         tags.add("sha256:b", TYPE, Some("v2"));
-        tags.begin_removal("acme/web", "sha256:a").unwrap();
+        tags.begin_removal("acme/web", "sha256:a", Removal::Asked).unwrap();
         assert_eq!(tags.by_tag("acme/web", "v1"), None);
         assert_eq!(tags.by_digest("acme/web", "sha256:a"), None);
         assert_eq!(tags.page("acme/web", "", 9).unwrap().items, ["v2"]);
@@ -418,7 +544,7 @@ mod tests {
         tags.add("sha256:b", TYPE, Some("v1"));
         tags.remove_manifest("acme/web", "sha256:a", 2);
         assert_eq!(tags.by_tag("acme/web", "v1").unwrap().digest, "sha256:b");
-        tags.begin_removal("acme/web", "sha256:b").unwrap();
+        tags.begin_removal("acme/web", "sha256:b", Removal::Asked).unwrap();
         assert_eq!(tags.page("acme/web", "", 9), None);
         tags.end_removal("acme/web", "sha256:b");
         assert_eq!(tags.page("acme/web", "", 9).unwrap().items, ["v1", "v2"]);

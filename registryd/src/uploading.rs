@@ -2,7 +2,7 @@
 use crate::content::{Piece, RequestContent, Then};
 use crate::fault::{range_text, Fault};
 use crate::range::content_range;
-use crate::registry::{empty, Call, HandlerResult};
+use crate::registry::{empty, Call, HandlerResult, Registry};
 use crate::store::{Answer, StoreUnavailable, MountResult};
 use crate::uploads::{AppendingRequest, UploadInUse};
 use bytes::Bytes;
@@ -15,11 +15,17 @@ use uuid::Uuid;
 
 /// end-4, end-11: opens an upload, stores a blob in one request, or mounts one.
 pub async fn open(call: &Call, content: &mut RequestContent) -> HandlerResult {
-    let store = &call.registry.store;
+    let Registry { store, loose, .. } = &*call.registry;
     let mut entering = call.enter_repository().await?;
     if let Some(digest) = call.query("mount") {
         let source = call.query("from").unwrap_or_default();
-        let mounted = store.mount(&call.repo, &digest, &source).await?;
+        let turn = loose.begin_link(&call.repo, &digest).await;
+        let mounted = store.mount(&call.repo, &digest, &source).await;
+        if let Ok(Ok(MountResult::Linked)) = mounted {
+            loose.end_link(&call.repo, &digest, &mounted);
+        }
+        drop(turn);
+        let mounted = mounted?;
         return match call.check_entered(mounted, &mut entering)? {
             MountResult::Linked => stored_response(call, &digest),
             MountResult::Session(session) => mounted_response(call, session).await,
@@ -173,7 +179,11 @@ async fn take_and_close(
 ) -> Result<(), Fault> {
     let (start, rest) = take_all_but_last(call, adding, place, content).await?;
     adding.send();
-    call.registry.store.close(&call.repo, adding.upload.session, digest, start, &rest).await??;
+    let Registry { store, loose, .. } = &*call.registry;
+    let _turn = loose.begin_link(&call.repo, digest).await;
+    let closed = store.close(&call.repo, adding.upload.session, digest, start, &rest).await;
+    loose.end_link(&call.repo, digest, &closed);
+    closed??;
     Ok(())
 }
 

@@ -33,6 +33,10 @@ pub enum Change {
     RemoveTag { repo: String, tag: String },
     /// A manifest is going to be deleted. Its tags are removed too.
     RemoveManifest { repo: String, digest: String },
+    /// A blob is to be unlinked after some time.
+    AddLooseBlob { repo: String, digest: String },
+    /// A blob is unlinked, or a manifest refers to it.
+    RemoveLooseBlob { repo: String, digest: String },
     OpenUpload { repo: String, number: u32 },
     EndUpload { repo: String, number: u32 },
     /// The store used this number for an upload that is not open.

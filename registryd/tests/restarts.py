@@ -324,6 +324,7 @@ def a_database_of_version_1_is_taken_over():
             by_signal(server)
         with database(path) as rows:
             rows.execute("DROP TABLE listed")
+            rows.execute("DROP TABLE loose_blobs")
             rows.execute("DROP INDEX manifests_by_subject")
             for column in ("size", "artifact_type", "subject", "since"):
                 rows.execute(f"ALTER TABLE manifests DROP COLUMN {column}")

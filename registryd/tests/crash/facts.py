@@ -7,6 +7,9 @@ import time
 # The number of deleted things of each kind that are still looked for.
 MOST_GONE = 30
 
+# The subject that some manifests have. No client pushes it.
+SUBJECT = "sha256:" + "0" * 64
+
 # Stands for any value but none, if the client cannot know which.
 SOME = object()
 
@@ -150,6 +153,10 @@ class Facts:
     def present(self, kind, repository):
         """Returns those that are there for sure."""
         return [name for name in self.keys(kind, repository) if self.value(kind, repository, name) is not None]
+
+    def referrers(self, repository):
+        """Returns the manifests that are there for sure and have the subject."""
+        return {digest for digest in self.present("manifest", repository) if SUBJECT.encode() in self.contents[digest]}
 
     def repositories(self):
         with self.lock:

@@ -6,6 +6,7 @@ import re
 import threading
 
 from crash.asking import BYTES, Asker
+from crash.facts import SUBJECT
 from server import sha256
 
 # The number of repositories that are compared at the same time.
@@ -61,14 +62,23 @@ class Look(Asker):
         for tag in tags:
             self.tag(repository, tag, tag in listed)
         self.compares(f"all tags in the list of {repository} were put", listed <= set(tags), listed)
+        missing = self.facts.referrers(repository) - self.referrers(repository)
+        self.compares(f"the referrers of {repository} that were answered are listed", not missing, missing)
         for digest in self.facts.keys("manifest", repository):
             self.manifest(repository, digest)
+        # Each manifest that is there was asked for by its digest, so it is listed.
+        referrers = self.referrers(repository)
+        self.compares(f"the referrers of {repository} are those that are there", referrers == self.facts.referrers(repository), referrers)
         for digest in self.facts.keys("blob", repository):
             self.blob(repository, digest)
         for digest in self.facts.present("manifest", repository):
             parts = self.facts.digests[digest]
             missing = [part for part in parts if self.facts.value("blob", repository, part) is None]
             self.compares(f"the blobs of the manifest {digest} of {repository} are there", not missing, missing)
+
+    def referrers(self, repository):
+        answer = self.asks("GET", f"{repository}/referrers/{SUBJECT}", wants=[200])
+        return {one["digest"] for one in json.loads(answer.body)["manifests"]}
 
     def listed(self, repository):
         answer = self.asks("GET", f"{repository}/tags/list", wants=[200, 404])

@@ -4,7 +4,7 @@ import json
 import time
 
 from crash.asking import BYTES, Asker
-from crash.facts import Fault, Upload
+from crash.facts import SUBJECT, Fault, Upload
 from server import INDEX, MANIFEST, sha256, sha512
 
 DOCKER = "application/vnd.docker.distribution.manifest.v2+json"
@@ -191,6 +191,8 @@ class Raw(Asker):
             fields["config"], fields["layers"] = entries[0], entries[1:]
         if self.rng.random() < 0.5:
             fields["mediaType"] = kind
+        if self.rng.random() < 0.5:
+            fields["subject"] = {"mediaType": MANIFEST, "digest": SUBJECT, "size": 1}
         body = json.dumps(fields).encode()
         self.facts.keeps(sha256(body), body)
         self.facts.digests[sha256(body)] = parts
