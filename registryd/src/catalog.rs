@@ -48,6 +48,13 @@ impl Catalog {
         Ok(())
     }
 
+    /// Notes that a client asked for a manifest by its digest.
+    pub fn touch(&self, repo: &str, digest: &str) {
+        if let (true, Some(writer)) = (self.tags.touch(repo, digest, now()), &self.writer) {
+            writer.note(Change::TouchManifest { repo: repo.to_string(), digest: digest.to_string() });
+        }
+    }
+
     /// Removes a tag. Returns whether it was there.
     pub async fn remove_tag(&self, repo: &str, tag: &str) -> Result<bool, DatabaseUnavailable> {
         let writer = match &self.writer {

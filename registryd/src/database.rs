@@ -394,6 +394,10 @@ fn make<'c>(
             }
             Ok(())
         }
+        Change::TouchManifest { repo, digest } => {
+            let query = "UPDATE manifests SET since = ?3 WHERE repository = ?1 AND digest = ?2";
+            run(query, params![repo, digest, now as i64])
+        }
         Change::RemoveTag { repo, tag } => {
             release_tagged(transaction, repo, tag, now)?;
             run("DELETE FROM tags WHERE repository = ?1 AND tag = ?2", params![repo, tag])
@@ -558,8 +562,10 @@ mod tests {
         assert_eq!(since(&database.read().unwrap()), [("a", 2), ("b", 2), ("c", 1)]);
         database.commit([Change::RemoveTag { repo: repo.clone(), tag }].iter(), &[], 3).unwrap();
         assert_eq!(since(&database.read().unwrap()), [("a", 3), ("b", 2), ("c", 1)]);
-        database.commit([Change::RemoveManifest { repo, digest }].iter(), &[], 4).unwrap();
+        database.commit([Change::RemoveManifest { repo: repo.clone(), digest }].iter(), &[], 4).unwrap();
         assert_eq!(since(&database.read().unwrap()), [("b", 4), ("c", 4)]);
+        database.commit([Change::TouchManifest { repo, digest: "c".to_string() }].iter(), &[], 5).unwrap();
+        assert_eq!(since(&database.read().unwrap()), [("b", 4), ("c", 5)]);
     }
 
     #[test]

@@ -38,20 +38,15 @@ pub struct Document {
 }
 
 /// A member's value, as far as the registry looks at it.
-#[derive(Debug, PartialEq, Eq)]
+#[derive(Debug, Default, PartialEq, Eq)]
 enum Part {
+    #[default]
     Null,
     Text(String),
     Descriptor { media_type: Option<String>, digest: Option<String> },
     /// The digests of the descriptors in an array.
     Digests(Vec<String>),
     Other,
-}
-
-impl Default for Part {
-    fn default() -> Part {
-        Part::Null
-    }
 }
 
 impl Part {

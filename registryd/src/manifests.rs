@@ -32,7 +32,7 @@ async fn look_up(call: &Call, reference: &str) -> Result<NamedManifest, Fault> {
         return tags.by_tag(&call.repo, reference).ok_or_else(Fault::manifest_unknown);
     }
     if let Some(named) = tags.by_digest(&call.repo, reference) {
-        tags.touch(&call.repo, reference, now());
+        tags.touch(&call.repo, reference);
         return Ok(named);
     }
     // The store checks the name and the digest. A manifest that it has is being put or deleted at this moment, or it was put

@@ -10,11 +10,16 @@ use std::collections::{BTreeMap, HashMap, HashSet};
 use std::ops::Bound;
 use std::sync::{Arc, Mutex, RwLock};
 
+/// The time after which a request for a manifest is recorded in the database, in seconds.
+const RECORDED: u64 = 3600;
+
 /// A manifest of the store.
 struct Manifest {
     facts: Facts,
-    /// The last time at which it was pushed or something ceased to hold it, in seconds since 1970.
+    /// The last time at which it was pushed, asked for by its digest, or something ceased to hold it, in seconds since 1970.
     since: u64,
+    /// The part of this time that the database has.
+    recorded: u64,
     /// Whether the manifest is marked: the store is being asked to delete it.
     is_leaving: bool,
 }
@@ -79,7 +84,7 @@ pub struct Untagged {
     pub digest: String,
     pub media_type: String,
     pub size: u64,
-    /// The last time at which it was pushed or something ceased to hold it, in seconds since 1970.
+    /// The last time at which it was pushed, asked for by its digest, or something ceased to hold it, in seconds since 1970.
     pub since: u64,
     /// The index that lists it, or its subject, if it is there.
     pub held_by: Option<String>,
@@ -100,6 +105,11 @@ impl Repository {
         self.manifests.get(digest).filter(|manifest| !manifest.is_leaving)
     }
 
+    fn named(&self, digest: &str) -> Option<NamedManifest> {
+        let manifest = self.manifest(digest)?;
+        Some(NamedManifest { digest: digest.to_string(), media_type: manifest.facts.media_type.clone() })
+    }
+
     /// Returns whether it has a manifest that is not marked.
     fn is_visible(&self) -> bool {
         self.manifests.values().any(|manifest| !manifest.is_leaving)
@@ -112,7 +122,7 @@ impl Repository {
         }
         facts.lists.iter().for_each(|named| self.listed.add(named, digest));
         facts.subject.iter().for_each(|named| self.referrers.add(named, digest));
-        self.manifests.insert(digest.to_string(), Manifest { facts, since: now, is_leaving: false });
+        self.manifests.insert(digest.to_string(), Manifest { facts, since: now, recorded: now, is_leaving: false });
     }
 
     /// Removes what a manifest names.
@@ -138,7 +148,7 @@ impl Repository {
     /// Notes that something ceases to hold a manifest.
     fn release(&mut self, digest: &str, now: u64) {
         if let Some(manifest) = self.manifests.get_mut(digest) {
-            manifest.since = now;
+            (manifest.since, manifest.recorded) = (now, now);
         }
     }
 
@@ -182,29 +192,21 @@ impl Repository {
 }
 
 impl Tags {
-    /// Runs a function on a repository, if it has had a manifest. The function must not wait.
-    fn with<T>(&self, repo: &str, run: impl FnOnce(&mut Repository) -> T) -> Option<T> {
-        let found = self.repos.read().unwrap().get(repo).cloned();
-        found.map(|repo| run(&mut repo.lock().unwrap()))
+    /// Calls `look` with a repository. Returns `None` if the repository has never had a manifest.
+    fn with<T>(&self, repo: &str, look: impl FnOnce(&mut Repository) -> T) -> Option<T> {
+        let found = self.repos.read().unwrap().get(repo)?.clone();
+        let mut found = found.lock().unwrap();
+        Some(look(&mut found))
     }
 
-    /// Returns the manifest of a tag.
-    pub fn by_tag(&self, repo: &str, tag: &str) -> Option<NamedManifest> {
-        let find = |repo: &mut Repository| {
-            let digest = repo.tags.get(tag)?;
-            let media_type = repo.manifest(digest)?.facts.media_type.clone();
-            Some(NamedManifest { digest: digest.clone(), media_type })
-        };
-        self.with(repo, find).flatten()
-    }
-
-    /// Returns the manifest of a digest, if it is here.
+    /// Returns the manifest with a digest.
     pub fn by_digest(&self, repo: &str, digest: &str) -> Option<NamedManifest> {
-        let find = |repo: &mut Repository| {
-            let media_type = repo.manifest(digest)?.facts.media_type.clone();
-            Some(NamedManifest { digest: digest.to_string(), media_type })
-        };
-        self.with(repo, find).flatten()
+        self.with(repo, |repo| repo.named(digest)).flatten()
+    }
+
+    /// Returns the manifest with a tag.
+    pub fn by_tag(&self, repo: &str, tag: &str) -> Option<NamedManifest> {
+        self.with(repo, |repo| repo.named(repo.tags.get(tag)?)).flatten()
     }
 
     /// Adds a manifest that the store accepted, and its tag if it was put under one.
@@ -359,9 +361,20 @@ impl Tags {
         self.with(name, find).unwrap_or_default()
     }
 
-    /// Notes that a client asked for a manifest by its digest, and so may be about to push something that holds it.
-    pub fn touch(&self, repo: &str, digest: &str, now: u64) {
-        self.with(repo, |repo| repo.release(digest, now));
+    /// Notes that a client asked for a manifest by its digest, and so may be about to push something that holds it. Returns
+    /// whether the database is to be told: the time that it has is an hour old.
+    pub fn touch(&self, repo: &str, digest: &str, now: u64) -> bool {
+        let touch = |repo: &mut Repository| {
+            repo.manifests.get_mut(digest).map_or(false, |manifest| {
+                manifest.since = now;
+                let is_old = now.saturating_sub(manifest.recorded) >= RECORDED;
+                if is_old {
+                    manifest.recorded = now;
+                }
+                is_old
+            })
+        };
+        self.with(repo, touch).unwrap_or(false)
     }
 
     /// Returns the first manifests after `last` in order whose subject is a digest, at most `most` and at most `MAX_PAGE`.
@@ -524,10 +537,21 @@ mod tests {
         assert_eq!(held(), expected(&[by_index, by_subject]));
         tags.remove_manifest("acme/web", "index", 8);
         assert_eq!(held(), expected(&[("image", 8, None), ("signature", 8, None)]));
-        tags.touch("acme/web", "image", 9);
+        assert!(!tags.touch("acme/web", "image", 9));
         assert_eq!(remove("image", Removal::UnheldSince(8)), Err(Kept::Held));
         assert_eq!(remove("signature", Removal::UnheldSince(8)), Ok(()));
         assert_eq!(remove("image", Removal::Asked), Ok(()));
+    }
+
+    #[test]
+    fn a_request_for_a_manifest_is_recorded_once_in_an_hour() {
+        let tags = Tags::default();
+        tags.add("sha256:a", TYPE, None);
+        let recorded: Vec<u64> =
+            (0..4 * RECORDED).step_by(600).filter(|now| tags.touch("acme/web", "sha256:a", *now)).collect();
+        assert_eq!(recorded, [RECORDED + 600, 2 * RECORDED + 600, 3 * RECORDED + 600]);
+        assert_eq!(tags.any_facts("acme/web", "sha256:a").unwrap().1, 4 * RECORDED - 600);
+        assert!(!tags.touch("acme/web", "sha256:b", 9 * RECORDED) && !tags.touch("acme/none", "sha256:a", 9 * RECORDED));
     }
 
     #[test]

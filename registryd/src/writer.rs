@@ -30,6 +30,8 @@ pub enum Change {
     PutManifest { repo: String, digest: String, facts: Facts, tag: Option<String> },
     /// The store has a manifest that was to be deleted.
     RestoreManifest { repo: String, digest: String, facts: Facts, since: u64, tags: Vec<String> },
+    /// A client has asked for a manifest by its digest.
+    TouchManifest { repo: String, digest: String },
     RemoveTag { repo: String, tag: String },
     /// A manifest is going to be deleted. Its tags are removed too.
     RemoveManifest { repo: String, digest: String },

@@ -1,6 +1,7 @@
 #!/usr/bin/env python3
 """skopeo pushes an image, pulls it by tag and by digest, copies it within the registry and deletes it. The image pulled has
-to equal the one pushed, and after a sweep the store has to be empty. It does the same with an index of two images."""
+to equal the one pushed, and after a sweep the store has to be empty. It does the same with an index of two images, and
+pushes an artifact that describes an image."""
 import filecmp, gzip, io, json, os, random, shutil, subprocess, tarfile, tempfile
 
 from server import INDEX, MANIFEST, serving, sha256
@@ -18,26 +19,32 @@ def layer(name, size, seed):
     return packed.getvalue(), sha256(plain.getvalue())
 
 
+def keep(top, media_type, data):
+    """Writes a blob into an OCI layout, and returns its descriptor."""
+    with open(f"{top}/blobs/sha256/{sha256(data)[7:]}", "wb") as file:
+        file.write(data)
+    return {"mediaType": media_type, "digest": sha256(data), "size": len(data)}
+
+
+def finish(top, manifest, tag="latest"):
+    """Writes the files of an OCI layout that name its manifest."""
+    index = {"schemaVersion": 2, "manifests": [{**manifest, "annotations": {"org.opencontainers.image.ref.name": tag}}]}
+    for file, value in (("index.json", index), ("oci-layout", {"imageLayoutVersion": "1.0.0"})):
+        with open(f"{top}/{file}", "w") as out:
+            json.dump(value, out)
+
+
 def image(top, sizes, seed, tag="latest"):
     """Writes the OCI layout of an image with layers of these sizes, and returns its manifest's digest."""
     os.makedirs(f"{top}/blobs/sha256")
-
-    def keep(media_type, data):
-        with open(f"{top}/blobs/sha256/{sha256(data)[7:]}", "wb") as file:
-            file.write(data)
-        return {"mediaType": media_type, "digest": sha256(data), "size": len(data)}
-
     layers = [layer(f"file-{n}", size, seed + n) for n, size in enumerate(sizes)]
-    kept = [keep("application/vnd.oci.image.layer.v1.tar+gzip", data) for data, _ in layers]
+    kept = [keep(top, "application/vnd.oci.image.layer.v1.tar+gzip", data) for data, _ in layers]
     config = {"architecture": "amd64", "os": "linux", "config": {"Cmd": ["/file-0"]},
               "rootfs": {"type": "layers", "diff_ids": [plain for _, plain in layers]}}
-    config = keep("application/vnd.oci.image.config.v1+json", json.dumps(config).encode())
+    config = keep(top, "application/vnd.oci.image.config.v1+json", json.dumps(config).encode())
     manifest = {"schemaVersion": 2, "mediaType": MANIFEST, "config": config, "layers": kept}
-    manifest = keep(MANIFEST, json.dumps(manifest).encode())
-    index = {"schemaVersion": 2, "manifests": [{**manifest, "annotations": {"org.opencontainers.image.ref.name": tag}}]}
-    for name, value in (("index.json", index), ("oci-layout", {"imageLayoutVersion": "1.0.0"})):
-        with open(f"{top}/{name}", "w") as file:
-            json.dump(value, file)
+    manifest = keep(top, MANIFEST, json.dumps(manifest).encode())
+    finish(top, manifest, tag)
     return manifest["digest"]
 
 
@@ -79,15 +86,15 @@ def play(server, folder):
 def delete_blobs(server, folder):
     """Deletes the blobs. skopeo deletes only manifests; a client of the specification deletes the blobs too."""
     client = server.client()
-    for name in ("tiny", "many", "big", "index"):
+    for name in ("tiny", "many", "big", "index", "described", "artifact"):
         for blob in os.listdir(f"{folder}/{name}/blobs/sha256"):
-            for repo in (name, f"copy-of-{name}"):
+            for repo in (name, f"copy-of-{name}", "described"):
                 client.ask("DELETE", f"/v2/acme/{repo}/blobs/sha256:{blob}")
     assert not server.left(), server.left()
 
 
 def index_of(top, tops):
-    """Writes the OCI layout of an index of images, and returns the digests of the images and of the index."""
+    """Writes the OCI layout of an index of images, and returns the digests of the images."""
     os.makedirs(f"{top}/blobs/sha256")
     listed = []
     for number, one in enumerate(tops):
@@ -97,21 +104,16 @@ def index_of(top, tops):
         del entry["annotations"]
         listed.append({**entry, "platform": {"os": "linux", "architecture": ("amd64", "arm64")[number]}})
     data = json.dumps({"schemaVersion": 2, "mediaType": INDEX, "manifests": listed}).encode()
-    with open(f"{top}/blobs/sha256/{sha256(data)[7:]}", "wb") as file:
-        file.write(data)
-    named = {"mediaType": INDEX, "digest": sha256(data), "size": len(data), "annotations": {"org.opencontainers.image.ref.name": "latest"}}
-    for name, value in (("index.json", {"schemaVersion": 2, "manifests": [named]}), ("oci-layout", {"imageLayoutVersion": "1.0.0"})):
-        with open(f"{top}/{name}", "w") as file:
-            json.dump(value, file)
-    return [entry["digest"] for entry in listed], sha256(data)
+    finish(top, keep(top, INDEX, data))
+    return [entry["digest"] for entry in listed]
 
 
 def play_index(server, folder):
     """Pushes and pulls an index with all of its images. skopeo deletes the index first, and then the images."""
     at = f"docker://{server.address}/acme/index"
-    for name, seed in (("one", 100), ("two", 200)):
-        image(f"{folder}/{name}", [1000, 2000], seed)
-    images, _ = index_of(f"{folder}/index", [f"{folder}/one", f"{folder}/two"])
+    for one, seed in (("one", 100), ("two", 200)):
+        image(f"{folder}/{one}", [1000, 2000], seed)
+    images = index_of(f"{folder}/index", [f"{folder}/one", f"{folder}/two"])
     skopeo("copy", "--all", "--dest-tls-verify=false", f"oci:{folder}/index:latest", f"{at}:v1")
     skopeo("copy", "--all", "--src-tls-verify=false", f"{at}:v1", f"oci:{folder}/back:latest")
     same_blobs(f"{folder}/index", f"{folder}/back")
@@ -126,13 +128,34 @@ def play_index(server, folder):
         skopeo("delete", "--tls-verify=false", f"{at}@{digest}")
 
 
+def play_referrer(server, folder):
+    """Pushes an artifact that describes an image, and finds it in the list of the image's referrers."""
+    at, top, client = f"docker://{server.address}/acme/described", f"{folder}/artifact", server.client()
+    digest = image(f"{folder}/described", [1000], 300)
+    skopeo("copy", "--dest-tls-verify=false", f"oci:{folder}/described:latest", f"{at}:v1")
+    os.makedirs(f"{top}/blobs/sha256")
+    parts = {"config": keep(top, "application/vnd.oci.empty.v1+json", b"{}"), "layers": [keep(top, "text/plain", b"a description")]}
+    size = len(client.ask("GET", f"/v2/acme/described/manifests/{digest}").body)
+    more = {"artifactType": "text/plain", "subject": {"mediaType": MANIFEST, "digest": digest, "size": size}, "annotations": {"by": "skopeo"}}
+    manifest = keep(top, MANIFEST, json.dumps({"schemaVersion": 2, "mediaType": MANIFEST, **parts, **more}).encode())
+    finish(top, manifest)
+    skopeo("copy", "--preserve-digests", "--dest-tls-verify=false", f"oci:{top}:latest", f"{at}:description")
+    def listed():
+        return json.loads(client.ask("GET", f"/v2/acme/described/referrers/{digest}").body)["manifests"]
+    assert listed() == [{**manifest, "artifactType": "text/plain", "annotations": {"by": "skopeo"}}], listed()
+    for reference in ("description", "v1"):
+        skopeo("delete", "--tls-verify=false", f"{at}:{reference}")
+    assert listed() == []
+
+
 def main():
     with tempfile.TemporaryDirectory() as folder, serving("--slots", "128", "--sweep-ms", "20") as server:
         play(server, folder)
         play_index(server, folder)
+        play_referrer(server, folder)
         delete_blobs(server, folder)
         assert server.end() == 0
-    print("images: three and an index were pushed, pulled, copied and deleted; the store is empty")
+    print("images: three, an index and a referrer were pushed, pulled, copied and deleted; the store is empty")
 
 
 if __name__ == "__main__":

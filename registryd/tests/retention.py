@@ -2,11 +2,14 @@
 """Tests the list of manifests without tags, and their deletion after some time, with that of their blobs."""
 import concurrent.futures, json, os, tempfile, time, urllib.request
 
-from playing import play, until
+from playing import Asking, calls, play, serving_stub, until
 from referrers import artifact, descriptor, index, put, referrers, repository
 from server import INDEX, MANIFEST, free_port, manifest_of, serving, sha256
 
 PATCH = {"Content-Type": "application/octet-stream"}
+
+# The command of the store that unlinks a blob.
+DELETE = "7"
 
 # The time after which manifests are deleted, in seconds, and as an argument in hours.
 SECONDS = 2
@@ -148,6 +151,20 @@ def blobs_go_with_the_last_manifest():
         assert server.left() is None
 
 
+def a_push_waits_for_the_unlink_of_its_blob():
+    """The store is slow to unlink a blob. Meanwhile the blob is hidden, and a push of it is not undone by the unlink."""
+    with serving_stub({DELETE: {"slow": 3}}, *KEEP) as server:
+        client, data = server.client(), b"pushed twice"
+        push, path = f"/v2/acme/one/blobs/uploads/?digest={sha256(data)}", f"/v2/acme/one/blobs/{sha256(data)}"
+        assert client.ask("POST", push, data, PATCH).status == 201
+        assert until(lambda: calls(server)[DELETE] == 1, 2 * SECONDS + 5), "the blob is not unlinked"
+        pushing = Asking(server, "POST", push, data, PATCH)
+        for method in ("HEAD", "GET"):
+            assert client.ask(method, path).status == 404 and calls(server)[DELETE] == 1
+        assert pushing.answer is None and pushing.answered().status == 201
+        assert client.ask("GET", path).body == data
+
+
 def blobs_are_known_after_a_restart():
     if "WITH_FOLDER" in os.environ:
         return
@@ -223,7 +240,9 @@ def what_takes_time():
 
 def main():
     with serving("--slots", "16") as server:
-        play("retention", [(manifests_without_tags_are_listed, server), only_an_administrator_sees_the_list, what_takes_time])
+        play("retention", [
+            (manifests_without_tags_are_listed, server), only_an_administrator_sees_the_list, a_push_waits_for_the_unlink_of_its_blob,
+            what_takes_time])
 
 
 if __name__ == "__main__":

@@ -156,7 +156,7 @@ class Facts:
 
     def referrers(self, repository):
         """Returns the manifests that are there for sure and have the subject."""
-        return {digest for digest in self.present("manifest", repository) if SUBJECT.encode() in self.contents[digest]}
+        return {digest for digest in self.present("manifest", repository) if SUBJECT.encode() in self.contents.get(digest, b"")}
 
     def repositories(self):
         with self.lock:

@@ -2,7 +2,7 @@
 import json
 
 from crash.asking import BYTES, Asker
-from crash.facts import Fault
+from crash.facts import SUBJECT, Fault
 from crash.looks import Look
 from server import MANIFEST, sha256
 
@@ -53,6 +53,12 @@ class Tampering(Asker):
         self.asks("PUT", f"{repository}/manifests/unknown", self.facts.contents[digest], wants=[201])
         return lambda: self.asks("DELETE", f"{repository}/manifests/unknown", wants=[202])
 
+    def adds_a_referrer(self):
+        repository, _ = self.one("manifest")
+        body = json.dumps({"schemaVersion": 2, "manifests": [], "subject": {"digest": SUBJECT}}).encode()
+        self.asks("PUT", f"{repository}/manifests/{sha256(body)}", body, wants=[201])
+        return lambda: self.asks("DELETE", f"{repository}/manifests/{sha256(body)}", wants=[202])
+
     def changes_a_media_type(self):
         repository, digest = self.one("manifest")
         self.facts.registers["manifest", repository, digest].is_now("application/other")
@@ -82,7 +88,7 @@ UPLOADS = 3
 KINDS = [
     Tampering.deletes_a_tag, Tampering.deletes_a_manifest, Tampering.deletes_a_blob, Tampering.puts_a_blob_back, Tampering.moves_a_tag,
     Tampering.changes_a_media_type, Tampering.loses_bytes_of_an_upload, Tampering.adds_to_an_upload, Tampering.abandons_an_upload,
-    Tampering.opens_an_upload_again, Tampering.uses_more, Tampering.adds_a_tag,
+    Tampering.opens_an_upload_again, Tampering.uses_more, Tampering.adds_a_tag, Tampering.adds_a_referrer,
 ]
 
 
