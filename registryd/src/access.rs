@@ -1,6 +1,7 @@
 //! Authentication and authorization. A user with a password (RFC 7617) may use the repositories of the tenant that has the
 //! user's name.
 use crate::fault::Fault;
+use crate::reload::FromFile;
 use hyper::header::AUTHORIZATION;
 use hyper::HeaderMap;
 use sha2::{Digest, Sha256};
@@ -36,7 +37,7 @@ pub enum Access {
     /// Accepts every request.
     Anybody,
     /// Accepts the users of a file.
-    Users(Arc<Users>),
+    Users(Arc<FromFile<Users>>),
 }
 
 /// The users of a file with the hashes of their passwords, and a cache of the passwords that were accepted.
@@ -230,7 +231,7 @@ impl Access {
     pub async fn user(&self, headers: &HeaderMap) -> Result<Option<String>, Fault> {
         let users = match self {
             Access::Anybody => return Ok(None),
-            Access::Users(users) => users.clone(),
+            Access::Users(users) => users.get(),
         };
         let (user, password) = credentials(headers).ok_or_else(Fault::unauthorized)?;
         // The cache is asked first because a hash is slow on purpose.

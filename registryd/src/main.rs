@@ -33,6 +33,7 @@ mod referrers;
 mod registry;
 mod repositories;
 mod retention;
+mod reload;
 mod server;
 mod startup;
 mod store;
@@ -57,6 +58,7 @@ use crate::memory::Memory;
 use crate::metrics::Metrics;
 use crate::options::Options;
 use crate::registry::Registry;
+use crate::reload::{FromFile, Hangup, Reloads};
 use crate::store::{Setup, Store};
 use crate::upload_name::Secret;
 use crate::uploads::Uploads;
@@ -64,6 +66,7 @@ use crate::writer::{Writer, WriterThread};
 use clap::Parser;
 use std::io;
 use std::net::SocketAddr;
+use std::path::Path;
 use std::process::ExitCode;
 use std::sync::Arc;
 use std::time::Duration;
@@ -136,8 +139,10 @@ impl Signals {
 /// Serves until a signal arrives or the store ends, and shuts down.
 async fn run(options: Options) -> Result<(), Failure> {
     let mut signals = Signals::new()?;
+    let hangup = Hangup::new()?;
     let connections = Connections::new(limits(&options)?);
-    let access = access(&options)?;
+    let mut reloads = Reloads::new();
+    let access = access(&options, &mut reloads)?;
     let listener = bind(options.listen).await?;
     let watched = match options.metrics_listen {
         Some(address) => Some(bind(address).await?),
@@ -155,6 +160,7 @@ async fn run(options: Options) -> Result<(), Failure> {
         tracing::info!(address = %listener.local_addr()?, "serving metrics");
         serve_metrics(&started.registry, listener, &options);
     }
+    tokio::spawn(hangup.reload(reloads));
     serve(started, listener, connections, signals).await
 }
 
@@ -175,18 +181,25 @@ fn serve_metrics(registry: &Arc<Registry>, listener: TcpListener, options: &Opti
     });
 }
 
-/// Reads the users, if there is a file of them.
-fn access(options: &Options) -> Result<Access, Failure> {
-    match &options.htpasswd {
-        Some(path) => {
-            let users = Users::read(path).map_err(|error| format!("cannot read the users: {}: {error}", path.display()))?;
-            if let Some(user) = options.metrics_user.as_ref().filter(|user| !users.has(user)) {
-                return Err(format!("cannot find the user of --metrics-user: {user}: not in {}", path.display()).into());
-            }
-            Ok(Access::Users(Arc::new(users)))
-        }
-        None => Ok(Access::Anybody),
+/// Reads the users of a file. The user who may read the metrics has to be one of them.
+fn read_users(path: &Path, metrics_user: &Option<String>) -> Result<Users, String> {
+    let users = Users::read(path).map_err(|error| format!("cannot read the users: {}: {error}", path.display()))?;
+    match metrics_user.as_ref().filter(|user| !users.has(user)) {
+        Some(user) => Err(format!("cannot find the user of --metrics-user: {user}: not in {}", path.display())),
+        None => Ok(users),
     }
+}
+
+/// Reads the users, if there is a file of them.
+fn access(options: &Options, reloads: &mut Reloads) -> Result<Access, Failure> {
+    let path = match options.htpasswd.clone() {
+        Some(path) => path,
+        None => return Ok(Access::Anybody),
+    };
+    let metrics_user = options.metrics_user.clone();
+    let users = FromFile::new(move || read_users(&path, &metrics_user))?;
+    reloads.push(("users", users.clone()));
+    Ok(Access::Users(users))
 }
 
 /// A registry, and what runs for it.

@@ -101,6 +101,15 @@ class Server:
             time.sleep(0.02)
         raise AssertionError(f"the log does not match {pattern}:\n{self.logged()[-2000:]}")
 
+    def reload(self, pattern):
+        """Lets it read its files again, and waits until a new line of the log matches a pattern."""
+        before = len(self.logged())
+        self.process.send_signal(signal.SIGHUP)
+        end = time.time() + 20
+        while not re.search(pattern, self.logged()[before:]):
+            assert self.process.poll() is None and time.time() < end, f"no {pattern}:\n{self.logged()[before:][-2000:]}"
+            time.sleep(0.02)
+
     def client(self, headers=()):
         return Client(self.address, headers)
 

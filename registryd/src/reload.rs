@@ -1,0 +1,94 @@
+//! Values that are read from files at the start and again on SIGHUP.
+use std::io;
+use std::sync::{Arc, RwLock};
+use tokio::signal::unix::{signal, Signal, SignalKind};
+
+/// Reads a value, or returns why it cannot.
+type Read<T> = Box<dyn Fn() -> Result<T, String> + Send + Sync>;
+
+/// A value that was read from files.
+pub struct FromFile<T> {
+    read: Read<T>,
+    current: RwLock<Arc<T>>,
+}
+
+impl<T> FromFile<T> {
+    /// Reads a value by `read`, which will read it again.
+    pub fn new(read: impl Fn() -> Result<T, String> + Send + Sync + 'static) -> Result<Arc<FromFile<T>>, String> {
+        let current = RwLock::new(Arc::new(read()?));
+        Ok(Arc::new(FromFile { read: Box::new(read), current }))
+    }
+
+    /// Returns the value that was read last.
+    pub fn get(&self) -> Arc<T> {
+        self.current.read().unwrap_or_else(|poisoned| poisoned.into_inner()).clone()
+    }
+}
+
+/// A value that can be read again.
+pub trait Reload: Send + Sync {
+    /// Reads the value again. If this fails, the value is unchanged.
+    fn reload(&self) -> Result<(), String>;
+}
+
+impl<T: Send + Sync> Reload for FromFile<T> {
+    fn reload(&self) -> Result<(), String> {
+        let value = Arc::new((self.read)()?);
+        *self.current.write().unwrap_or_else(|poisoned| poisoned.into_inner()) = value;
+        Ok(())
+    }
+}
+
+/// The values that SIGHUP reads again, each with a name for the log.
+pub type Reloads = Vec<(&'static str, Arc<dyn Reload>)>;
+
+/// The signal SIGHUP, which ends the program no more once this is made.
+pub struct Hangup(Signal);
+
+impl Hangup {
+    /// Handles the signal from now on.
+    pub fn new() -> io::Result<Hangup> {
+        Ok(Hangup(signal(SignalKind::hangup())?))
+    }
+
+    /// Reads the values again after each signal. A value that cannot be read stays as it was. It never returns.
+    pub async fn reload(mut self, values: Reloads) {
+        let values = Arc::new(values);
+        while self.0.recv().await.is_some() {
+            let values = values.clone();
+            let _ = tokio::task::spawn_blocking(move || reload_each(&values)).await;
+        }
+    }
+}
+
+/// Reads each value again, and logs the results.
+fn reload_each(values: &[(&'static str, Arc<dyn Reload>)]) {
+    if values.is_empty() {
+        tracing::info!("no file to read again");
+    }
+    for (name, value) in values {
+        match value.reload() {
+            Ok(()) => tracing::info!("read the {name} again"),
+            Err(why) => tracing::error!("{why}: kept the {name} that were read before"),
+        }
+    }
+}
+
+#[cfg(test)]
+mod tests {
+    use super::*;
+    use std::sync::Mutex;
+
+    #[test]
+    fn a_value_that_cannot_be_read_stays() {
+        let file = Arc::new(Mutex::new(Ok(1)));
+        let source = file.clone();
+        let value = FromFile::new(move || source.lock().unwrap().clone()).unwrap();
+        let old = value.get();
+        *file.lock().unwrap() = Err("broken".to_string());
+        assert_eq!((value.reload(), *value.get()), (Err("broken".to_string()), 1));
+        *file.lock().unwrap() = Ok(2);
+        assert_eq!((value.reload(), *value.get(), *old), (Ok(()), 2, 1));
+        assert!(FromFile::<u8>::new(|| Err("broken".to_string())).is_err());
+    }
+}
