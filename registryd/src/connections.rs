@@ -79,6 +79,13 @@ impl Connection {
         state.since = Instant::now();
     }
 
+    /// Notes that no byte of a request's head was received yet, also if bytes of a handshake were.
+    pub fn rest(&self) {
+        let mut state = self.state();
+        state.has_head = false;
+        state.since = Instant::now();
+    }
+
     /// Notes whether a request waits for more of its body.
     pub fn await_body(&self, is_awaited: bool) {
         self.state().awaited = is_awaited.then(Instant::now);

@@ -40,6 +40,7 @@ mod store;
 mod store_connection;
 mod tags;
 mod tenants;
+mod tls;
 mod turns;
 mod undo;
 mod upload_name;
@@ -60,6 +61,7 @@ use crate::options::Options;
 use crate::registry::Registry;
 use crate::reload::{FromFile, Hangup, Reloads};
 use crate::store::{Setup, Store};
+use crate::tls::Tls;
 use crate::upload_name::Secret;
 use crate::uploads::Uploads;
 use crate::writer::{Writer, WriterThread};
@@ -143,6 +145,7 @@ async fn run(options: Options) -> Result<(), Failure> {
     let connections = Connections::new(limits(&options)?);
     let mut reloads = Reloads::new();
     let access = access(&options, &mut reloads)?;
+    let tls = tls(&options, &mut reloads)?;
     let listener = bind(options.listen).await?;
     let watched = match options.metrics_listen {
         Some(address) => Some(bind(address).await?),
@@ -161,7 +164,7 @@ async fn run(options: Options) -> Result<(), Failure> {
         serve_metrics(&started.registry, listener, &options);
     }
     tokio::spawn(hangup.reload(reloads));
-    serve(started, listener, connections, signals).await
+    serve(started, listener, tls, connections, signals).await
 }
 
 /// Listens on an address.
@@ -177,7 +180,7 @@ fn serve_metrics(registry: &Arc<Registry>, listener: TcpListener, options: &Opti
     tokio::spawn(async move { watched.watch().await });
     tokio::spawn(async move {
         let (_stop, stopped) = watch::channel(());
-        server::serve(listener, connections, stopped, move |request| registry.clone().serve_metrics(request)).await
+        server::serve(listener, None, connections, stopped, move |request| registry.clone().serve_metrics(request)).await
     });
 }
 
@@ -200,6 +203,17 @@ fn access(options: &Options, reloads: &mut Reloads) -> Result<Access, Failure> {
     let users = FromFile::new(move || read_users(&path, &metrics_user))?;
     reloads.push(("users", users.clone()));
     Ok(Access::Users(users))
+}
+
+/// Reads the certificate and its key, if there are files of them.
+fn tls(options: &Options, reloads: &mut Reloads) -> Result<Option<Tls>, Failure> {
+    let (certificate, key) = match (options.tls_cert.clone(), options.tls_key.clone()) {
+        (Some(certificate), Some(key)) => (certificate, key),
+        _ => return Ok(None),
+    };
+    let config = FromFile::new(move || tls::read(&certificate, &key))?;
+    reloads.push(("certificate and its key", config.clone()));
+    Ok(Some(Tls { config, limit: Duration::from_secs(options.head_s) }))
 }
 
 /// A registry, and what runs for it.
@@ -321,6 +335,7 @@ async fn failed(database: &Option<(Arc<Writer>, WriterThread)>) -> Failure {
 async fn serve(
     started: Started,
     listener: TcpListener,
+    tls: Option<Tls>,
     connections: Arc<Connections>,
     mut signals: Signals,
 ) -> Result<(), Failure> {
@@ -328,7 +343,7 @@ async fn serve(
     let (stop, stopped) = watch::channel(());
     let answering = registry.clone();
     let answer = move |request| answering.clone().serve(request);
-    let server = tokio::spawn(server::serve(listener, connections.clone(), stopped, answer));
+    let server = tokio::spawn(server::serve(listener, tls, connections.clone(), stopped, answer));
     let watched = connections.clone();
     tokio::spawn(async move { watched.watch().await });
     tokio::select! {

@@ -78,6 +78,12 @@ pub struct Options {
     /// Accept no content if less is free [default: 67108864]
     #[arg(long, value_name = "BYTES", requires = "data")]
     pub min_free: Option<u64>,
+    /// Serve HTTPS with this certificate and its chain in PEM
+    #[arg(long, value_name = "FILE", requires = "tls_key")]
+    pub tls_cert: Option<PathBuf>,
+    /// Use this private key in PEM for HTTPS
+    #[arg(long, value_name = "FILE", requires = "tls_cert")]
+    pub tls_key: Option<PathBuf>,
     /// Require a user and password of this htpasswd file
     #[arg(long, value_name = "FILE")]
     pub htpasswd: Option<PathBuf>,
@@ -183,6 +189,9 @@ mod tests {
         assert!(parsed(&["--listen", "0.0.0.0:80", "a=1"]).conflict().is_some());
         assert!(parsed(&["--listen", "0.0.0.0:80", "--htpasswd", "users", "a=1"]).conflict().is_none());
         assert!(parsed(&["--listen", "0.0.0.0:80", "--let-anybody-in", "a=1"]).conflict().is_none());
+        let tls = ["--tls-cert", "c", "--tls-key", "k"];
+        assert!(parsed(&[&["--listen", "0.0.0.0:443", "a=1"], &tls[..]].concat()).conflict().is_some());
+        assert!(Options::try_parse_from([&["registryd", "a=1"], &tls[..2]].concat()).is_err());
     }
 
     #[test]

@@ -1,6 +1,7 @@
 //! Accepts connections and serves their requests, within the limits on connections.
 use crate::connections::{Admitted, Connections, WatchedStream};
 use crate::exchange::{CountedBody, OpenRecord};
+use crate::tls::Tls;
 use hyper::server::conn::Http;
 use hyper::service::service_fn;
 use hyper::{Body, Request, Response};
@@ -9,6 +10,7 @@ use std::future::Future;
 use std::io;
 use std::sync::Arc;
 use std::time::Duration;
+use tokio::io::{AsyncRead, AsyncWrite};
 use tokio::net::{TcpListener, TcpStream};
 use tokio::sync::watch;
 
@@ -56,9 +58,14 @@ async fn accept(listener: &TcpListener) -> (TcpStream, std::net::SocketAddr) {
 }
 
 /// Accepts connections and serves their requests until the sender of `stop` is dropped. Then it accepts no more, and each
-/// connection ends with its current request.
-pub async fn serve<A, F>(listener: TcpListener, connections: Arc<Connections>, stop: watch::Receiver<()>, answer: A)
-where
+/// connection ends with its current request. With `tls`, each connection begins with a handshake in its own task.
+pub async fn serve<A, F>(
+    listener: TcpListener,
+    tls: Option<Tls>,
+    connections: Arc<Connections>,
+    stop: watch::Receiver<()>,
+    answer: A,
+) where
     A: Fn(Request<Body>) -> F + Clone + Send + Sync + 'static,
     F: Future<Output = Response<Body>> + Send + 'static,
 {
@@ -68,7 +75,7 @@ where
             let (stream, client) = accept(&listener).await;
             let admitted = connections.admit(client).await;
             let _ = stream.set_nodelay(true);
-            tokio::spawn(serve_one(stream, admitted, stop.clone(), answer.clone()));
+            tokio::spawn(begin(stream, tls.clone(), admitted, stop.clone(), answer.clone()));
         }
     };
     tokio::select! {
@@ -77,9 +84,36 @@ where
     }
 }
 
-/// Serves the requests of a connection until it ends or has to be closed.
-async fn serve_one<A, F>(stream: TcpStream, admitted: Admitted, mut stop: watch::Receiver<()>, answer: A)
+/// Serves a connection, after a handshake if there is TLS.
+async fn begin<A, F>(stream: TcpStream, tls: Option<Tls>, admitted: Admitted, mut stop: watch::Receiver<()>, answer: A)
 where
+    A: Fn(Request<Body>) -> F + Clone + Send + Sync + 'static,
+    F: Future<Output = Response<Body>> + Send + 'static,
+{
+    let connection = admitted.connection.clone();
+    let stream = WatchedStream::new(stream, connection.clone());
+    let tls = match tls {
+        Some(tls) => tls,
+        None => return serve_one(stream, admitted, stop, answer).await,
+    };
+    let begun = tokio::select! {
+        begun = tls.accept(stream) => begun,
+        () = connection.closed() => return,
+        _ = stop.changed() => return,
+    };
+    match begun {
+        Ok(stream) => {
+            connection.rest();
+            serve_one(stream, admitted, stop, answer).await
+        }
+        Err(error) => tracing::info!(client = %connection.client, %error, "no TLS handshake"),
+    }
+}
+
+/// Serves the requests of a connection until it ends or has to be closed.
+async fn serve_one<S, A, F>(stream: S, admitted: Admitted, mut stop: watch::Receiver<()>, answer: A)
+where
+    S: AsyncRead + AsyncWrite + Unpin + Send + 'static,
     A: Fn(Request<Body>) -> F + Clone + Send + Sync + 'static,
     F: Future<Output = Response<Body>> + Send + 'static,
 {
@@ -91,7 +125,6 @@ where
         async move { Ok::<Response<CountedBody>, Infallible>(begun.into_counted(answer(request).await)) }
     });
     let mut http = Http::new();
-    let stream = WatchedStream::new(stream, connection.clone());
     let serving = http.http1_only(true).max_buf_size(MAX_HEAD).serve_connection(stream, service);
     tokio::pin!(serving);
     tokio::select! {
