@@ -107,15 +107,15 @@ impl Fault {
             .with_detail(json!({ "free": free, "minimum": min_free }))
     }
 
-    /// The request names no user, or the password is wrong.
-    pub fn unauthorized() -> Fault {
-        Fault::new(StatusCode::UNAUTHORIZED, "UNAUTHORIZED", "a user and a password are required")
-            .with_header("WWW-Authenticate", "Basic realm=\"registry\", charset=\"UTF-8\"")
+    /// The request has no credentials, or they are wrong.
+    pub fn unauthorized(challenge: impl Into<String>) -> Fault {
+        Fault::new(StatusCode::UNAUTHORIZED, "UNAUTHORIZED", "valid credentials are required")
+            .with_header("WWW-Authenticate", challenge)
     }
 
-    /// The user is not the repository's tenant.
-    pub fn denied(user: &str) -> Fault {
-        Fault::new(StatusCode::FORBIDDEN, "DENIED", format!("{user} may use only repositories of tenant {user}"))
+    /// The user does not have a right in the repository.
+    pub fn denied(user: &str, right: &str, repo: &str) -> Fault {
+        Fault::new(StatusCode::FORBIDDEN, "DENIED", format!("{user} does not have the right to {right} in {repo}"))
     }
 
     /// A call on a repository has reached a limit. The status is 403 because clients do not show the message of a 507.

@@ -34,6 +34,7 @@ mod registry;
 mod repositories;
 mod retention;
 mod reload;
+mod rights;
 mod server;
 mod startup;
 mod store;
@@ -60,6 +61,7 @@ use crate::metrics::Metrics;
 use crate::options::Options;
 use crate::registry::Registry;
 use crate::reload::{FromFile, Hangup, Reloads};
+use crate::rights::Rights;
 use crate::store::{Setup, Store};
 use crate::tls::Tls;
 use crate::upload_name::Secret;
@@ -193,16 +195,21 @@ fn read_users(path: &Path, metrics_user: &Option<String>) -> Result<Users, Strin
     }
 }
 
-/// Reads the users, if there is a file of them.
+/// Reads the files of users and rights that there are.
 fn access(options: &Options, reloads: &mut Reloads) -> Result<Access, Failure> {
-    let path = match options.htpasswd.clone() {
-        Some(path) => path,
-        None => return Ok(Access::Anybody),
-    };
-    let metrics_user = options.metrics_user.clone();
-    let users = FromFile::new(move || read_users(&path, &metrics_user))?;
-    reloads.push(("users", users.clone()));
-    Ok(Access::Users(users))
+    let mut access = Access::default();
+    if let Some(path) = options.htpasswd.clone() {
+        let metrics_user = options.metrics_user.clone();
+        let users = FromFile::new(move || read_users(&path, &metrics_user))?;
+        reloads.push(("users", users.clone()));
+        access.users = Some(users);
+    }
+    if let Some(path) = options.rights.clone() {
+        let rights = FromFile::new(move || Rights::read(&path))?;
+        reloads.push(("rights", rights.clone()));
+        access.rights = Some(rights);
+    }
+    Ok(access)
 }
 
 /// Reads the certificate and its key, if there are files of them.

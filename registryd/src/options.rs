@@ -87,6 +87,9 @@ pub struct Options {
     /// Require a user and password of this htpasswd file
     #[arg(long, value_name = "FILE")]
     pub htpasswd: Option<PathBuf>,
+    /// Give users the rights of this file
+    #[arg(long, value_name = "FILE", requires = "htpasswd")]
+    pub rights: Option<PathBuf>,
     /// Serve without passwords on non-loopback addresses
     #[arg(long)]
     pub let_anybody_in: bool,

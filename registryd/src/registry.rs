@@ -1,5 +1,5 @@
 //! The registry: dispatches requests to the store and to the tables of this process.
-use crate::access::Access;
+use crate::access::{Access, Caller};
 use crate::catalog::Catalog;
 use crate::content::{RequestContent, MAX_MANIFEST};
 use crate::exchange::Exchange;
@@ -11,6 +11,7 @@ use crate::loose::LooseBlobs;
 use crate::memory::{Memory, Reserved};
 use crate::metrics::Metrics;
 use crate::path::{decoded, query_value, Target};
+use crate::rights::{Demand, Right};
 use crate::store::{StoreUnavailable, Store};
 use crate::tenants;
 use crate::turns::Turns;
@@ -65,11 +66,11 @@ pub enum MetricsAccess {
 }
 
 impl MetricsAccess {
-    /// Fails if the user may not read the metrics.
-    fn check(&self, user: &Option<String>) -> Result<(), Fault> {
+    /// Fails if the sender of a request may not read the metrics.
+    fn check(&self, caller: &Caller) -> Result<(), Fault> {
         match self {
             MetricsAccess::Anybody => Ok(()),
-            MetricsAccess::User(reader) if user.as_ref() == Some(reader) => Ok(()),
+            MetricsAccess::User(reader) if caller.is_user(reader) => Ok(()),
             _ => Err(Fault::new(StatusCode::FORBIDDEN, "DENIED", "only the user of --metrics-user may read the metrics")),
         }
     }
@@ -104,11 +105,12 @@ fn adds_content(method: &Method, target: &Target<'_>, is_mount: bool) -> bool {
     }
 }
 
-/// A request without its content, and its repository.
+/// A request without its content, its repository, and its sender.
 pub struct Call {
     pub registry: Arc<Registry>,
     pub head: Parts,
     pub repo: String,
+    pub caller: Caller,
 }
 
 /// The result of a request.
@@ -118,6 +120,17 @@ impl Call {
     /// Returns the first value of a name in the query.
     pub fn query(&self, name: &str) -> Option<String> {
         query_value(self.head.uri.query(), name)
+    }
+
+    /// Returns the repository from which a blob is mounted, or nothing if it may be any of the tenant. It is the request's own
+    /// repository if the sender may not read the other, so that the reply is that for a blob that the other does not have.
+    pub fn mount_source(&self) -> String {
+        let source = self.query("from").unwrap_or_default();
+        let read = if source.is_empty() { tenant_of(&self.repo) } else { &source };
+        match self.caller.may(Right::Read, read) {
+            true => source,
+            false => self.repo.clone(),
+        }
     }
 
     /// Returns the result of a call that has a limit. A limit that the call has reached is named in the failure.
@@ -258,32 +271,38 @@ impl Registry {
         if path == "/healthz" {
             return self.probe(&[]).await;
         }
-        let user = self.access.user(&head.headers).await?;
-        if let (Some(exchange), Some(user)) = (&content.exchange, &user) {
+        let decoded = decoded(&path);
+        let target = decoded.as_deref().and_then(Target::of);
+        let demand = target.as_ref().and_then(|target| Demand::of(&head.method, target));
+        let caller = self.access.caller(&head.headers).await?;
+        if let (Some(exchange), Some(user)) = (&content.exchange, caller.user()) {
             exchange.set_user(user);
         }
+        if demand.is_none() {
+            caller.check_known()?;
+        }
         if path == "/metrics" && self.metrics_access != MetricsAccess::Elsewhere {
-            self.metrics_access.check(&user)?;
+            self.metrics_access.check(&caller)?;
             return self.metrics().await;
         }
         if path == "/untagged" && self.metrics_access != MetricsAccess::Elsewhere {
-            self.metrics_access.check(&user)?;
+            self.metrics_access.check(&caller)?;
             return retention::list(&self, head.uri.query());
         }
-        let path = decoded(&path).ok_or_else(Fault::path)?;
-        let target = Target::of(&path).ok_or_else(Fault::path)?;
+        let target = target.ok_or_else(Fault::path)?;
         let allowed = target.methods();
         if !allowed.split(", ").any(|method| method == head.method.as_str()) {
             return Err(Fault::method(allowed));
         }
-        let repo = match target.repo() {
-            Some(repo) => repo.to_string(),
-            None if target == Target::Catalog => return repositories::list(&self, &user, head.uri.query()),
+        let demand = match demand {
+            Some(demand) => demand,
+            None if target == Target::Catalog => return repositories::list(&self, &caller, head.uri.query()),
             None => return self.probe(&[("Docker-Distribution-API-Version", "registry/2.0")]).await,
         };
-        Access::check(&user, &repo)?;
+        caller.check(&demand)?;
+        let repo = demand.repo.to_string();
         let method = head.method.clone();
-        let call = Call { registry: self, head, repo };
+        let call = Call { registry: self, head, repo, caller };
         if adds_content(&method, &target, call.query("mount").is_some()) {
             call.check_disk()?;
         }

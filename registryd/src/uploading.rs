@@ -18,9 +18,8 @@ pub async fn open(call: &Call, content: &mut RequestContent) -> HandlerResult {
     let Registry { store, loose, .. } = &*call.registry;
     let mut entering = call.enter_repository().await?;
     if let Some(digest) = call.query("mount") {
-        let source = call.query("from").unwrap_or_default();
         let turn = loose.begin_link(&call.repo, &digest).await;
-        let mounted = store.mount(&call.repo, &digest, &source).await;
+        let mounted = store.mount(&call.repo, &digest, &call.mount_source()).await;
         if let Ok(Ok(MountResult::Linked)) = mounted {
             loose.end_link(&call.repo, &digest, &mounted);
         }
