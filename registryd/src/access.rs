@@ -1,9 +1,11 @@
-//! Authentication and authorization. A user has a password (RFC 7617). A file has the rights of users; without it, a user may
-//! use the repositories of the tenant that has the user's name.
+//! Authentication and authorization. A user has a password (RFC 7617), or a token of an issuer (RFC 6750). A token lists rights. A
+//! file has the rights of users with a password; without it, such a user may use the repositories of the tenant that has the
+//! user's name.
 use crate::fault::Fault;
 use crate::limits::tenant_of;
 use crate::reload::FromFile;
 use crate::rights::{Demand, Right, Rights};
+use crate::tokens::{Issuer, Token};
 use hyper::header::AUTHORIZATION;
 use hyper::HeaderMap;
 use sha2::{Digest, Sha256};
@@ -37,30 +39,33 @@ extern "C" {
 /// The challenge to a client that has to send a user and a password (RFC 7617, 2).
 const BASIC: &str = "Basic realm=\"registry\", charset=\"UTF-8\"";
 
-/// The rules that decide which requests are accepted. Without users every request is.
+/// The rules that decide which requests are accepted. Without users and an issuer every request is.
 #[derive(Default)]
 pub struct Access {
     pub users: Option<Arc<FromFile<Users>>>,
     pub rights: Option<Arc<FromFile<Rights>>>,
+    pub issuer: Option<Arc<Issuer>>,
 }
 
 /// The sender of a request, as far as it is known.
 #[derive(Debug)]
 enum Identity {
-    /// Anybody, in a registry without users.
+    /// Anybody, in a registry without users and without an issuer.
     Anybody,
     /// A client that sent no credentials.
     Anonymous,
     /// A user whose password was right.
     User(String),
+    /// The holder of a valid token.
+    Holder(Token),
 }
 
 /// The sender of a request, and its rights.
-#[derive(Debug)]
 pub struct Caller {
     identity: Identity,
     /// The rights of the file, if there is one.
     rights: Option<Arc<Rights>>,
+    issuer: Option<Arc<Issuer>>,
 }
 
 /// The users of a file with the hashes of their passwords, and a cache of the passwords that were accepted.
@@ -177,6 +182,11 @@ impl Users {
         is_right
     }
 
+    /// Returns whether a password is the user's. The cache is asked first because a hash is slow on purpose.
+    async fn accept(self: &Arc<Self>, user: &str, password: &str) -> Result<bool, Fault> {
+        Ok(self.is_cached(user, password) || self.compare(user, password.to_string()).await?)
+    }
+
     /// Checks a password in a blocking thread after it gets a permit. Other requests are served meanwhile.
     async fn compare(self: &Arc<Self>, user: &str, password: String) -> Result<bool, Fault> {
         let too_many = || Fault::unavailable("too many requests wait for a password check");
@@ -243,6 +253,7 @@ enum Credentials {
     /// No header, or an empty user with an empty password, which some clients send if they have neither.
     Missing,
     Password(String, String),
+    Token(String),
     /// A header that is not understood.
     Invalid,
 }
@@ -259,6 +270,7 @@ fn credentials(headers: &HeaderMap) -> Credentials {
             Some((user, password)) => Credentials::Password(user, password),
             None => Credentials::Invalid,
         },
+        Some((scheme, words)) if scheme.eq_ignore_ascii_case("bearer") => Credentials::Token(words.trim().to_string()),
         _ => Credentials::Invalid,
     }
 }
@@ -270,25 +282,29 @@ fn password(words: &str) -> Option<(String, String)> {
     Some((user.to_string(), password.to_string()))
 }
 
+/// Returns the failure of a request whose credentials are missing, wrong or insufficient. With an issuer the challenge is for a token
+/// with what the request needs, since clients do not choose among several challenges in the same way.
+fn unauthorized(issuer: &Option<Arc<Issuer>>, demand: Option<&Demand<'_>>, error: Option<&str>) -> Fault {
+    Fault::unauthorized(issuer.as_ref().map_or_else(|| BASIC.to_string(), |issuer| issuer.challenge(demand, error)))
+}
+
 impl Access {
-    /// Returns the sender of a request after checking its credentials.
-    pub async fn caller(&self, headers: &HeaderMap) -> Result<Caller, Fault> {
-        let caller = |identity| Caller { identity, rights: self.rights.as_ref().map(|rights| rights.get()) };
-        let users = match &self.users {
-            Some(users) => users.get(),
-            None => return Ok(caller(Identity::Anybody)),
+    /// Returns the sender of a request after checking its credentials. A challenge names what the request needs.
+    pub async fn caller(&self, headers: &HeaderMap, demand: Option<&Demand<'_>>) -> Result<Caller, Fault> {
+        let identity = match (credentials(headers), &self.users, &self.issuer) {
+            (_, None, None) => Identity::Anybody,
+            (Credentials::Missing, _, _) => Identity::Anonymous,
+            (Credentials::Password(user, password), Some(users), _) if users.get().accept(&user, &password).await? => {
+                Identity::User(user)
+            }
+            (Credentials::Token(text), _, Some(issuer)) => match issuer.verify(&text) {
+                Some(token) => Identity::Holder(token),
+                None => return Err(unauthorized(&self.issuer, demand, Some("invalid_token"))),
+            },
+            _ => return Err(unauthorized(&self.issuer, demand, None)),
         };
-        let (user, password) = match credentials(headers) {
-            Credentials::Missing => return Ok(caller(Identity::Anonymous)),
-            Credentials::Password(user, password) => (user, password),
-            Credentials::Invalid => return Err(Fault::unauthorized(BASIC)),
-        };
-        // The cache is asked first because a hash is slow on purpose.
-        if users.is_cached(&user, &password) || users.compare(&user, password).await? {
-            Ok(caller(Identity::User(user)))
-        } else {
-            Err(Fault::unauthorized(BASIC))
-        }
+        let rights = self.rights.as_ref().map(|rights| rights.get());
+        Ok(Caller { identity, rights, issuer: self.issuer.clone() })
     }
 }
 
@@ -297,6 +313,7 @@ impl Caller {
     pub fn user(&self) -> Option<&str> {
         match &self.identity {
             Identity::User(user) => Some(user),
+            Identity::Holder(token) => token.user(),
             Identity::Anybody | Identity::Anonymous => None,
         }
     }
@@ -308,12 +325,14 @@ impl Caller {
 
     /// Returns whether the sender has a right in a repository.
     pub fn may(&self, right: Right, repo: &str) -> bool {
-        match (&self.identity, &self.rights) {
+        let has = match (&self.identity, &self.rights) {
             (Identity::Anybody, _) => true,
-            (Identity::Anonymous, rights) => rights.as_ref().map_or(false, |rights| rights.are_public(right, repo)),
+            (Identity::Anonymous, _) => false,
             (Identity::User(user), Some(rights)) => rights.allow(user, right, repo),
             (Identity::User(user), None) => tenant_of(repo) == user,
-        }
+            (Identity::Holder(token), _) => token.allows(right, repo),
+        };
+        has || self.rights.as_ref().map_or(false, |rights| rights.are_public(right, repo))
     }
 
     /// Fails if the sender does not have the right that a request needs.
@@ -321,15 +340,16 @@ impl Caller {
         match &self.identity {
             _ if self.may(demand.right, demand.repo) => Ok(()),
             Identity::User(user) => Err(Fault::denied(user, demand.right.word(), demand.repo)),
-            Identity::Anybody | Identity::Anonymous => Err(Fault::unauthorized(BASIC)),
+            Identity::Holder(_) => Err(unauthorized(&self.issuer, Some(demand), Some("insufficient_scope"))),
+            Identity::Anybody | Identity::Anonymous => Err(unauthorized(&self.issuer, Some(demand), None)),
         }
     }
 
-    /// Fails if the sender sent no credentials, and the registry has users.
+    /// Fails if the sender sent no credentials, and the registry has users or an issuer.
     pub fn check_known(&self) -> Result<(), Fault> {
         match &self.identity {
-            Identity::Anonymous => Err(Fault::unauthorized(BASIC)),
-            Identity::Anybody | Identity::User(_) => Ok(()),
+            Identity::Anonymous => Err(unauthorized(&self.issuer, None, None)),
+            Identity::Anybody | Identity::User(_) | Identity::Holder(_) => Ok(()),
         }
     }
 }
@@ -354,7 +374,7 @@ mod tests {
     }
 
     fn caller(identity: Identity, rights: Option<&str>) -> Caller {
-        Caller { identity, rights: rights.map(|text| Arc::new(Rights::parse(text).unwrap())) }
+        Caller { identity, rights: rights.map(|text| Arc::new(Rights::parse(text).unwrap())), issuer: None }
     }
 
     fn user(name: &str) -> Identity {
@@ -387,8 +407,9 @@ mod tests {
             (user(""), Right::Read, "acme/app", false),
             (user("*"), Right::Write, "acme/public", false),
         ] {
+            let text = format!("{identity:?} {right:?} {repo}");
             let sender = caller(identity, lines);
-            assert_eq!(sender.may(right, repo), expected, "{sender:?} {right:?} {repo}");
+            assert_eq!(sender.may(right, repo), expected, "{text}");
             assert_eq!(sender.check(&Demand { right, repo }).is_ok(), expected);
         }
         assert!(caller(Identity::Anonymous, lines).check_known().is_err() && caller(user("x"), lines).check_known().is_ok());
@@ -451,6 +472,7 @@ mod tests {
         // `:`, `a:`, `:b`.
         assert_eq!(of(b"Basic Og=="), Credentials::Missing);
         assert_eq!((of(b"Basic YTo="), of(b"Basic OmI=")), (sent("a", ""), sent("", "b")));
+        assert_eq!(of(b"bearer  a.b.c "), Credentials::Token("a.b.c".to_string()));
         for text in [&b""[..], b"Basic", b"Basic ", b"Basic !", b"Basic YQ==", b"Basic /w==", b"Bearer", b"Digest a", b"\xff \xff"] {
             assert_eq!(of(text), Credentials::Invalid, "{text:?}");
         }

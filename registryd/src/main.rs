@@ -42,6 +42,7 @@ mod store_connection;
 mod tags;
 mod tenants;
 mod tls;
+mod tokens;
 mod turns;
 mod undo;
 mod upload_name;
@@ -64,6 +65,7 @@ use crate::reload::{FromFile, Hangup, Reloads};
 use crate::rights::Rights;
 use crate::store::{Setup, Store};
 use crate::tls::Tls;
+use crate::tokens::{Issuer, Key};
 use crate::upload_name::Secret;
 use crate::uploads::Uploads;
 use crate::writer::{Writer, WriterThread};
@@ -195,9 +197,22 @@ fn read_users(path: &Path, metrics_user: &Option<String>) -> Result<Users, Strin
     }
 }
 
-/// Reads the files of users and rights that there are.
+/// Reads the keys of the issuer of tokens, if there is one.
+fn issuer(options: &Options, reloads: &mut Reloads) -> Result<Option<Arc<Issuer>>, Failure> {
+    let path = match options.token_key.clone() {
+        Some(path) => path,
+        None => return Ok(None),
+    };
+    let keys = FromFile::new(move || Key::read(&path))?;
+    reloads.push(("token keys", keys.clone()));
+    let text = |option: &Option<String>| option.clone().unwrap_or_default();
+    let (realm, service, name) = (text(&options.token_realm), text(&options.token_service), text(&options.token_issuer));
+    Ok(Some(Arc::new(Issuer { realm, service, name, keys })))
+}
+
+/// Reads the files of users and rights that there are, and the keys of the issuer.
 fn access(options: &Options, reloads: &mut Reloads) -> Result<Access, Failure> {
-    let mut access = Access::default();
+    let mut access = Access { issuer: issuer(options, reloads)?, ..Access::default() };
     if let Some(path) = options.htpasswd.clone() {
         let metrics_user = options.metrics_user.clone();
         let users = FromFile::new(move || read_users(&path, &metrics_user))?;

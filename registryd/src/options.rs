@@ -90,6 +90,18 @@ pub struct Options {
     /// Give users the rights of this file
     #[arg(long, value_name = "FILE", requires = "htpasswd")]
     pub rights: Option<PathBuf>,
+    /// Accept tokens that are signed with these public keys
+    #[arg(long, value_name = "FILE", requires_all = ["token_realm", "token_service", "token_issuer"])]
+    pub token_key: Option<PathBuf>,
+    /// Let clients ask for tokens at this URL
+    #[arg(long, value_name = "URL", requires = "token_key", value_parser = quotable)]
+    pub token_realm: Option<String>,
+    /// Accept tokens for a service with this name
+    #[arg(long, value_name = "NAME", requires = "token_key", value_parser = quotable)]
+    pub token_service: Option<String>,
+    /// Accept tokens of an issuer with this name
+    #[arg(long, value_name = "NAME", requires = "token_key", value_parser = quotable)]
+    pub token_issuer: Option<String>,
     /// Serve without passwords on non-loopback addresses
     #[arg(long)]
     pub let_anybody_in: bool,
@@ -107,12 +119,26 @@ pub struct Options {
     pub tenants: Vec<String>,
 }
 
+/// Checks a text that is quoted in the header of a challenge, and returns it.
+fn quotable(text: &str) -> Result<String, String> {
+    let is_plain = |byte: u8| byte.is_ascii_graphic() && byte != b'"' && byte != b'\\';
+    match !text.is_empty() && text.bytes().all(is_plain) {
+        true => Ok(text.to_string()),
+        false => Err("write ASCII letters without spaces, quotes and backslashes".to_string()),
+    }
+}
+
 impl Options {
     /// Returns why the options contradict each other, if they do.
     pub fn conflict(&self) -> Option<String> {
-        let open = self.htpasswd.is_none() && !self.listen.ip().is_loopback() && !self.let_anybody_in;
-        let text = format!("cannot listen: {}: give --htpasswd or --let-anybody-in", self.listen);
+        let open = !self.has_users() && !self.listen.ip().is_loopback() && !self.let_anybody_in;
+        let text = format!("cannot listen: {}: give --htpasswd, --token-key or --let-anybody-in", self.listen);
         open.then_some(text).or_else(|| tenants::conflict(&self.tenants))
+    }
+
+    /// Returns whether requests need credentials.
+    fn has_users(&self) -> bool {
+        self.htpasswd.is_some() || self.token_key.is_some()
     }
 
     /// Returns the times after which unused uploads are abandoned.
@@ -156,11 +182,11 @@ impl Options {
 
     /// Returns the rule that decides who may read the metrics.
     pub fn metrics_access(&self) -> MetricsAccess {
-        match (&self.metrics_listen, &self.metrics_user, &self.htpasswd) {
-            (Some(_), _, _) => MetricsAccess::Elsewhere,
-            (None, Some(user), _) => MetricsAccess::User(user.clone()),
-            (None, None, Some(_)) => MetricsAccess::Nobody,
-            (None, None, None) => MetricsAccess::Anybody,
+        match (&self.metrics_listen, &self.metrics_user) {
+            (Some(_), _) => MetricsAccess::Elsewhere,
+            (None, Some(user)) => MetricsAccess::User(user.clone()),
+            (None, None) if self.has_users() => MetricsAccess::Nobody,
+            (None, None) => MetricsAccess::Anybody,
         }
     }
 
@@ -205,6 +231,21 @@ mod tests {
         assert_eq!(named.metrics_access(), MetricsAccess::User("prometheus".to_string()));
         assert_eq!(parsed(&["--metrics-listen", "127.0.0.1:1", "a=1"]).metrics_access(), MetricsAccess::Elsewhere);
         assert!(Options::try_parse_from(["registryd", "--metrics-user", "prometheus", "a=1"]).is_err());
+    }
+
+    #[test]
+    fn an_issuer_has_three_names() {
+        let words = ["a=1", "--token-key", "k", "--token-realm", "https://a/token", "--token-service", "r", "--token-issuer", "i"];
+        let options = parsed(&[&words[..], &["--listen", "0.0.0.0:80"]].concat());
+        assert!(options.conflict().is_none());
+        assert_eq!(options.metrics_access(), MetricsAccess::Nobody);
+        for count in [3, 5, 7] {
+            assert!(Options::try_parse_from([&["registryd"], &words[..count]].concat()).is_err(), "{count}");
+        }
+        assert!(Options::try_parse_from(["registryd", "a=1", "--token-realm", "https://a"]).is_err());
+        for text in ["", "a b", "a\"", "a\\", "a\n", "ä"] {
+            assert!(quotable(text).is_err(), "{text}");
+        }
     }
 
     #[test]

@@ -274,7 +274,7 @@ impl Registry {
         let decoded = decoded(&path);
         let target = decoded.as_deref().and_then(Target::of);
         let demand = target.as_ref().and_then(|target| Demand::of(&head.method, target));
-        let caller = self.access.caller(&head.headers).await?;
+        let caller = self.access.caller(&head.headers, demand.as_ref()).await?;
         if let (Some(exchange), Some(user)) = (&content.exchange, caller.user()) {
             exchange.set_user(user);
         }

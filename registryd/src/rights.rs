@@ -123,15 +123,11 @@ impl Rights {
 
     /// Returns whether everybody has a right in a repository.
     pub fn are_public(&self, right: Right, repo: &str) -> bool {
-        self.has(EVERYBODY, right, repo)
+        self.allow(EVERYBODY, right, repo)
     }
 
-    /// Returns whether a user has a right in a repository, as one of everybody or by a line for the user.
+    /// Returns whether a user has a right in a repository by a line for the user.
     pub fn allow(&self, user: &str, right: Right, repo: &str) -> bool {
-        self.are_public(right, repo) || self.has(user, right, repo)
-    }
-
-    fn has(&self, user: &str, right: Right, repo: &str) -> bool {
         let grants = self.by_user.get(user).map_or(&[][..], Vec::as_slice);
         grants.iter().any(|grant| grant.rights.contains(&right) && is_below(repo, &grant.prefix))
     }
@@ -163,15 +159,15 @@ mod tests {
             ("ci", Right::Write, "acme/apple", false),
             ("ci", Right::Read, "other/x", true),
             ("ci", Right::Write, "other/x", false),
-            ("ci", Right::Read, "acme/public/x", true),
-            ("nobody", Right::Read, "acme/public", true),
-            ("nobody", Right::Write, "acme/public", false),
-            ("nobody", Right::Read, "acme/publics", false),
+            ("ci", Right::Read, "acme/public/x", false),
             ("", Right::Read, "acme", false),
         ] {
             assert_eq!(rights.allow(user, right, repo), expected, "{user} {right:?} {repo}");
         }
-        assert!(rights.are_public(Right::Read, "acme/public") && !rights.are_public(Right::Read, "acme"));
+        for (repo, expected) in [("acme/public", true), ("acme/public/x", true), ("acme/publics", false), ("acme", false)] {
+            assert_eq!(rights.are_public(Right::Read, repo), expected, "{repo}");
+        }
+        assert!(!rights.are_public(Right::Write, "acme/public"));
     }
 
     #[test]
