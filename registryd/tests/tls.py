@@ -1,11 +1,12 @@
 #!/usr/bin/env python3
 """Tests TLS with certificates made by openssl: curl, skopeo, podman and Python as clients, certificates that are read again, pairs
 that cannot be used, and handshakes that never end."""
-import contextlib, http.client, os, shutil, socket, ssl, subprocess, sys, tempfile, time
+import contextlib, http.client, os, shutil, ssl, subprocess, sys, tempfile, time
 
 from hardships import PATCH, played
 from images import image, same_blobs, skopeo
 from limits import is_closed
+from rights import has_podman, podman
 from server import serving, sha256
 from statuses import check, ended
 
@@ -83,15 +84,11 @@ def skopeo_and_podman_are_served():
         skopeo("copy", "--dest-cert-dir", f"{top}/certs", f"oci:{top}/image:latest", f"{at}:v1")
         skopeo("copy", "--src-cert-dir", f"{top}/certs", f"{at}:v1", f"oci:{top}/back:latest")
         same_blobs(f"{top}/image", f"{top}/back")
-        if not shutil.which("podman") or os.geteuid() != 0:
-            print("tls: left out: podman")
+        if not has_podman("tls"):
             return
-        podman = ["podman", "--root", f"{top}/root", "--runroot", f"{top}/run", "--storage-driver", "vfs", "--events-backend", "none"]
-        for words in (["pull", "-q", f"{server.address}/acme/tls:v1"],
-                      ["push", "-q", f"{server.address}/acme/tls:v1", f"docker://{server.address}/acme/podman:v1"]):
-            words = [*podman, words[0], "--cert-dir", f"{top}/certs", *words[1:]]
-            done = subprocess.run(words, stdout=subprocess.DEVNULL, stderr=subprocess.PIPE, timeout=60)
-            assert done.returncode == 0, done.stderr[-500:]
+        name = f"{server.address}/acme/tls:v1"
+        podman(top, "pull", "--cert-dir", f"{top}/certs", name)
+        podman(top, "push", "--cert-dir", f"{top}/certs", name, f"docker://{server.address}/acme/podman:v1")
         assert ask(client(server, f"{folder}/one.crt"), "GET", "/v2/acme/podman/tags/list")[1].find(b"v1") > 0
 
 

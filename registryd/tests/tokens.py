@@ -1,13 +1,15 @@
 #!/usr/bin/env python3
 """Tests bearer tokens that openssl signs: good ones of each type of key, bad ones, what tokens allow, keys that are read again, and
-skopeo, podman and curl with a small token server that gives everybody a token to read what is public."""
-import base64, contextlib, http.server, json, os, shutil, subprocess, sys, tempfile, threading, time, urllib.parse
+skopeo, podman and docker with a small token server that gives everybody a token to read what is public."""
+import base64, contextlib, hashlib, hmac, http.server, json, os, shutil, subprocess, sys, tempfile, threading, time
+import urllib.parse
 
-from hardships import PATCH, played
+from clients import Docker, run
+from hardships import played
 from images import image, same_blobs, skopeo
 from limits import CHEAP, basic, users
-from rights import fails, put_image, status
-from server import MANIFEST, serving
+from rights import fails, has_podman, podman, put_image, status
+from server import serving
 from statuses import check, ended
 
 SERVICE, ISSUER = "registry.test", "login.test"
@@ -96,7 +98,6 @@ def bad_tokens_are_refused():
         with open(f"{key}.pub", "rb") as file:
             public = file.read()
         def mac(secret):
-            import hashlib, hmac
             return lambda path, algorithm, message: hmac.new(secret, message, hashlib.sha256).digest()
         none = lambda path, algorithm, message: b""
         bad = [
@@ -142,7 +143,7 @@ def a_token_allows_what_it_lists():
         def of(*access):
             return server.client(bearer(token(key, words=claims(access))))
         push = of(entry("acme/app", "pull", "push"))
-        digest = put_with(push, "acme/app")
+        digest = put_image(push, "acme/app")[2]
         at = "/v2/acme/app"
         pull = of(entry("acme/app", "pull"), entry("acme/app/web", "*"))
         assert pull.ask("GET", f"{at}/manifests/v1").status == 200 and pull.ask("GET", f"{at}/tags/list").status == 200
@@ -156,15 +157,6 @@ def a_token_allows_what_it_lists():
         assert of(entry("acme/app", "delete")).ask("DELETE", f"{at}/manifests/v1").status == 202
         assert of(entry("acme/app", "*")).ask("DELETE", f"{at}/blobs/{digest}").status == 403
         server.wait_for('status=202 .*user="jo"')
-
-
-def put_with(client, repo):
-    """Pushes a small image, and returns its layer's digest."""
-    from server import manifest_of, sha256
-    for data in (b"{}", b"layer"):
-        assert client.ask("POST", f"/v2/{repo}/blobs/uploads/?digest={sha256(data)}", data, PATCH).status == 201
-    assert client.ask("PUT", f"/v2/{repo}/manifests/v1", manifest_of(b"{}", [b"layer"]), {"Content-Type": MANIFEST}).status == 201
-    return sha256(b"layer")
 
 
 def keys_are_read_again():
@@ -192,7 +184,7 @@ def keys_are_read_again():
 def passwords_and_tokens_go_together():
     with users(f"acme:{CHEAP}", f"prometheus:{CHEAP}") as file, users("acme read,write,delete acme", "* read acme/public") as rights:
         with serving_tokens("--htpasswd", file, "--rights", rights, "--metrics-user", "prometheus") as (server, key):
-            put_image(server, "acme/public")
+            put_image(server.client(basic("acme:secret")), "acme/public")
             assert (status(server, "acme"), status(server, "acme", password="wrong")) == (200, 401)
             assert server.client(basic("acme:wrong")).ask("GET", "/v2/")["WWW-Authenticate"].startswith("Bearer ")
             assert (status(server, "prometheus", path="/metrics"), status(server, "acme", path="/metrics")) == (200, 403)
@@ -276,20 +268,43 @@ def clients_get_tokens():
         fails(lambda: skopeo(*push, "--dest-creds", "acme:wrong", f"{at}/app:v2"))
         skopeo("copy", "--src-creds", login, "--src-tls-verify=false", "--dest-creds", login, plain, f"{at}/app:v1", f"{at}/copy:v1")
         skopeo("delete", "--creds", login, "--tls-verify=false", f"{at}/app:v1")
-        if not shutil.which("podman") or os.geteuid() != 0:
-            print("tokens: left out: podman")
+        if has_podman("tokens"):
+            public, own = f"{server.address}/acme/public:v1", f"{server.address}/acme/podman:v1"
+            podman(top, "pull", "--tls-verify=false", public)
+            podman(top, "push", "--tls-verify=false", "--creds", login, public, own)
+            fails(lambda: podman(top, "pull", "--tls-verify=false", own))
+
+
+def docker_gets_tokens():
+    if not shutil.which("dockerd") or os.geteuid() != 0:
+        print("tokens: left out: docker")
+        return
+    with serving_with_issuer() as (server, _), tempfile.TemporaryDirectory() as top:
+        os.mkdir(f"{top}/files")
+        with open(f"{top}/files/file", "w") as file:
+            file.write("content")
+        try:
+            docker = Docker(top)
+        except SystemExit:
+            print("tokens: left out: docker (it can't be started here)")
             return
-        words = ["podman", "--root", f"{top}/root", "--runroot", f"{top}/run", "--storage-driver", "vfs", "--events-backend", "none"]
-        def podman(command, *rest):
-            done = subprocess.run([*words, command, "-q", "--tls-verify=false", *rest], stdout=subprocess.PIPE, stderr=subprocess.PIPE, timeout=60)
-            assert done.returncode == 0, done.stderr[-500:]
-        podman("pull", f"{server.address}/acme/public:v1")
-        podman("push", "--creds", login, f"{server.address}/acme/public:v1", f"{server.address}/acme/podman:v1")
-        fails(lambda: podman("pull", f"{server.address}/acme/podman:v1"))
+        try:
+            public, own = f"{server.address}/acme/public:v1", f"{server.address}/acme/app:v1"
+            fails(lambda: run(*docker.words, "login", "-u", "acme", "-p", "wrong", server.address))
+            run(*docker.words, "login", "-u", "acme", "-p", "secret", server.address)
+            docker.push(public)
+            docker.push(own)
+            run(*docker.words, "logout", server.address)
+            docker.forget()
+            assert docker.pull(public) == {"file": b"content"}
+            fails(lambda: docker.pull(own))
+            fails(lambda: run(*docker.words, "push", "-q", public))
+        finally:
+            docker.end()
 
 
 TESTS = [a_token_of_each_type_of_key, bad_tokens_are_refused, a_challenge_names_what_is_needed, a_token_allows_what_it_lists,
-         keys_are_read_again, passwords_and_tokens_go_together, a_start_names_the_key, clients_get_tokens]
+         keys_are_read_again, passwords_and_tokens_go_together, a_start_names_the_key, clients_get_tokens, docker_gets_tokens]
 
 
 def main():
