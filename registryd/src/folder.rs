@@ -48,6 +48,11 @@ impl Folder {
         Some(free)
     }
 
+    /// Returns the number of bytes that stay free on the disk.
+    pub fn min_free(&self) -> u64 {
+        self.min_free
+    }
+
     /// Fails if less than the minimum is free.
     pub fn check(&self) -> Result<(), Fault> {
         match self.free() {

@@ -97,6 +97,22 @@ impl Repositories {
         self.by_tenant.lock().unwrap().get(tenant_of(repo)).map_or(false, |repos| repos.contains(repo))
     }
 
+    /// Returns the number of repositories of a tenant.
+    pub fn count(&self, tenant: &str) -> usize {
+        self.by_tenant.lock().unwrap().get(tenant).map_or(0, HashSet::len)
+    }
+
+    /// Returns the first repositories of a tenant after `last` in order, at most `most`, and whether more follow.
+    pub fn page(&self, tenant: &str, last: &str, most: usize) -> (Vec<String>, bool) {
+        let by_tenant = self.by_tenant.lock().unwrap();
+        let after = by_tenant.get(tenant).into_iter().flatten().filter(|repo| repo.as_str() > last);
+        let mut names: Vec<String> = after.cloned().collect();
+        names.sort();
+        let more = names.len() > most;
+        names.truncate(most);
+        (names, more)
+    }
+
     /// Adds a repository after the store accepted a call that may have created it. With a database, it has to be recorded.
     pub fn add(&self, repo: &str) {
         let mut by_tenant = self.by_tenant.lock().unwrap();
@@ -167,5 +183,18 @@ mod tests {
         assert_eq!(repositories.reached("acme/new", Limit::Manifests), Limit::Repositories);
         assert_eq!(repositories.reached("acme/r1", Limit::Manifests), Limit::Manifests);
         assert_eq!(repositories.reached("other/new", Limit::Uploads), Limit::Uploads);
+    }
+
+    #[test]
+    fn repositories_have_pages() {
+        let repositories = Repositories::default();
+        for name in ["acme/c", "acme/a", "other/x", "acme/b"] {
+            repositories.add(name);
+        }
+        let names = |names: &[&str]| names.iter().map(|name| name.to_string()).collect::<Vec<_>>();
+        assert_eq!(repositories.page("acme", "", 2), (names(&["acme/a", "acme/b"]), true));
+        assert_eq!(repositories.page("acme", "acme/b", 2), (names(&["acme/c"]), false));
+        assert_eq!(repositories.page("nobody", "", 2), (names(&[]), false));
+        assert_eq!((repositories.count("acme"), repositories.count("nobody")), (3, 0));
     }
 }

@@ -28,6 +28,7 @@ mod pages;
 mod path;
 mod pool;
 mod process;
+mod provenance;
 mod range;
 mod referrers;
 mod registry;
@@ -37,6 +38,7 @@ mod reload;
 mod rights;
 mod server;
 mod startup;
+mod status;
 mod store;
 mod store_connection;
 mod tags;
@@ -60,6 +62,7 @@ use crate::loose::LooseBlobs;
 use crate::memory::Memory;
 use crate::metrics::Metrics;
 use crate::options::Options;
+use crate::provenance::Provenance;
 use crate::registry::Registry;
 use crate::reload::{FromFile, Hangup, Reloads};
 use crate::rights::Rights;
@@ -69,7 +72,7 @@ use crate::tokens::{Issuer, Key};
 use crate::upload_name::Secret;
 use crate::uploads::Uploads;
 use crate::writer::{Writer, WriterThread};
-use clap::Parser;
+use clap::{CommandFactory, FromArgMatches};
 use std::io;
 use std::net::SocketAddr;
 use std::path::Path;
@@ -100,7 +103,7 @@ const END_TIME: Duration = Duration::from_secs(20);
 const REST_TIME: Duration = Duration::from_secs(1);
 
 fn main() -> ExitCode {
-    let options = Options::parse();
+    let options = options();
     tracing_subscriber::fmt().with_writer(std::io::stderr).with_ansi(false).init();
     if let Some(conflict) = options.conflict() {
         tracing::error!("{conflict}");
@@ -119,6 +122,14 @@ fn main() -> ExitCode {
             ExitCode::from(failure.status)
         }
     }
+}
+
+/// Reads the command line. Ends the program if it asks for help or is wrong.
+fn options() -> Options {
+    let version = Box::leak(provenance::version(std::env::args_os()).into_boxed_str());
+    let mut command = Options::command().long_version(&*version);
+    let matches = command.get_matches_mut();
+    Options::from_arg_matches(&matches).unwrap_or_else(|error| error.format(&mut command).exit())
 }
 
 /// The signals that stop the program.
@@ -265,7 +276,10 @@ async fn start_store(options: &Options, writer: Option<Arc<Writer>>) -> Result<(
 
 /// Starts the store, reads the database if there is one, and makes the registry over both.
 async fn start(options: &Options, access: Access) -> Result<Started, Failure> {
+    let provenance = Provenance::of(&options.blobd);
+    provenance.log();
     let metrics = Metrics::new();
+    metrics.set_verified(provenance.is_proved());
     let limit = Duration::from_secs(options.call_s);
     let writer = options.data.as_ref().map(|_| Writer::new(metrics.add_folder(options.is_durable()), limit));
     let had_log = options.data.as_ref().map_or(false, |folder| folder.join("log").exists());
@@ -306,10 +320,13 @@ async fn start(options: &Options, access: Access) -> Result<Started, Failure> {
         folder: options.data.clone().map(|path| Folder::new(path, options.min_free())),
         turns: Default::default(),
         metrics,
+        sweeps: Default::default(),
+        provenance,
         metrics_access: options.metrics_access(),
         tenants: options.tenant_names(),
         slots: options.slots,
         max_blob: options.max_blob,
+        started: status::now(),
     });
     work_in_background(&registry, options);
     Ok(Started { registry, child, database })

@@ -5,7 +5,38 @@ use std::sync::Arc;
 use std::time::Duration;
 
 use crate::folder::Folder;
+use crate::status::now;
 use crate::store::{StoreUnavailable, Store, SweepResult};
+
+/// The media type of the text that Prometheus reads.
+pub const CONTENT_TYPE: &str = "text/plain; version=0.0.4";
+
+/// The transactions of the database: their number, and the time of the last one.
+#[derive(Clone)]
+pub struct Commits {
+    total: IntCounter,
+    last: IntGauge,
+}
+
+impl Commits {
+    pub fn new() -> Commits {
+        let total = IntCounter::new("registryd_database_commits_total", "Transactions of the database of tags.");
+        let help = "Time of the last transaction of the database of tags, in seconds since 1970.";
+        let last = IntGauge::new("registryd_last_commit_timestamp_seconds", help);
+        Commits { total: total.expect("a counter's name"), last: last.expect("a gauge's name") }
+    }
+
+    /// Returns the number of transactions.
+    pub fn total(&self) -> u64 {
+        self.total.get()
+    }
+
+    /// Counts a transaction.
+    pub fn count(&self) {
+        self.total.inc();
+        self.last.set(now() as i64);
+    }
+}
 
 /// The counters and gauges. Clones share them.
 #[derive(Clone)]
@@ -26,10 +57,11 @@ struct Inner {
     used: IntGaugeVec,
     quota: IntGaugeVec,
     durable: IntGauge,
+    verified: IntGauge,
     log: IntGauge,
     database: IntGauge,
     free: IntGauge,
-    commits: IntCounter,
+    commits: Commits,
 }
 
 impl Metrics {
@@ -54,13 +86,14 @@ impl Metrics {
             used: by_tenant("registryd_tenant_used_bytes", "Bytes of a tenant's quota used by its blobs and uploads."),
             quota: by_tenant("registryd_tenant_quota_bytes", "Quota of a tenant, in bytes."),
             durable: gauge("registryd_durable", "1 if a change is on the disk before its reply, 0 otherwise."),
+            verified: gauge("registryd_store_verified", "1 if a record names the store's program as proved, 0 otherwise."),
             log: gauge("registryd_log_bytes", "Length of the log of the store, in bytes."),
             database: gauge("registryd_database_bytes", "Length of the database of tags, in bytes."),
             free: gauge("registryd_free_bytes", "Bytes that are free on the disk of the folder."),
-            commits: counter("registryd_database_commits_total", "Transactions of the database of tags."),
+            commits: Commits::new(),
             registry,
         };
-        let all: [Box<dyn prometheus::core::Collector>; 13] = [
+        let all: [Box<dyn prometheus::core::Collector>; 14] = [
             Box::new(inner.requests.clone()),
             Box::new(inner.seconds.clone()),
             Box::new(inner.received.clone()),
@@ -74,6 +107,7 @@ impl Metrics {
             Box::new(inner.used.clone()),
             Box::new(inner.quota.clone()),
             Box::new(inner.durable.clone()),
+            Box::new(inner.verified.clone()),
         ];
         for collector in all {
             inner.registry.register(collector).expect("each name is registered once");
@@ -106,12 +140,38 @@ impl Metrics {
         self.0.held.set(swept.held as i64);
     }
 
+    /// Sets whether the store's program was proved.
+    pub fn set_verified(&self, is_verified: bool) {
+        self.0.verified.set(i64::from(is_verified));
+    }
+
+    /// Returns the number of sweeps, of slots that they freed, and of slots that the last one did not free.
+    pub fn swept(&self) -> (u64, u64, i64) {
+        (self.0.sweeps.get(), self.0.freed.get(), self.0.held.get())
+    }
+
+    /// Returns whether a change is on the disk before its reply.
+    pub fn is_durable(&self) -> bool {
+        self.0.durable.get() != 0
+    }
+
+    /// Returns the number of the database's transactions, and the time of the last one in seconds since 1970.
+    pub fn committed(&self) -> (u64, Option<i64>) {
+        let commits = &self.0.commits;
+        (commits.total(), Some(commits.last.get()).filter(|time| *time != 0))
+    }
+
     /// Adds the metrics of a folder, and returns the counter of the database's transactions.
-    pub fn add_folder(&self, is_durable: bool) -> IntCounter {
+    pub fn add_folder(&self, is_durable: bool) -> Commits {
         let Inner { registry, durable, log, database, free, commits, .. } = &*self.0;
         durable.set(i64::from(is_durable));
-        let all: [Box<dyn prometheus::core::Collector>; 4] =
-            [Box::new(log.clone()), Box::new(database.clone()), Box::new(free.clone()), Box::new(commits.clone())];
+        let all: [Box<dyn prometheus::core::Collector>; 5] = [
+            Box::new(log.clone()),
+            Box::new(database.clone()),
+            Box::new(free.clone()),
+            Box::new(commits.total.clone()),
+            Box::new(commits.last.clone()),
+        ];
         for collector in all {
             registry.register(collector).expect("each name is registered once");
         }

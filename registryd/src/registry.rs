@@ -11,14 +11,16 @@ use crate::loose::LooseBlobs;
 use crate::memory::{Memory, Reserved};
 use crate::metrics::Metrics;
 use crate::path::{decoded, query_value, Target};
+use crate::provenance::Provenance;
 use crate::rights::{Demand, Right};
+use crate::status::{SweepHistory, View};
 use crate::store::{StoreUnavailable, Store};
 use crate::tenants;
 use crate::turns::Turns;
 use crate::uploads::{UploadTimeouts, Upload, Uploads};
 use crate::{blobs, manifests, referrers, repositories, retention, uploading};
 use hyper::body::HttpBody;
-use hyper::header::{CONTENT_TYPE, EXPECT, HOST};
+use hyper::header::{EXPECT, HOST};
 use hyper::http::request::Parts;
 use hyper::http::uri::Authority;
 use hyper::{Body, Method, Request, Response, StatusCode, Version};
@@ -44,15 +46,21 @@ pub struct Registry {
     /// The writers of a manifest take turns, each for the time of its call to the store. Readers take no turn.
     pub turns: Turns,
     pub metrics: Metrics,
+    /// The sweeps that the page of the administrator shows.
+    pub sweeps: SweepHistory,
     pub memory: Arc<Memory>,
     pub metrics_access: MetricsAccess,
     pub tenants: Vec<String>,
     pub slots: u32,
     /// The maximum length of a blob, in bytes.
     pub max_blob: u64,
+    /// Where the store's program comes from.
+    pub provenance: Provenance,
+    /// The time of the start, in seconds since 1970.
+    pub started: u64,
 }
 
-/// The rule that decides which requests may read the metrics of all tenants.
+/// The rule that decides which requests may read the metrics and the state of all tenants.
 #[derive(Clone, Debug, PartialEq, Eq)]
 pub enum MetricsAccess {
     /// All requests.
@@ -71,7 +79,7 @@ impl MetricsAccess {
         match self {
             MetricsAccess::Anybody => Ok(()),
             MetricsAccess::User(reader) if caller.is_user(reader) => Ok(()),
-            _ => Err(Fault::new(StatusCode::FORBIDDEN, "DENIED", "only the user of --metrics-user may read the metrics")),
+            _ => Err(Fault::new(StatusCode::FORBIDDEN, "DENIED", "only the user of --metrics-user may read this")),
         }
     }
 }
@@ -281,9 +289,9 @@ impl Registry {
         if demand.is_none() {
             caller.check_known()?;
         }
-        if path == "/metrics" && self.metrics_access != MetricsAccess::Elsewhere {
+        if let Some(view) = View::of(&path).filter(|_| self.metrics_access != MetricsAccess::Elsewhere) {
             self.metrics_access.check(&caller)?;
-            return self.metrics().await;
+            return self.view(view, &head.method, head.uri.query()).await;
         }
         if path == "/untagged" && self.metrics_access != MetricsAccess::Elsewhere {
             self.metrics_access.check(&caller)?;
@@ -338,23 +346,23 @@ impl Registry {
     /// Serves a request on the metrics address.
     pub async fn serve_metrics(self: Arc<Self>, request: Request<Body>) -> Response<Body> {
         let answered = tokio::spawn(async move {
-            match (request.method(), request.uri().path()) {
-                (&Method::GET, "/metrics") => self.metrics().await,
-                (&Method::GET, "/untagged") => retention::list(&self, request.uri().query()),
-                (&Method::GET, "/healthz") => self.probe(&[]).await,
-                _ => Err(Fault::path()),
+            let (method, path) = (request.method(), request.uri().path());
+            match View::of(path) {
+                Some(view) => self.view(view, method, request.uri().query()).await,
+                None if method == Method::GET && path == "/untagged" => retention::list(&self, request.uri().query()),
+                None if method == Method::GET && path == "/healthz" => self.probe(&[]).await,
+                None => Err(Fault::path()),
             }
         });
         answered.await.unwrap_or_else(|_| Err(Fault::internal())).unwrap_or_else(Fault::into_response)
     }
 
     /// Returns the metrics of all tenants.
-    async fn metrics(&self) -> HandlerResult {
+    pub async fn metrics_text(&self) -> Result<String, StoreUnavailable> {
         if let Some(folder) = &self.folder {
             self.metrics.set_folder(folder);
         }
-        let text = self.metrics.text(&self.store, &self.tenants, self.slots, self.uploads.len()).await?;
-        with_body(StatusCode::OK, &[(CONTENT_TYPE.as_str(), "text/plain; version=0.0.4")], text.into())
+        self.metrics.text(&self.store, &self.tenants, self.slots, self.uploads.len()).await
     }
 
     /// Returns a response without content if the store replies.
@@ -371,6 +379,7 @@ impl Registry {
             let mut least = NOTHING_FREED_REST;
             if let Ok(Ok(swept)) = self.store.sweep().await {
                 self.metrics.count_sweep(&swept);
+                self.sweeps.add(&swept);
                 if swept.freed > 0 {
                     tracing::info!(freed = swept.freed, held = swept.held, "swept");
                     least = Duration::ZERO;

@@ -90,6 +90,17 @@ pub struct Untagged {
     pub held_by: Option<String>,
 }
 
+/// What a repository has.
+#[derive(Debug, Default, PartialEq, Eq)]
+pub struct Overview {
+    /// The number of manifests.
+    pub manifests: usize,
+    /// The first tags in order, each with its manifest.
+    pub tags: Vec<(String, NamedManifest)>,
+    /// Whether more tags follow.
+    pub more: bool,
+}
+
 /// Returns whether a text is a tag (OCI Distribution Specification 1.1, "Pulling manifests").
 pub fn is_tag(text: &str) -> bool {
     let is_word = |byte: u8| byte.is_ascii_alphanumeric() || byte == b'_';
@@ -408,6 +419,17 @@ impl Tags {
         };
         self.with(repo, page).unwrap_or(Page { items: Vec::new(), more: false })
     }
+
+    /// Returns what a repository has, with at most `most` tags.
+    pub fn overview(&self, repo: &str, most: usize) -> Overview {
+        let overview = |repo: &mut Repository| {
+            let mut visible = repo.tags.iter().filter_map(|(tag, digest)| Some((tag.clone(), repo.named(digest)?)));
+            let tags = visible.by_ref().take(most).collect();
+            let more = visible.next().is_some();
+            Overview { manifests: repo.manifests.values().filter(|manifest| !manifest.is_leaving).count(), tags, more }
+        };
+        self.with(repo, overview).unwrap_or_default()
+    }
 }
 
 #[cfg(test)]
@@ -563,6 +585,10 @@ mod tests {
         assert_eq!(tags.by_tag("acme/web", "v1"), None);
         assert_eq!(tags.by_digest("acme/web", "sha256:a"), None);
         assert_eq!(tags.page("acme/web", "", 9).unwrap().items, ["v2"]);
+        let overview = tags.overview("acme/web", 9);
+        assert_eq!((overview.manifests, overview.tags.len(), &*overview.tags[0].0, overview.more), (1, 1, "v2", false));
+        assert_eq!(tags.overview("acme/web", 0), Overview { manifests: 1, tags: vec![], more: true });
+        assert_eq!(tags.overview("acme/none", 9), Overview::default());
         assert!(!tags.remove_tag("acme/web", "v1", 2));
         // Its tag may be moved to another manifest meanwhile, and then belongs to that one.
         tags.add("sha256:b", TYPE, Some("v1"));

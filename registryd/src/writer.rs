@@ -4,9 +4,9 @@ use crate::clock::now;
 use crate::database::Database;
 use crate::document::Facts;
 use crate::limits::tenant_of;
+use crate::metrics::Commits;
 use crate::numbers::Numbers;
 use crate::tags::Tags;
-use prometheus::IntCounter;
 use std::collections::{BTreeSet, HashMap};
 use std::sync::{Arc, Condvar, Mutex, MutexGuard};
 use std::thread::JoinHandle;
@@ -115,7 +115,7 @@ pub struct Writer {
     ready: Condvar,
     /// Notified after a failure.
     failed: Notify,
-    commits: IntCounter,
+    commits: Commits,
     /// The time limit of a change.
     limit: Duration,
 }
@@ -125,7 +125,7 @@ pub struct WriterThread(JoinHandle<rusqlite::Result<()>>);
 
 impl Writer {
     /// Makes a writer that counts its transactions. Its thread is not running yet.
-    pub fn new(commits: IntCounter, limit: Duration) -> Arc<Writer> {
+    pub fn new(commits: Commits, limit: Duration) -> Arc<Writer> {
         Arc::new(Writer { state: Mutex::default(), ready: Condvar::new(), failed: Notify::new(), commits, limit })
     }
 
@@ -244,7 +244,7 @@ impl Writer {
                 self.fail(error.to_string());
                 return Err(error);
             }
-            self.commits.inc();
+            self.commits.count();
             for Waiting { change, reply } in batch {
                 let done = change.apply(tags, now);
                 if let Some(reply) = reply {
@@ -285,7 +285,7 @@ mod tests {
     }
 
     fn started(folder: &std::path::Path) -> (Arc<Writer>, WriterThread, Arc<Tags>) {
-        let writer = Writer::new(IntCounter::new("commits", "Transactions.").unwrap(), Duration::from_secs(60));
+        let writer = Writer::new(Commits::new(), Duration::from_secs(60));
         let tags = Arc::new(Tags::default());
         let (database, _) = Database::open(folder, true).unwrap();
         let thread = writer.start(database, tags.clone(), HashMap::new()).unwrap();
@@ -324,9 +324,9 @@ mod tests {
         let folder = folder();
         let (writer, thread, _) = started(&folder);
         writer.note(Change::OpenUpload { repo: "acme/web".to_string(), number: 1 });
-        assert_eq!(writer.commits.get(), 0);
+        assert_eq!(writer.commits.total(), 0);
         tokio::time::sleep(REST + Duration::from_millis(500)).await;
-        assert_eq!(writer.commits.get(), 1);
+        assert_eq!(writer.commits.total(), 1);
         assert_eq!(writer.end(thread).await, Ok(()));
         std::fs::remove_dir_all(folder).unwrap();
     }

@@ -1,0 +1,129 @@
+#!/usr/bin/env python3
+"""Tests the JSON of `/status`, the page that shows it, and who may read both."""
+import base64, contextlib, hashlib, json, os, re, time
+
+import server as servers
+from limits import CHEAP, basic, users
+from playing import play, until
+from restarts import by_signal, folder, opened, push, pushed
+from server import MANIFEST, TOP, serving, sha256
+
+VIEWS = ["/", "/status", "/status?tenant=acme", "/metrics"]
+
+
+def status_of(client, query=""):
+    answer = client.ask("GET", f"/status{query}")
+    assert (answer.status, answer["Content-Type"], answer["Cache-Control"]) == (200, "application/json", "no-store"), answer.status
+    return json.loads(answer.body)
+
+
+def tenant_of(status, name):
+    return next(tenant for tenant in status["tenants"] if tenant["name"] == name)
+
+
+def the_state_is_that_of_the_store():
+    with serving("--slots", "40", tenants=("acme=1000000", "poor=5")) as server:
+        client = server.client()
+        image = pushed(client, "acme/one", "v1", b"layer")
+        opened(client, "acme/two")
+        status = status_of(client)
+        assert tenant_of(status, "acme") == {"name": "acme", "used": len(b"{}layer"), "quota": 1000000, "repositories": 2}
+        assert tenant_of(status, "poor") == {"name": "poor", "used": 0, "quota": 5, "repositories": 0}
+        assert (status["slots"], status["free_slots"], status["uploads"], status["durable"]) == (40, 38, 1, False)
+        assert status["folder"] is None and abs(status["time"] - time.time()) < 5 and status["time"] - status["started"] < 60
+        acme = status_of(client, "?tenant=acme")
+        tag = {"name": "v1", "digest": sha256(image), "media_type": MANIFEST}
+        assert acme == {"tenant": "acme", "more": False, "repositories": [
+            {"name": "acme/one", "manifests": 1, "tags": [tag], "more_tags": False},
+            {"name": "acme/two", "manifests": 0, "tags": [], "more_tags": False}]}, acme
+        assert status_of(client, "?tenant=poor")["repositories"] == []
+        assert client.ask("GET", "/status?tenant=nobody").status == 404
+
+
+def what_the_collector_freed_is_shown():
+    with serving("--sweep-ms", "0") as server:
+        client = server.client()
+        push(client, "acme/one", b"garbage")
+        assert client.ask("DELETE", f"/v2/acme/one/blobs/{sha256(b'garbage')}").status == 202
+        assert until(lambda: status_of(client)["collector"]["freed"] == 1)
+        collector = status_of(client)["collector"]
+        assert collector["sweeps"] >= 1 and collector["held"] == 0
+        assert [(sweep["freed"], sweep["held"]) for sweep in collector["last"]] == [(1, 0)]
+        assert abs(collector["last"][0]["time"] - time.time()) < 10
+
+
+def a_folder_has_commits_and_lengths():
+    with folder() as path:
+        with serving("--data", path, "--min-free", "1") as server:
+            client = server.client()
+            pushed(client)
+            status = status_of(client)
+            assert status["durable"] and abs(status["folder"]["last_commit"] - time.time()) < 10
+            kept = status["folder"]
+            assert kept["commits"] == server.metric("registryd_database_commits_total") > 0
+            assert kept["last_commit"] == server.metric("registryd_last_commit_timestamp_seconds")
+            assert kept["log_bytes"] == os.path.getsize(f"{path}/log") and kept["min_free_bytes"] == 1 < kept["free_bytes"]
+            by_signal(server)
+        with serving("--data", path) as server:
+            assert [repo["name"] for repo in status_of(server.client(), "?tenant=acme")["repositories"]] == ["acme/one"]
+
+
+def repositories_have_pages():
+    with serving() as server:
+        client = server.client()
+        for number in range(103):
+            opened(client, f"acme/r{number:03}") if number < 60 else push(client, f"acme/r{number:03}", b"x")
+        for number in range(22):
+            pushed(client, "acme/r000", f"t{number:02}")
+        first = status_of(client, "?tenant=acme&n=1000")
+        assert (len(first["repositories"]), first["more"]) == (100, True)
+        assert (len(first["repositories"][0]["tags"]), first["repositories"][0]["more_tags"]) == (20, True)
+        second = status_of(client, "?tenant=acme&last=acme/r099")
+        assert ([repo["name"] for repo in second["repositories"]], second["more"]) == (["acme/r100", "acme/r101", "acme/r102"], False)
+        two = status_of(client, "?tenant=acme&last=acme%2Fr001&n=2")
+        assert ([repo["name"] for repo in two["repositories"]], two["more"]) == (["acme/r002", "acme/r003"], True)
+
+
+def the_page_runs_its_own_script_alone():
+    """The policy names the hashes of the page's style and script (Content Security Policy Level 3, 2.3.1)."""
+    with serving() as server:
+        answer = server.client().ask("GET", "/")
+        assert (answer.status, answer["Content-Type"]) == (200, "text/html; charset=utf-8")
+        policy = dict(rule.strip().split(" ", 1) for rule in answer["Content-Security-Policy"].split(";"))
+        for element in ("style", "script"):
+            texts = re.findall(f"<{element}>(.*?)</{element}>", answer.body.decode(), re.DOTALL)
+            sums = ["'sha256-" + base64.b64encode(hashlib.sha256(text.encode()).digest()).decode() + "'" for text in texts]
+            assert policy[f"{element}-src"].split() == sums and len(sums) == 1, element
+        assert policy["default-src"] == policy["frame-ancestors"] == "'none'" and policy["connect-src"] == "'self'"
+        assert answer["X-Content-Type-Options"] == "nosniff"
+        head = server.client().ask("HEAD", "/")
+        assert (head.status, head.body, head["Content-Length"]) == (200, b"", str(len(answer.body)))
+        for path in VIEWS:
+            refused = server.client().ask("POST", path)
+            assert (refused.status, refused["Allow"]) == (405, "GET, HEAD"), path
+
+
+def only_the_administrator_may_read():
+    with users(f"acme:{CHEAP}", f"admin:{CHEAP}") as file:
+        def statuses(server, name):
+            return {server.client(basic(f"{name}:secret")).ask("GET", path).status for path in VIEWS}
+        with serving("--htpasswd", file) as server:
+            assert statuses(server, "acme") == statuses(server, "admin") == {403}
+        with serving("--htpasswd", file, "--metrics-user", "admin") as server:
+            assert (statuses(server, "acme"), statuses(server, "admin")) == ({403}, {200})
+            answer = server.client().ask("GET", "/")
+            assert answer.status == 401 and answer["WWW-Authenticate"].startswith("Basic ")
+        with serving("--metrics-listen", "127.0.0.1:0") as server:
+            assert {server.client().ask("GET", path).status for path in VIEWS} == {404}
+            watcher = servers.Client(server.wait_for(r"serving metrics address=(\S+)"))
+            assert {watcher.ask("GET", path).status for path in VIEWS} == {200}
+
+
+def main():
+    play("views", [
+        the_state_is_that_of_the_store, what_the_collector_freed_is_shown, a_folder_has_commits_and_lengths, repositories_have_pages,
+        the_page_runs_its_own_script_alone, only_the_administrator_may_read])
+
+
+if __name__ == "__main__":
+    main()
