@@ -1,5 +1,5 @@
 #!/usr/bin/env python3
-"""Tests the JSON of `/status`, the page that shows it, and who may read both."""
+"""Tests the JSON of `/status`, the page that shows it, who may read both, and the dashboard's metrics."""
 import base64, contextlib, hashlib, json, os, re, time
 
 import server as servers
@@ -119,10 +119,26 @@ def only_the_administrator_may_read():
             assert {watcher.ask("GET", path).status for path in VIEWS} == {200}
 
 
+def the_dashboard_shows_metrics_that_exist():
+    """Each metric of docs/grafana.json, and each label of its queries."""
+    with open(f"{os.path.dirname(TOP)}/docs/grafana.json") as file:
+        board = json.load(file)
+    queries = [target["expr"] for panel in board["panels"] for target in panel["targets"]]
+    with folder() as path, serving("--data", path) as server:
+        pushed(server.client())
+        text = server.client().ask("GET", "/metrics").body.decode()
+    there = {re.match(r"\w+", line).group() for line in text.splitlines() if not line.startswith("#")}
+    named = set(re.findall(r"registryd_\w+", " ".join(queries)))
+    assert named <= there, named - there
+    assert there - named == {"registryd_request_seconds_sum", "registryd_request_seconds_count"}, there - named
+    labels = {label for group in re.findall(r"by \(([^)]*)\)", " ".join(queries)) for label in group.split(", ")}
+    assert labels == {"status", "method", "le"} and all(f'{label}="' in text for label in labels), labels
+
+
 def main():
     play("views", [
         the_state_is_that_of_the_store, what_the_collector_freed_is_shown, a_folder_has_commits_and_lengths, repositories_have_pages,
-        the_page_runs_its_own_script_alone, only_the_administrator_may_read])
+        the_page_runs_its_own_script_alone, only_the_administrator_may_read, the_dashboard_shows_metrics_that_exist])
 
 
 if __name__ == "__main__":
