@@ -1,6 +1,7 @@
 #!/usr/bin/env python3
 """Tests the JSON of `/status`, the page that shows it, who may read both, and the dashboard's metrics."""
-import base64, contextlib, hashlib, json, os, re, time
+import base64, hashlib, json, os, re, shutil, tempfile, time
+from unittest import mock
 
 import server as servers
 from limits import CHEAP, basic, users
@@ -119,6 +120,22 @@ def only_the_administrator_may_read():
             assert {watcher.ask("GET", path).status for path in VIEWS} == {200}
 
 
+def the_store_is_verified_if_a_record_names_its_program():
+    with tempfile.TemporaryDirectory() as path:
+        program = shutil.copy(servers.BLOBD, f"{path}/blobd")
+        with open(program, "rb") as file:
+            own = hashlib.sha256(file.read()).hexdigest()
+        for named in (own, own[::-1]):
+            with open(f"{program}.proved", "w") as file:
+                file.write(f"sha256 {named}\ncommit 12ab\nsources 34cd\ntoolchain kit 1\nproved-by rt ci\ndate today\n")
+            with mock.patch.object(servers, "BLOBD", program), serving() as server:
+                store = status_of(server.client())["store"]
+                assert (store["verified"], server.metric("registryd_store_verified")) == (named == own, named == own)
+                assert ("NOT VERIFIED" in server.logged()) == (named != own)
+                if named == own:
+                    assert store == {"verified": True, "commit": "12ab", "toolchain": "kit 1", "proved_by": "rt ci", "date": "today"}
+
+
 def the_dashboard_shows_metrics_that_exist():
     """Each metric of docs/grafana.json, and each label of its queries."""
     with open(f"{os.path.dirname(TOP)}/docs/grafana.json") as file:
@@ -138,7 +155,8 @@ def the_dashboard_shows_metrics_that_exist():
 def main():
     play("views", [
         the_state_is_that_of_the_store, what_the_collector_freed_is_shown, a_folder_has_commits_and_lengths, repositories_have_pages,
-        the_page_runs_its_own_script_alone, only_the_administrator_may_read, the_dashboard_shows_metrics_that_exist])
+        the_page_runs_its_own_script_alone, the_store_is_verified_if_a_record_names_its_program, only_the_administrator_may_read,
+        the_dashboard_shows_metrics_that_exist])
 
 
 if __name__ == "__main__":
