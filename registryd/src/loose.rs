@@ -71,23 +71,34 @@ impl LooseBlobs {
     /// Adds a blob that was linked, or begins its time anew, unless the store refused to link it.
     pub fn end_link<T>(&self, repo: &str, digest: &str, answer: &Answer<T>) {
         if !matches!(answer, Ok(Err(_))) {
-            self.add(repo, digest);
+            self.add(repo, digest, |loose| loose.is_leaving = false);
         }
     }
 
-    /// Adds a blob, or begins its time anew.
-    fn add(&self, repo: &str, digest: &str) {
+    /// Adds a blob, or begins its time anew and changes it.
+    fn add(&self, repo: &str, digest: &str, change: impl FnOnce(&mut Loose)) {
         if !self.is_on {
             return;
         }
-        let key = (repo.to_string(), digest.to_string());
-        let before = self.by_key.lock().unwrap().insert(key, Loose { since: Instant::now(), is_leaving: false });
-        if let (None, Some(writer)) = (before, &self.writer) {
+        let mut by_key = self.by_key.lock().unwrap();
+        match by_key.get_mut(&(repo.to_string(), digest.to_string())) {
+            Some(loose) => {
+                loose.since = Instant::now();
+                change(loose);
+                return;
+            }
+            None => {
+                let loose = Loose { since: Instant::now(), is_leaving: false };
+                by_key.insert((repo.to_string(), digest.to_string()), loose);
+            }
+        }
+        drop(by_key);
+        if let Some(writer) = &self.writer {
             writer.note(Change::AddLooseBlob { repo: repo.to_string(), digest: digest.to_string() });
         }
     }
 
-    /// Removes a blob that is unlinked, or to which a manifest refers.
+    /// Removes a blob that is unlinked.
     fn remove(&self, repo: &str, digest: &str) {
         let removed = self.by_key.lock().unwrap().remove(&(repo.to_string(), digest.to_string()));
         if let (Some(_), Some(writer)) = (removed, &self.writer) {
@@ -118,6 +129,14 @@ impl LooseBlobs {
             loose.is_leaving = false;
         }
     }
+
+    /// Removes a blob to which a manifest refers, unless a manifest that refers to it was deleted in this time.
+    fn keep_linked(&self, key: &Key, time: Duration) {
+        self.undo_unlink(key);
+        if self.begin_unlink(key, time) {
+            self.remove(&key.0, &key.1);
+        }
+    }
 }
 
 impl Registry {
@@ -134,9 +153,9 @@ impl Registry {
         }
     }
 
-    /// Adds the blobs of a manifest that was deleted.
+    /// Adds the blobs of a manifest that was deleted. One that is being unlinked stays marked.
     pub fn loosen(&self, repo: &str, blobs: &[String]) {
-        blobs.iter().for_each(|digest| self.loose.add(repo, digest));
+        blobs.iter().for_each(|digest| self.loose.add(repo, digest, |_| ()));
     }
 
     /// Unlinks the blobs that nobody has asked for in this time and to which no manifest refers.
@@ -153,7 +172,7 @@ impl Registry {
                     self.loose.remove(repo, digest);
                 }
                 Ok(Err(Refusal { reason: Reason::Memory, .. })) => self.loose.undo_unlink(&key),
-                Ok(Err(_)) => self.loose.remove(repo, digest),
+                Ok(Err(_)) => self.loose.keep_linked(&key, time),
                 // The store may still unlink it. It stays marked, and the store is asked again.
                 Err(StoreUnavailable) => {}
             }
@@ -192,6 +211,22 @@ mod tests {
         loose.remove(&key.0, &key.1);
         loose.end_link(&key.0, "sha256:b", &Ok::<Result<(), _>, _>(Err(Refusal::of(Reason::DigestInvalid))));
         assert!(!loose.begin_unlink(&key, ALWAYS) && loose.unasked(ALWAYS).is_empty());
+    }
+
+    #[test]
+    fn a_blob_whose_manifest_is_deleted_during_its_unlink_stays_here() {
+        let key = ("acme/web".to_string(), "sha256:a".to_string());
+        let loose = LooseBlobs::new(None, vec![key.clone()]);
+        let time = Duration::from_millis(200);
+        std::thread::sleep(time);
+        assert!(loose.begin_unlink(&key, time));
+        loose.add(&key.0, &key.1, |_| ());
+        assert!(loose.ask(&key.0, &key.1).is_err());
+        loose.keep_linked(&key, time);
+        assert!(loose.ask(&key.0, &key.1).is_ok());
+        assert_eq!(loose.unasked(ALWAYS), [key.clone()]);
+        loose.keep_linked(&key, ALWAYS);
+        assert!(loose.unasked(ALWAYS).is_empty());
     }
 
     #[test]
