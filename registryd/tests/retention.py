@@ -98,7 +98,9 @@ def what_nothing_holds_is_deleted():
         assert client.ask("GET", f"/v2/{repo}/manifests/{sha256(image)}").status == 404
         listed = json.loads(client.ask("GET", f"/v2/{repo}/tags/list").body)["tags"]
         assert (listed, untagged(client)) == (["all", "signature"], ({}, 1)), listed
-        assert server.logged().count("deleted a manifest that nothing holds") == 5, server.logged()
+        # A manifest is hidden before it is deleted, and the log has it afterwards.
+        deleted = lambda: server.logged().count("deleted a manifest that nothing holds")
+        assert until(lambda: deleted() == 5), deleted()
 
 
 def what_clients_ask_for_stays():
