@@ -63,7 +63,7 @@ def a_folder_has_commits_and_lengths():
             kept = status["folder"]
             assert kept["commits"] == server.metric("registryd_database_commits_total") > 0
             assert kept["last_commit"] == server.metric("registryd_last_commit_timestamp_seconds")
-            assert kept["log_bytes"] == os.path.getsize(f"{path}/log.1") and kept["min_free_bytes"] == 1 < kept["free_bytes"]
+            assert kept["log_bytes"] == os.path.getsize(f"{path}/log") and kept["min_free_bytes"] == 1 < kept["free_bytes"]
             by_signal(server)
         with serving("--data", path) as server:
             assert [repo["name"] for repo in status_of(server.client(), "?tenant=acme")["repositories"]] == ["acme/one"]
