@@ -131,25 +131,26 @@ def a_folder_is_copied_while_clients_push():
 
 
 def a_copy_may_end_anywhere():
-    """Cuts the copied log at places after those that it had when the backup began: each is a possible end of a copy."""
+    """Cuts the copied log at places after those that it had when the database was copied: each is a possible end of a copy."""
     copying, _ = blocks(DOCUMENT, "While clients push")
     restoring = only(blocks(DOCUMENT, "Restore"))
+    measuring = "stat --format %s /srv/registry/log > \"$copy/begun\"\nsleep 0.2\ncp /srv"
+    assert copying.count("cp /srv") == 1
     with machine() as (folder, shell):
-        log, begun = f"{folder}/srv/registry/log", [0]
         with serving("--data", f"{folder}/srv/registry", tenants=TENANTS) as server:
             busy = Busy(server)
-            def copy():
-                begun[0] = os.path.getsize(log)
-                shell.type(copying)
-            busy.copy(copy)
+            busy.copy(lambda: shell.type(copying.replace("cp /srv", measuring)))
             busy.stop()
             server.end()
-        copied = f"{folder}/backup/{max(os.listdir(f'{folder}/backup'))}/log"
+        backup = f"{folder}/backup/{max(os.listdir(f'{folder}/backup'))}"
+        copied = f"{backup}/log"
+        with open(f"{backup}/begun") as file:
+            begun = int(file.read())
         length = os.path.getsize(copied)
-        assert length > begun[0], "nothing was appended during the backup"
+        assert length > begun, "nothing was appended during the backup"
         shutil.copy(copied, f"{folder}/copied")
         for seed in range(3):
-            end = random.Random(seed).randrange(begun[0], length)
+            end = random.Random(seed).randrange(begun, length)
             shutil.copy(f"{folder}/copied", copied)
             os.truncate(copied, end)
             with started(shell, restoring) as client:
