@@ -31,10 +31,10 @@ def compares(name, found, wanted):
         fault(f"{name}: {str(found)[:300]}, and not {str(wanted)[:300]}")
 
 
-def stops(name, found, status, *texts):
+def stops(name, found, status, *texts, lines=1):
     """Checks the status of a run that served nothing, and that its message has these texts."""
     compares(f"{name}, status and standard output", found[:2], (status, b""))
-    compares(f"{name}, lines on standard error", (found[2].count("\n"), found[2][:7]), (1, "blobd: "))
+    compares(f"{name}, lines on standard error", (found[2].count("\n"), found[2][:7]), (lines, "blobd: "))
     missing = [str(text) for text in texts if not re.search(rf"(?<!\w){re.escape(str(text))}(?!\w)", found[2])]
     compares(f"{name}, what the message {found[2]!r} does not name", missing, [])
 

@@ -9,7 +9,7 @@ use crate::durable_serving::{ServeFault, serve_log};
 use crate::flags::LogOptions;
 use crate::opening::{OpenLog, open_log, seek_frames};
 use crate::progress::{Progress, Work};
-use crate::rewriting::{NewLog, ReplaceError, Replacement, keep_old};
+use crate::rewriting::{NewLog, ReplaceError, Replacement, When, keep_old, rewritten};
 use crate::service_end::EndCell;
 use crate::stop::Stop;
 use crate::totals::conclude;
@@ -121,8 +121,8 @@ fn serve_old<'w, I: Read + Send + Drop, O: Write + Send + Drop>(
     }
 }
 
-/// Serves connections on a store with the rewritten log of a folder, and prints its totals. If that log cannot be replayed or
-/// renamed, the old one is used.
+/// Serves connections on a store with the rewritten log of a folder, and prints its totals. Returns `false` if that log cannot be
+/// replayed or renamed: then it is removed, and the old one is still there.
 fn serve_new_log<'w, I: Read + Send + Drop, O: Write + Send + Drop>(
     rt: &HostRuntime,
     threads: &(impl Threads + Wait + Sync),
@@ -132,7 +132,7 @@ fn serve_new_log<'w, I: Read + Send + Drop, O: Write + Send + Drop>(
     new: NewLog,
     end: &EndCell,
     lines: &mut [Connection<I, O>],
-) -> Result<(), Stop<'w>>
+) -> Result<bool, Stop<'w>>
     requires { IsWithin (options.now).store }
 {
     let parts = parts_of(rt, options, how)?;
@@ -144,15 +144,42 @@ fn serve_new_log<'w, I: Read + Send + Drop, O: Write + Send + Drop>(
         is,
     });
     let reason = match serve_folder(rt, threads, how.folder, parts, log, new, end, lines) {
-        Ok(totals) => return conclude(rt, totals, lines),
+        Ok(totals) => {
+            conclude(rt, totals, lines)?;
+            return Ok(true);
+        }
         Err(ServeFault::Record { .. }) => "a record of the new log cannot be replayed",
         Err(ServeFault::Read(_)) => "the new log cannot be read",
         Err(ServeFault::Replace(ReplaceError::Rename(_))) => "the new log cannot be renamed",
         Err(fault) => return Err(fault_stop(how.folder, fault)),
     };
     keep_old(rt, folder, &reason)?;
-    let log = open_log(rt, folder, how.accepted_loss)?;
-    serve_old(rt, threads, options, how, log, end, lines)
+    Ok(false)
+}
+
+/// Serves connections on a store with a log that a replay refused with this stop, because the settings are too small. The store
+/// may have needed more only for a time. So the log is rewritten, and has only what is there at its end.
+fn serve_without_past<'w, I: Read + Send + Drop, O: Write + Send + Drop>(
+    rt: &HostRuntime,
+    threads: &(impl Threads + Wait + Sync),
+    options: &Options<'w>,
+    folder: &DataFolder<'w>,
+    how: LogOptions<'w>,
+    refused: Stop<'w>,
+    end: &EndCell,
+    lines: &mut [Connection<I, O>],
+) -> Result<(), Stop<'w>>
+    requires { IsWithin (options.now).store }
+{
+    let mut log = open_log(rt, folder, how.accepted_loss)?;
+    let Some(new) = rewritten(rt, folder, &mut log, When::Always)? else {
+        return Err(refused);
+    };
+    drop(log);
+    if serve_new_log(rt, threads, options, folder, how, new, end, lines)? {
+        return Ok(());
+    }
+    Err(refused)
 }
 
 /// Serves connections on a store with the log of a folder, or with the rewritten log if there is one.
@@ -169,11 +196,20 @@ pub fn serve_either<'w, I: Read + Send + Drop, O: Write + Send + Drop>(
 ) -> Result<(), Stop<'w>>
     requires { IsWithin (options.now).store }
 {
-    match new {
+    let log = match new {
         Some(new) => {
             drop(log);
-            serve_new_log(rt, threads, options, folder, how, new, end, lines)
+            if serve_new_log(rt, threads, options, folder, how, new, end, lines)? {
+                return Ok(());
+            }
+            open_log(rt, folder, how.accepted_loss)?
         }
-        None => serve_old(rt, threads, options, how, log, end, lines),
+        None => log,
+    };
+    match serve_old(rt, threads, options, how, log, end, lines) {
+        Err(stop) if stop.is_of_settings() => {
+            serve_without_past(rt, threads, options, folder, how, stop, end, lines)
+        }
+        done => done,
     }
 }

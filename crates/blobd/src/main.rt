@@ -50,7 +50,7 @@ use crate::data_folder::DataFolder;
 use crate::flags::LogOptions;
 use crate::log_service::serve_either;
 use crate::opening::{accept_loss, open_log};
-use crate::rewriting::rewritten;
+use crate::rewriting::{When, rewritten};
 use crate::service_end::{EndCell, ServiceEnd};
 use crate::serving::serve_new;
 use crate::stop::Stop;
@@ -163,7 +163,7 @@ fn run_once<'w>(
     requires { IsWithin (options.now).store }
 {
     let mut log = open_log(rt, folder, how.accepted_loss)?;
-    let new = rewritten(rt, folder, &mut log)?;
+    let new = rewritten(rt, folder, &mut log, When::Wasteful)?;
     if options.paths.is_empty() {
         let line = buffered(rt, rt.reader(), io::writer(rt))?;
         return serve_either(

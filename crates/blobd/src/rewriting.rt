@@ -128,39 +128,49 @@ fn write_new(
     }
 }
 
-/// Returns the filter for a log, with its inventory, or `None` if at least half of the log is needed.
+/// When a log is rewritten.
+#[derive(Clone, Copy, PartialEq, Eq)]
+pub enum When {
+    /// If it is longer than a MiB and less than half of it is needed.
+    Wasteful,
+    /// In any case.
+    Always,
+}
+
+/// Returns the filter for a log, with its inventory, or `None` if at least half of the log is needed and it is not rewritten then.
 fn filter_of(
     rt: &HostRuntime,
     folder: &str,
     log: &mut OpenLog,
+    when: When,
 ) -> Result<Option<(Inventory, Filter)>, RewriteError> {
     let work = Work {
         verb: "examining",
         file: "/log",
     };
     let inventory = inventory_of(rt, folder, work, log)?;
-    if inventory.live() >= inventory.total() / 2 {
+    if when == When::Wasteful && inventory.live() >= inventory.total() / 2 {
         return Ok(None);
     }
     let filter = inventory.filter()?;
     Ok(Some((inventory, filter)))
 }
 
-/// Rewrites a log into `log.new`, and compares the states that both leave. Returns `None` if the log is small, or if at least half
-/// of it is needed.
+/// Rewrites a log into `log.new`, and compares the states that both leave. Returns `None` if it is not to be rewritten.
 fn rewrite(
     rt: &HostRuntime,
     folder: &DataFolder<'_>,
     log: &mut OpenLog,
+    when: When,
 ) -> Result<Option<NewLog>, RewriteError> {
     let was = match log.file.seek(SeekFrom::End(0)) {
         Ok(length) => length,
         Err(error) => return Err(RewriteError::of_read(error)),
     };
-    if was <= SMALL {
+    if when == When::Wasteful && was <= SMALL {
         return Ok(None);
     }
-    let Some((inventory, filter)) = filter_of(rt, folder.path, log)? else {
+    let Some((inventory, filter)) = filter_of(rt, folder.path, log, when)? else {
         return Ok(None);
     };
     let mut new = match folder.create_new(rt) {
@@ -198,8 +208,8 @@ pub fn keep_old<'w>(
     folder.remove_unfinished(rt)
 }
 
-/// Rewrites a log into `log.new` if it is longer than a MiB and less than half of its records are needed. If this is not possible,
-/// prints why, and the log stays as it is. The old log is not changed in any case.
+/// Rewrites a log into `log.new`, if it is the time to. If this is not possible, prints why, and the log stays as it is. The old log is
+/// not changed in any case.
 ///
 /// # Errors
 ///
@@ -209,8 +219,9 @@ pub fn rewritten<'w>(
     rt: &HostRuntime,
     folder: &DataFolder<'w>,
     log: &mut OpenLog,
+    when: When,
 ) -> Result<Option<NewLog>, Stop<'w>> {
-    match rewrite(rt, folder, log) {
+    match rewrite(rt, folder, log, when) {
         Ok(new) => Ok(new),
         Err(error) => {
             keep_old(rt, folder, &error)?;

@@ -88,6 +88,11 @@ impl From<TenantFault> for Stop<'_> {
 }
 
 impl Stop<'_> {
+    /// Returns whether the store that wrote the log had other settings.
+    pub fn is_of_settings(&self) -> bool {
+        matches!(self, Stop::Settings { .. })
+    }
+
     /// Returns the exit status, 2 to 10. `docs/OPERATIONS.md` lists them.
     pub fn status(&self) -> u8
         ensures { result ≡ stop_status self.now }
