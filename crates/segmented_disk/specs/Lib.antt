@@ -1,0 +1,4 @@
+pub mod Cells
+pub mod Invariants
+pub mod Survivors
+pub mod Views

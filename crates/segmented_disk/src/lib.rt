@@ -1,0 +1,10 @@
+//! A disk of segments: logs of frames, of which only the last is written.
+#![tactic(auto)]
+
+mod bytes_cell;
+mod folder;
+mod segmented_disk;
+
+pub use bytes_cell::NoBytes;
+pub use folder::SegmentFolder;
+pub use segmented_disk::SegmentedDisk;
