@@ -4,7 +4,7 @@ import random
 import threading
 import time
 
-from data_folder import Ended
+from data_folder import Ended, log_files
 from frames import ABANDON, APPEND, BLOB_UNKNOWN, CLOSE, DELETE, START, STAT, STATUS, USAGE, sha256
 from kills import lose_power
 from model import Fault
@@ -107,14 +107,11 @@ class Crowd:
 
 def crowds(room):
     """Kills the program, and takes the power away, while all connections work in one tenant."""
-    trace = room.path / "trace"
     for number in range(ROUNDS * room.long):
         if number % 3 == 0:
             folder, crowd = room.fresh(), Crowd()
-        log = folder / "log"
-        before = log.read_bytes() if log.exists() else b""
-        trace.unlink(missing_ok=True)
-        settings = {"CRASH_TRACE": str(trace), "CRASH_SYNC_MS": str(room.rng.choice([0, 2, 5]))}
+        before = log_files(folder)
+        settings = {**room.traced(), "CRASH_SYNC_MS": str(room.rng.choice([0, 2, 5]))}
         blobd = room.starts(folder, connections=CONNECTIONS, settings=settings)
         lines = blobd.opens()
         threads = [

@@ -4,6 +4,7 @@ import collections
 import errno
 import os
 import pathlib
+import re
 import select
 import signal
 import struct
@@ -118,6 +119,55 @@ def stated_syncs(data):
     return found
 
 
+def numbered(folder, kind):
+    """Returns the files of a folder whose names are a kind (`log` or `base`) and a number, by this number."""
+    names = ((path, re.fullmatch(rf"{kind}\.([1-9][0-9]*)", path.name)) for path in folder.glob(f"{kind}.*"))
+    return {int(name[1]): path for path, name in names if name}
+
+
+class FolderLog:
+    """The log in a folder: its files in order, which are the last base, if there is one, and the segments after it."""
+
+    def __init__(self, folder):
+        bases, logs = numbered(folder, "base"), numbered(folder, "log")
+        base = max(bases, default=0)
+        self.base = bases.get(base)
+        self.paths = [self.base] if base else []
+        self.paths += [logs[number] for number in sorted(logs) if number > base]
+        self.last = self.paths[-1] if self.paths else folder / "log.1"
+
+    def length(self):
+        """Returns the lengths of its files, in all."""
+        return sum(path.stat().st_size for path in self.paths)
+
+    def numbers(self):
+        """Returns the ids of its files."""
+        return [int.from_bytes(path.read_bytes()[16:24], "little") for path in self.paths]
+
+    def is_in_order(self):
+        """Returns whether each id is the one after that of the file before it."""
+        numbers = self.numbers()
+        return all(later == earlier + 1 & WORD for earlier, later in zip(numbers, numbers[1:]))
+
+
+def log_length(folder):
+    """Returns the length of the log in a folder."""
+    return FolderLog(folder).length()
+
+
+def log_files(folder):
+    """Returns the bytes of all files in a folder that belong to a log, also of those that are being made or were replaced."""
+    return {path.name: path.read_bytes() for kind in ("log", "base") for path in folder.glob(f"{kind}*") if path.is_file()}
+
+
+def puts_log(folder, files):
+    """Leaves these files in a folder as those of its log, and no others."""
+    for name in log_files(folder):
+        (folder / name).unlink()
+    for name, data in files.items():
+        (folder / name).write_bytes(data)
+
+
 def build_shim(room):
     """Compiles shim.c. Returns the path of the library."""
     library = room / "shim.so"
@@ -126,33 +176,33 @@ def build_shim(room):
 
 
 class Trace:
-    """What the shim has written about the calls on a log."""
+    """What the shim has written about the calls on a log: the calls with their first words, and for each sync the length."""
 
     def __init__(self, path):
         lines = [line.split(" ") for line in path.read_text().splitlines()] if path.exists() else []
-        self.calls = [(call, " ".join(name)) for call, *name, _ in lines]
-        self.lengths = [int(last) if call == "sync" else 0 for call, *_, last in lines]
+        self.lines = [(call, " ".join(name), last) for call, *name, last in lines]
+        self.calls = [(call, name) for call, name, _ in self.lines]
 
-    def renames(self):
-        """Returns the places of the last two calls that gave a new log its name, or -1."""
-        places = [place for place, call in enumerate(self.calls) if call[0] == "rename"]
-        return ([-1, -1] + places)[-2:]
-
-    def renamed(self):
-        """Returns the place of the last call that gave a new log its name, or -1."""
-        return self.renames()[1]
+    def syncs_by_name(self):
+        """Returns the lengths at its syncs of each file, by the name that it has at last."""
+        found = collections.defaultdict(list)
+        for call, name, last in self.lines:
+            if call == "sync":
+                found[name].append(int(last))
+            elif call == "rename":
+                found[last] = found.pop(name, [])
+        return found
 
     def syncs(self):
-        """Returns the lengths at its syncs of the file that has the log's name now."""
-        before, last = self.renames()
-        named = [("sync", "log.new") if before < place < last else ("sync", "log") for place in range(len(self.calls))]
-        calls = list(zip(self.calls, named, self.lengths))[before + 1 :]
-        return [length for call, name, length in calls if call == name]
+        """Returns the lengths at their syncs of all files that are no base."""
+        return [length for name, lengths in self.syncs_by_name().items() if name.startswith("log") for length in lengths]
 
-    def is_name_sure(self):
-        """Returns whether a folder was synced after the last rename."""
-        later = self.calls[self.renamed():]
-        return self.renamed() < 0 or any(call == "sync" and name.startswith("/") for call, name in later)
+    def unsure_names(self):
+        """Returns the renames and removals after the last sync of a folder, the last one first: pairs of the names before and after.
+        The second one is "" for a removed file."""
+        folders = [place for place, (call, name) in enumerate(self.calls) if call == "sync" and name.startswith("/")]
+        later = self.lines[max(folders, default=-1) + 1:]
+        return [(name, last if call == "rename" else "") for call, name, last in reversed(later) if call in ("rename", "unlink")]
 
 
 Reply = collections.namedtuple("Reply", "status first second digest body")

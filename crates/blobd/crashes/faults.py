@@ -5,7 +5,7 @@ import subprocess
 import threading
 import time
 
-from data_folder import PATIENCE, Trace
+from data_folder import PATIENCE, Trace, log_length
 from frames import GREETING, SWEEP
 from kills import lose_power
 from model import MIB, Client
@@ -32,9 +32,8 @@ def wrong_options(room):
 def failing(room, name, status, settings=None, around=(), lost=False):
     """Lets a disk fail while the clients work. The program must end with the status. All that was replied to is there after a restart,
     also if the kernel has dropped what was not synced."""
-    folder, everybody, trace = room.fresh(), clients(room), room.path / "trace"
-    trace.unlink(missing_ok=True)
-    settings = {"CRASH_TRACE": str(trace), **(settings or {})}
+    folder, everybody = room.fresh(), clients(room)
+    settings = {**room.traced(), **(settings or {})}
     # nobody uses the last connection, which must not keep the program from ending
     blobd = room.starts(folder, "--sync", "each", connections=len(everybody) + 1, around=around, settings=settings)
     lines = blobd.opens()
@@ -44,9 +43,9 @@ def failing(room, name, status, settings=None, around=(), lost=False):
     blobd.process.wait()
     timer.cancel()
     ended = blobd.ends()
-    stops(name, (ended[0], b"", ended[1]), status, folder / "log")
+    stops(name, (ended[0], b"", ended[1]), status, f"cannot write the log in {folder}")
     if lost:
-        lose_power(room, folder, b"")
+        lose_power(room, folder, {})
     all_there(room, folder, everybody)
 
 
@@ -71,7 +70,7 @@ def full_disk(room):
         blobd = room.starts(folder, "--sync", "closes", connections=len(everybody))
         together(everybody, blobd.opens(), "closes")
         ended = blobd.ends()
-        stops("a full disk", (ended[0], b"", ended[1]), 9, folder / "log")
+        stops("a full disk", (ended[0], b"", ended[1]), 9, f"cannot write the log in {folder}")
         full = room.runs(folder)
         compares("the status of a start on a full disk", full[0] in (0, 9), True)
         subprocess.run(["mount", "-o", "remount,size=32m", folder], check=True)
@@ -96,10 +95,10 @@ def folders(room):
         compares("a first start", room.runs(folder)[:2], (0, GREETING))
         folder.chmod(0o777)
         (folder / "lock").chmod(0o666)
-        (folder / "log").chmod(rights)
-        stops(f"a log with the rights {rights:o}", room.runs(folder, user=user), 6, folder / "log")
-    (other / "log").mkdir()
-    stops("a folder for a log", room.runs(other), 6, other / "log")
+        (folder / "log.1").chmod(rights)
+        stops(f"a log with the rights {rights:o}", room.runs(folder, user=user), 6, folder / "log.1")
+    (other / "log.1").mkdir()
+    stops("a folder for a log", room.runs(other), 6, other / "log.1")
 
 
 def two_programs(room):
@@ -144,23 +143,28 @@ def signals(room):
     all_there(room, folder, [client])
 
 
+def syncs_of_writes(path):
+    """Returns the number of syncs of a log in a trace, without the four that each new segment takes: two of its header, and two at the end
+    of the one before."""
+    trace = Trace(path)
+    return len(trace.syncs()) - 4 * sum(call == ("rename", "log.new") for call in trace.calls)
+
+
 def policies(room):
     """Tests how many syncs each policy makes for 10 chunks and for a close, and that chunks without a close are written all the same."""
-    trace = room.path / "trace"
     for policy, chunks, closes in (("closes", 0, 1), ("each", 10, 1), ("never", 0, 0)):
-        folder = room.fresh()
-        trace.unlink(missing_ok=True)
+        folder, trace = room.fresh(), room.path / "trace"
         client = Client("t0", room.rng)
-        blobd = room.starts(folder, "--sync", policy, settings={"CRASH_TRACE": str(trace)})
+        blobd = room.starts(folder, "--sync", policy, settings=room.traced())
         (line,) = blobd.opens()
         client.plays(line, client.state.starts("t0/one"))
-        found = [len(Trace(trace).syncs())]
+        found = [syncs_of_writes(trace)]
         for _ in range(10):
             client.plays(line, client.state.appends(1, room.rng.randbytes(MIB // 2)), policy)
-        found.append(len(Trace(trace).syncs()))
-        length = (folder / "log").stat().st_size
+        found.append(syncs_of_writes(trace))
+        length = log_length(folder)
         client.plays(line, client.state.closes(1, b""))
-        found.append(len(Trace(trace).syncs()))
+        found.append(syncs_of_writes(trace))
         compares(f"the syncs with {policy}", [after - before for before, after in zip(found, found[1:])], [chunks, closes])
         compares(f"a log with chunks of 5 MiB, of which 2 MiB may wait, with {policy}", length > 3 * MIB, True)
         ends_well("a program with a policy", blobd)
@@ -173,6 +177,8 @@ def memory(room):
     blobd = room.starts(folder, "--sync", "never", **words)
     (line,) = blobd.opens()
     (client, *_) = clients(room)
+    # a folder in the way keeps the program from rewriting the log while it runs
+    (folder / "base.new").mkdir()
     for number in range(100):
         client.plays(line, client.state.starts("t0/one"))
         client.plays(line, client.state.closes(number + 1, room.rng.randbytes(MIB)))
@@ -180,7 +186,8 @@ def memory(room):
             client.plays(line, client.state.deletes("t0/one", list(client.state.links)[-1][1]))
             line.calls(SWEEP)
     ends_well("a store with few slots", blobd)
-    compares("a log that is long", (folder / "log").stat().st_size > 100 * MIB, True)
+    (folder / "base.new").rmdir()
+    compares("a log that is long", log_length(folder) > 100 * MIB, True)
     begun = time.monotonic()
     blobd = room.starts(folder, **words)
     (line,) = blobd.opens()

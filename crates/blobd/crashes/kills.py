@@ -6,7 +6,7 @@ import threading
 import time
 
 import data_folder
-from data_folder import HEADER, MARK, Ended, Trace
+from data_folder import HEADER, MARK, Ended, FolderLog, Trace, log_files, log_length, puts_log
 from frames import FREE_SLOTS, GREETING, SWEEP
 from model import MIB, Fault
 from room import SLOTS, all_there, all_there_still, calls_of, clients, compares, counts, ends_well, fault, looks, together
@@ -32,10 +32,10 @@ def restarts(room):
         ends_well("an end", blobd)
     kinds = set().union(*(client.kinds for client in everybody))
     compares("the number of kinds of calls", len(kinds), 14)
-    before = (folder / "log").stat().st_size
+    before = log_length(folder)
     for number in range(3):
         compares("a restart without a call", room.runs(folder)[:2], (0, GREETING))
-        size = (folder / "log").stat().st_size
+        size = log_length(folder)
         if size - before > 2 * MARK:
             fault(f"a restart without a call adds {size - before} bytes to the log")
         before = size
@@ -62,9 +62,7 @@ def kills_after(blobd, everybody, calls):
 def interrupted(room, folder, everybody, policy, promise, shim=True, early=0.0):
     """Starts a program, compares what is there, and kills it while the clients work. Kills it while it starts with the probability
     `early`."""
-    trace = room.path / "trace"
-    trace.unlink(missing_ok=True)
-    settings = {"CRASH_TRACE": str(trace), "CRASH_SYNC_MS": str(room.rng.choice([0, 0, 2, 5]))} if shim else {}
+    settings = {**room.traced(), "CRASH_SYNC_MS": str(room.rng.choice([0, 0, 2, 5]))} if shim else {}
     blobd = room.starts(folder, "--sync", policy, connections=len(everybody), settings=settings)
     if room.rng.random() < early:
         time.sleep(room.rng.uniform(0, 0.05))
@@ -108,37 +106,55 @@ def common_length(one, other):
     return least
 
 
-def lose_power(room, folder, before):
-    """Leaves of the log what a loss of power may leave. `before` are the bytes of the log when the program started."""
-    log, rng, trace = folder / "log", room.rng, Trace(room.path / "trace")
-    counts["losses"] += 1
-    if not trace.is_name_sure() and rng.random() < 0.5:
-        # the folder may still have the old log, or none
-        log.rename(folder / "log.new")
-        if before:
-            log.write_bytes(before)
-    if not log.exists():
-        return
-    written = log.read_bytes()
-    synced = max(trace.syncs(), default=0)
+def forgets_names(room, folder):
+    """Takes back some of the renames and removals of files after which the folder was not synced, the last one first. Returns the lengths
+    at their syncs of the files, by the names that they have then."""
+    trace = Trace(room.path / "trace")
+    syncs = trace.syncs_by_name()
+    for name, new in trace.unsure_names():
+        moved = folder / new if new else room.kept / name
+        if moved.exists() and room.rng.random() < 0.5:
+            moved.rename(folder / name)
+            syncs[name] = syncs.pop(new, [])
+    return syncs
+
+
+def loses_end(room, path, synced, before):
+    """Leaves of a file that is being written what a loss of power may leave. `before` are its bytes when the program started."""
+    rng, written = room.rng, path.read_bytes()
+    synced = min(synced, len(written))
     sure = max(synced, common_length(written, before))
-    compares("frames that state too late a sync", [place for place in data_folder.stated_syncs(written) if place > sure], [])
+    compares(f"frames of {path.name} that state too late a sync", [to for to in data_folder.stated_syncs(written) if to > sure], [])
     kept = rng.choice([synced, rng.randint(synced, len(written))])
     counts["bytes lost"] += len(written) - kept
     if synced:
         tails = b"", b"", bytes(len(written) - kept), bytes(rng.randint(1, 5000)), rng.randbytes(rng.randint(1, 5000))
-        log.write_bytes(written[:kept] + rng.choice(tails))
+        path.write_bytes(written[:kept] + rng.choice(tails))
     else:
         # the old bytes may be there instead of what was written, and after the place where the log was cut
-        log.write_bytes(rng.choice([written, written[:kept] + before[kept:]]))
+        path.write_bytes(rng.choice([written, written[:kept] + before[kept:]]))
+
+
+def lose_power(room, folder, before):
+    """Leaves of the log what a loss of power may leave. `before` are the bytes of its files when the program started. All files but the
+    last segment and those that are being made must have been synced."""
+    counts["losses"] += 1
+    synced = {name: max(lengths, default=0) for name, lengths in forgets_names(room, folder).items()}
+    log = FolderLog(folder)
+    written = [] if log.last == log.base else log.paths[-1:]
+    for path in log.paths[:len(log.paths) - len(written)]:
+        is_sure = synced.get(path.name, 0) >= path.stat().st_size or before.get(path.name) == path.read_bytes()
+        compares(f"whether {path.name} was synced, of {[path.name for path in log.paths]}", is_sure, True)
+    for path in [*written, folder / "log.new", folder / "base.new"]:
+        if path.exists():
+            loses_end(room, path, synced.get(path.name, 0), before.get(path.name, b""))
 
 
 def losses(room):
     """Takes the power away again and again."""
     for folder, everybody, last in in_folders(room, ROUNDS * room.long):
         policy = room.rng.choice(["closes", "each"])
-        log = folder / "log"
-        before = log.read_bytes() if log.exists() else b""
+        before = log_files(folder)
         interrupted(room, folder, everybody, policy, policy, True, EARLY)
         lose_power(room, folder, before)
         if last:
@@ -152,12 +168,13 @@ def finds_losses(room):
     for _ in range(3):
         folder, everybody = room.fresh(), clients(room)
         interrupted(room, folder, everybody, "never", "each")
-        lose_power(room, folder, b"")
+        lose_power(room, folder, {})
         try:
             all_there(room, folder, everybody)
         except Fault:
             found += 1
     compares("whether losses are found with `--sync never`", found > 0, True)
+
 
 def in_order(found, wanted):
     """Returns whether some of the values found are those wanted, in this order."""
@@ -165,49 +182,60 @@ def in_order(found, wanted):
     return all(value in rest for value in wanted)
 
 
-def calls_of_start(room, folder, settings=None):
-    """Starts a program, and returns the calls on its log and its folder before the greeting."""
-    trace = room.path / "trace"
-    trace.unlink(missing_ok=True)
-    blobd = room.starts(folder, settings={"CRASH_TRACE": str(trace), **(settings or {})})
+def ends_early(blobd):
+    """Waits until a program has started, or was killed before."""
     try:
         blobd.opens()
     except Ended:
         pass
-    calls = Trace(trace).calls
+
+
+def calls_of_start(room, folder, settings=None):
+    """Starts a program, and returns the calls on its log and its folder before the greeting."""
+    blobd = room.starts(folder, settings={**room.traced(), **(settings or {})})
+    ends_early(blobd)
+    calls = Trace(room.path / "trace").calls
     blobd.kills()
     return calls
 
 
 def first_starts(room):
     """Tests that a new log is synced before it gets its name, and its folder after that, before the greeting; and that a start after one
-    that was killed before it synced the folder does so. Then tests starts after a first start that was interrupted."""
-    folder, killed = room.fresh() / "new", room.fresh()
+    that was killed before it synced the folder does so. Then tests starts after a first start that was interrupted, and from the log of
+    an earlier version."""
+    folder, other, killed = room.fresh() / "new", room.fresh(), room.fresh()
     calls = calls_of_start(room, folder)
     wanted = [("sync", "log.new"), ("rename", "log.new"), ("sync", str(folder))]
     compares(f"a sync of the folder of a new folder in {calls}", ("sync", str(folder.parent)) in calls, True)
     compares(f"the order of {calls}", in_order(calls, wanted), True)
-    compares("the last calls of a start that is killed", calls_of_start(room, killed, {"CRASH_KILL": "1"})[-2:], wanted[:2])
+    place = calls_of_start(room, other).index(wanted[1]) + 1
+    compares("the last calls of a start that is killed", calls_of_start(room, killed, {"CRASH_KILL": str(place)})[-2:], wanted[:2])
     calls = calls_of_start(room, killed)
     compares(f"a sync of the folder in {calls}", ("sync", str(killed)) in calls, True)
-    header = (folder / "log").read_bytes()[:HEADER]
+    header = (folder / "log.1").read_bytes()[:HEADER]
     for left in (b"", header[:1], header[:31], header, bytes(HEADER), b"something else" * 10):
         folder = room.fresh()
         (folder / "log.new").write_bytes(left)
+        (folder / "base.new").write_bytes(left)
         compares("a start after one that was interrupted", room.runs(folder)[:2], (0, GREETING))
-        compares("a log that was being made", (folder / "log.new").exists(), False)
+        compares("the files after a start", sorted(log_files(folder)), ["log.1"])
     (folder / "log.new").write_bytes(header)
-    before = (folder / "log").read_bytes()
+    before = (folder / "log.1").read_bytes()
     compares("a start with two logs", room.runs(folder)[:2], (0, GREETING))
-    compares("a log that was being made", (folder / "log.new").exists(), False)
-    compares("the log itself", (folder / "log").read_bytes()[:len(before)], before)
+    compares("the files after a start with two logs", sorted(log_files(folder)), ["log.1"])
+    compares("the log itself", (folder / "log.1").read_bytes()[:len(before)], before)
+    (folder / "log.1").rename(folder / "log")
+    compares("a start from the log of an earlier version", room.runs(folder)[:2], (0, GREETING))
+    compares("the files after it", sorted(log_files(folder)), ["log.1"])
+    compares("that log", (folder / "log.1").read_bytes()[:len(before)], before)
 
 
 def litter(room, folder, everybody):
     """Leaves a log of which less than half is live: contents that are there, sessions that are open, and deleted blobs of several
-    MiB. The last tenant keeps nothing but its next number."""
+    MiB. The last tenant keeps nothing but its next number. The program does not rewrite the log, since a folder is in the way."""
     blobd = room.starts(folder, "--sync", "never", connections=len(everybody))
     lines = blobd.opens()
+    (folder / "base.new").mkdir()
     together(everybody, lines, "each", 100)
     for client, line in zip(everybody, lines):
         client.plays(line, client.state.starts(f"{client.tenant}/one"))
@@ -223,6 +251,7 @@ def litter(room, folder, everybody):
     for client in everybody:
         client.promises_all()
     ends_well("a log with litter", blobd)
+    (folder / "base.new").rmdir()
 
 
 def rewriting(room):
@@ -230,17 +259,20 @@ def rewriting(room):
     nothing to do."""
     folder, everybody = room.fresh(), clients(room)
     litter(room, folder, everybody)
-    before = (folder / "log").stat().st_size
+    before, number = log_length(folder), int(FolderLog(folder).last.suffix[1:])
     status, out, text = room.runs(folder)
-    after = (folder / "log").stat().st_size
+    after = log_length(folder)
     compares("a start that rewrites", (status, out), (0, GREETING))
     compares("a log that was rewritten is shorter", after < before / 2, True)
-    told = re.search(r"/log was rewritten: (\d+) of (\d+) bytes are left\n", text)
+    told = re.search(rf"/base\.{number} was written: (\d+) of (\d+) bytes are left\n", text)
     compares(f"the lengths that a start tells which rewrites, {text!r}", told and int(told[2]), before)
-    compares("the length of the new log that it tells", told and 0 <= after - int(told[1]) <= 2 * MARK, True)
-    compares("a log that was being made", (folder / "log.new").exists(), False)
+    compares("the length of the base that it tells", told and int(told[1]), (folder / f"base.{number}").stat().st_size)
+    files = sorted(log_files(folder))
+    compares("the files that it leaves", files, [f"base.{number}", f"log.{number + 1}"])
+    compares("whether their ids are in order", FolderLog(folder).is_in_order(), True)
     room.runs(folder)
-    compares("the growth by another start", 0 <= (folder / "log").stat().st_size - after <= 2 * MARK, True)
+    compares("the growth by another start", 0 <= log_length(folder) - after <= 2 * MARK, True)
+    compares("the files after another start", sorted(log_files(folder)), files)
     blobd = room.starts(folder, connections=len(everybody))
     lines = blobd.opens()
     looks(everybody, blobd)
@@ -252,34 +284,40 @@ def rewriting(room):
 
 
 def interrupted_rewriting(room):
-    """Kills starts that rewrite, and takes the power away from them. Everything is there afterwards."""
-    folder, everybody, trace = room.fresh(), clients(room), room.path / "trace"
+    """Kills starts that rewrite, after each of their calls and at other times, and takes the power away from them. Everything is there
+    afterwards."""
+    folder, everybody = room.fresh(), clients(room)
     litter(room, folder, everybody)
-    data = (folder / "log").read_bytes()
+    before = log_files(folder)
     begun = time.monotonic()
-    room.runs(folder)
+    calls = calls_of_start(room, folder)
     took = time.monotonic() - begun
-    for number in range(ROUNDS * room.long // 2):
-        (folder / "log").write_bytes(data)
-        trace.unlink(missing_ok=True)
-        blobd = room.starts(folder, settings={"CRASH_TRACE": str(trace), "CRASH_SYNC_MS": "5"})
-        time.sleep(room.rng.uniform(0, took))
+    removals = [place for place, (call, _) in enumerate(calls, 1) if call == "unlink"]
+    steps = [place for place in range(1, len(calls) + 1) if place not in removals[2:-1]]
+    for step in steps + [0] * (ROUNDS * room.long // 4):
+        puts_log(folder, before)
+        blobd = room.starts(folder, settings={**room.traced(), "CRASH_KILL": str(step), "CRASH_SYNC_MS": "0" if step else "5"})
+        if step:
+            ends_early(blobd)
+        else:
+            time.sleep(room.rng.uniform(0, took))
         blobd.kills()
         counts["kills"] += 1
-        if number % 2:
-            lose_power(room, folder, data)
+        if room.rng.random() < 0.7:
+            lose_power(room, folder, before)
         all_there_still(room, folder, everybody)
-        compares("a log that was being made", (folder / "log.new").exists(), False)
+        log = FolderLog(folder)
+        compares("the files of a log, and no others", sorted(log_files(folder)), sorted(path.name for path in log.paths))
 
 
 def rewriting_without_room(room):
     """Tests that a start whose disk fails while it rewrites goes on with the old log, or ends. Everything is there afterwards."""
     folder, everybody = room.fresh(), clients(room)
     litter(room, folder, everybody)
-    data = (folder / "log").read_bytes()
+    files = log_files(folder)
     for kind in ("CRASH_FAIL_WRITE", "CRASH_FAIL_SYNC"):
         for number in range(1, 6):
-            (folder / "log").write_bytes(data)
+            puts_log(folder, files)
             blobd = room.starts(folder, connections=len(everybody), settings={kind: str(number)})
             try:
                 for client, connection in zip(everybody, blobd.opens()):
@@ -289,3 +327,21 @@ def rewriting_without_room(room):
             status, text = blobd.ends()
             compares(f"the status of a start with {kind}={number}, {text!r}", status in (0, 6, 9), True)
             all_there_still(room, folder, everybody)
+
+
+def unfinished_replacements(room):
+    """Lets the sync of the folder, or the removal of a file, fail while a start puts a base in place of the log's files. If such a start
+    went on with the old files, all that it acknowledges would be lost."""
+    for kind, most in (("CRASH_FAIL_FOLDER_SYNC", 5), ("CRASH_FAIL_REMOVE", 2)):
+        for number in range(1, most + 1):
+            folder, everybody = room.fresh(), clients(room)
+            litter(room, folder, everybody)
+            blobd = room.starts(folder, connections=len(everybody), settings={kind: str(number)})
+            try:
+                together(everybody, blobd.opens(), "closes", 20)
+            except Ended:
+                pass
+            status, text = blobd.ends()
+            compares(f"the status of a start with {kind}={number}, {text!r}", status in (0, 6), True)
+            all_there(room, folder, everybody)
+            shutil.rmtree(folder)

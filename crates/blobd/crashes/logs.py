@@ -2,7 +2,7 @@
 import struct
 
 import data_folder
-from data_folder import HEADER, MARK, LogReading
+from data_folder import HEADER, MARK, LogReading, log_files, log_length, puts_log
 from frames import GREETING, sha256
 from model import QUOTA, Fault, State
 from room import compares, ends_well, stops
@@ -45,7 +45,7 @@ class SmallLog:
     def __init__(self, room, ends=True):
         self.room, self.tenants = room, {"acme": QUOTA}
         self.folder = room.fresh()
-        self.log = self.folder / "log"
+        self.log = self.folder / "log.1"
         self.states = []
         state = State("acme")
         for part in SMALL_LOG:
@@ -162,6 +162,18 @@ def no_logs(room):
         read_as_it_must(small, name, data)
 
 
+def second_logs(room):
+    """Tests the log of an earlier version, `log`: alone it becomes `log.1`, and beside that the folder is refused."""
+    small = SmallLog(room)
+    second = small.folder / "log"
+    second.write_bytes(small.data)
+    found, _ = small.runs(small.data, small.at(0))
+    stops("two logs", found, 8, second, "another log")
+    compares("two logs, after it", (second.read_bytes(), small.log.read_bytes()), (small.data, small.data))
+    second.unlink()
+    small.starts_with("the other log alone", small.data, small.at(len(small.data)), len(small.data))
+
+
 def accepted_losses(room):
     """Tests that a damaged log is cut at the byte that the message named, if the operator accepts the loss."""
     small = SmallLog(room)
@@ -234,23 +246,27 @@ def other_settings(room):
     _, state = small.states[-1]
     contents = {digest: data for (_, digest), data in state.links.items()}
     longest = max(map(len, contents.values()))
-    cases = {
-        "a missing tenant": ({"tenants": {"other": QUOTA}}, "acme"),
-        "a smaller quota": ({"tenants": {"acme": state.use() - 1}}, "acme"),
-        "fewer slots": ({"slots": 2}, "slots"),
-        "a smaller limit of blobs": ({"most": longest - 1}, "limit"),
-    }
-    for name, (words, text) in cases.items():
-        stops(name, room.runs(small.folder, **{"tenants": small.tenants, **words}), 10, text, lines=2)
-        compares(f"{name}, the log after it", small.log.read_bytes() == small.data, True)
+    files = log_files(small.folder)
     steps = state.observed(small.names)
     given = GREETING + b"".join(step.request for step in steps[1:])
     wanted = GREETING + b"".join(step.reply for step in steps[1:])
+    for name, (words, text) in {
+        "a missing tenant": ({"tenants": {"other": QUOTA}}, "acme"),
+        "a smaller quota": ({"tenants": {"acme": state.use() - 1}}, "acme"),
+        "fewer slots": ({"slots": len(contents) - 1}, "slots"),
+        "a smaller limit of blobs": ({"most": longest - 1}, "limit"),
+    }.items():
+        puts_log(small.folder, files)
+        words = {"tenants": small.tenants, **words}
+        stops(name, room.runs(small.folder, **words), 10, text, lines=2)
+        stops(f"{name}, another start", room.runs(small.folder, **words), 10, text, lines=2)
+        compares(f"{name}, a start with those of before", room.runs(small.folder, given=given, tenants=small.tenants)[:2], (0, wanted))
     for name, words in {
         "more tenants in another order": {"tenants": {"other": 1, "acme": QUOTA, "more": 2}},
         "more of everything": {"tenants": {"acme": 2 * QUOTA}, "slots": 65536, "most": 1 << 40},
         "just enough of everything": {"tenants": {"acme": state.use()}, "slots": len(contents), "most": longest},
     }.items():
+        puts_log(small.folder, files)
         found = room.runs(small.folder, given=given, **{"tenants": small.tenants, **words})
         compares(name, found[:2], (0, wanted))
-    compares("the bytes before and after the past was dropped", small.log.stat().st_size < len(small.data), True)
+    compares("the bytes before and after the past was dropped", log_length(small.folder) < len(small.data), True)

@@ -5,6 +5,7 @@ import shutil
 import subprocess
 import sys
 import threading
+import time
 
 import data_folder
 from data_folder import PATIENCE, Blobd
@@ -49,6 +50,7 @@ class Room:
         shutil.copy(program, self.program)
         self.program.chmod(0o755)
         self.shim = data_folder.build_shim(path)
+        self.kept = path / "kept"
         self.rng = random.Random(1)
         self.made = 0
         self.started = []
@@ -59,6 +61,13 @@ class Room:
         folder = self.path / f"data{self.made}"
         folder.mkdir()
         return folder
+
+    def traced(self):
+        """Returns settings under which the library notes the calls of the next program, and keeps the files that it removes."""
+        (self.path / "trace").unlink(missing_ok=True)
+        shutil.rmtree(self.kept, ignore_errors=True)
+        self.kept.mkdir()
+        return {"CRASH_TRACE": str(self.path / "trace"), "CRASH_KEEP": str(self.kept)}
 
     def command(self, folder, *options, slots=SLOTS, most=1 << 30, tenants=None):
         """Returns the words that start a program on a folder."""
@@ -129,6 +138,16 @@ def looks(everybody, blobd):
     for client, connection in zip(everybody, blobd.connections):
         counts["comparisons"] += client.looks(connection)
         client.finishes(connection, 1)
+
+
+def wait_until(name, holds, patience=20):
+    """Waits until something holds. Returns the seconds that it took."""
+    begun = time.monotonic()
+    while not holds():
+        if time.monotonic() > begun + patience:
+            raise Fault(f"{name} is not there after {patience} s")
+        time.sleep(0.01)
+    return time.monotonic() - begun
 
 
 def ends_well(name, blobd):

@@ -2,15 +2,18 @@
    bench/durable.py and registryd/tests/crashes.py.
 
    The environment says what it does:
-     CRASH_TRACE=PATH      appends a line for each call that succeeded: `sync NAME LENGTH` (of the file when the call began),
-                           `cut NAME LENGTH` or `rename OLD NEW`. NAME is `log`, `log.new` or the path of a folder. The line is
-                           written before the call returns
+     CRASH_TRACE=PATH      appends a line for each call that succeeded: `sync NAME LENGTH` (of the file when the call began) or
+                           `cut NAME LENGTH`, before the call returns; and before the call `rename OLD NEW` and `unlink NAME 0`. NAME
+                           is that of a file of the log (`log.1`, `base.3`, `log.new`, ..) or the path of a folder
+     CRASH_KEEP=FOLDER     moves the files of the log that the program removes into a folder
      CRASH_WRITES=PATH     appends each change of a file of the database that succeeded: a line `write NAME OFFSET LENGTH` and the
                            bytes written, `sync NAME LENGTH`, `cut NAME LENGTH` or `unlink NAME 0`. NAME begins with `registry.db`.
                            Appends `sync PATH LENGTH` for the sync of a folder
-     CRASH_KILL=1          kills the program after a log was renamed
+     CRASH_KILL=N          kills the program after the N-th call, counted from 1, of which CRASH_TRACE has a line
      CRASH_SYNC_MS=MS      each sync of the log or of the database takes MS milliseconds longer
      CRASH_FAIL_SYNC=N     the N-th sync of the log, counted from 1, fails with EIO
+     CRASH_FAIL_FOLDER_SYNC=N, CRASH_FAIL_REMOVE=N
+                           the N-th sync of a folder, or removal of a file of the log, fails with EIO
      CRASH_FAIL_WRITE=N    the N-th write to the log writes one half of its bytes, and the write after it fails with ENOSPC
      CRASH_FAIL_DATABASE_SYNC=N, CRASH_FAIL_DATABASE_WRITE=N
                            the same for the files of the database */
@@ -33,17 +36,26 @@
 /* The syncs and writes of the log, and of the database. */
 static atomic_int syncs[2], writes[2];
 
+/* The syncs of folders, and the removals of files of the log. */
+static atomic_int folder_syncs, removals;
+
+/* The calls on the log and on folders. */
+static atomic_int calls;
+
 /* The number of an environment variable, or 0. */
 static long number_of(const char *name) {
     const char *text = getenv(name);
     return text ? atol(text) : 0;
 }
 
-/* The last component of a path, if it is that of a log. */
+/* The last component of a path, if it is that of a file of a log: `log`, or `log.` or `base.` and a number or `new`. */
 static const char *log_name(const char *path) {
     const char *slash = strrchr(path, '/');
     const char *name = slash ? slash + 1 : path;
-    return !strcmp(name, "log") || !strcmp(name, "log.new") ? name : NULL;
+    size_t front = !strncmp(name, "log.", 4) ? 4 : !strncmp(name, "base.", 5) ? 5 : 0;
+    const char *rest = name + front;
+    int is_numbered = front && *rest && !rest[strspn(rest, "0123456789")];
+    return is_numbered || (front && !strcmp(rest, "new")) || !strcmp(name, "log") ? name : NULL;
 }
 
 /* The last component of a path, if it is that of a file of a database. */
@@ -85,6 +97,12 @@ static void appends(const char *variable, const char *line, const void *bytes, s
     close(fd);
 }
 
+/* Kills the program if this was the call for it. */
+static void counts_call(void) {
+    if (++calls == number_of("CRASH_KILL"))
+        kill(getpid(), SIGKILL);
+}
+
 /* Appends a line about a call on a file or a folder. */
 static void traces(const char *name, const char *line) {
     if (!database_name(name))
@@ -107,11 +125,17 @@ static int sync_by(int (*real)(int), int fd) {
             errno = EIO;
             return -1;
         }
+    } else if (++folder_syncs == number_of("CRASH_FAIL_FOLDER_SYNC")) {
+        errno = EIO;
+        return -1;
     }
     int result = real(fd);
     snprintf(line, sizeof line, "sync %s %lld\n", name, length);
-    if (result == 0)
+    if (result == 0) {
         traces(name, line);
+        if (!database_name(name))
+            counts_call();
+    }
     return result;
 }
 
@@ -126,6 +150,8 @@ static int cut_by(int (*real)(int, off_t), int fd, off_t length) {
     if (name && result == 0) {
         snprintf(line, sizeof line, "cut %s %lld\n", name, (long long) length);
         traces(name, line);
+        if (!database_name(name))
+            counts_call();
     }
     return result;
 }
@@ -135,20 +161,39 @@ int ftruncate64(int fd, off_t length) { return cut_by(REAL(ftruncate64), fd, len
 
 int rename(const char *from, const char *to) {
     const char *old = log_name(from), *new = log_name(to);
-    char line[128];
+    char line[1024];
+    if (!old || !new)
+        return REAL(rename)(from, to);
+    snprintf(line, sizeof line, "rename %.255s %.255s\n", old, new);
+    traces(new, line);
     int result = REAL(rename)(from, to);
-    if (result == 0 && old && new) {
-        snprintf(line, sizeof line, "rename %s %s\n", old, new);
-        traces(new, line);
-        if (number_of("CRASH_KILL"))
-            kill(getpid(), SIGKILL);
+    counts_call();
+    return result;
+}
+
+/* Removes a file of a log, or moves it into the folder for such files. */
+static int removes_log(const char *path, const char *name) {
+    const char *kept = getenv("CRASH_KEEP");
+    char line[1024], place[4096];
+    if (access(path, F_OK))
+        return REAL(unlink)(path);
+    if (++removals == number_of("CRASH_FAIL_REMOVE")) {
+        errno = EIO;
+        return -1;
     }
+    snprintf(line, sizeof line, "unlink %.255s 0\n", name);
+    traces(name, line);
+    snprintf(place, sizeof place, "%s/%s", kept ? kept : "", name);
+    int result = kept ? REAL(rename)(path, place) : REAL(unlink)(path);
+    counts_call();
     return result;
 }
 
 int unlink(const char *path) {
     const char *name = database_name(path);
     char line[4200];
+    if (log_name(path))
+        return removes_log(path, log_name(path));
     int result = REAL(unlink)(path);
     if (result == 0 && name) {
         snprintf(line, sizeof line, "unlink %.255s 0\n", name);

@@ -2,45 +2,55 @@
 ghost use Rattle.std.specs.Prelude.{◌≡◌, ◌+◌, [], IfOk, OnOk};
 ghost use Rattle.blob_store.specs.DurableStates.{IsWholeOnSomeDisk};
 ghost use Rattle.blob_store.specs.Parts.{names_of};
-ghost use Rattle.blobd.specs.Connections.{AreServed, AreServedOn};
+ghost use Rattle.store_server.specs.Connections.{AreServed, AreServedOn};
 
-use crate::connection::Connection;
-use crate::opening::OpenLog;
-use crate::rewriting::{ReplaceError, Replacement};
-use crate::service_end::EndCell;
-use crate::serving::serve_on;
 use blob_digest::Refusal;
 use blob_store::{Desk, LogPolicy, Naming, Parts, SharedLogDevice, Store, Totals};
 use durable_log::{CommitError, IdleDevice, LeaderCell};
-use framed_disk::FramedDisk;
 use ghost_log::SharedLog;
 use lease_table::{LeaseEvent, LeaseNaming};
 use locked_book::{Step, StoreLog};
 use log_disk::{Disk, DiskError, FileDisk, ReplayedDisk};
+use log_folder::{FolderFile, LogPlace, NextSegments, OpenLog, Outcome, Segment, Watch, Work};
 use log_frames::Ending;
+use segmented_disk::SegmentedDisk;
 use std::alloc::{AllocError, Global};
 use std::io::{self, ErrorKind, Read, Write};
 use std::marker::Brand;
 use std::sync::Wait;
-use std::thread::Threads;
-use store_replay::{Cause, ContinueError, NoSink, Replay, Replayed, continue_on_file, replay_log};
+use std::thread::{self, Threads};
+use store_replay::{
+    Cause, ContinueError, Fault, NoSink, Replay, Replayed, continue_on_file, replay_log,
+};
+use store_server::{Connection, EndCell, serve_on};
+
+/// The log of a folder: its files are examined, and not yet replayed.
+#[derive(Drop)]
+pub struct ExaminedLog<'w> {
+    /// The runtime for the files.
+    pub host: HostRuntime,
+    /// The folder.
+    pub folder: &'w str,
+    /// The files.
+    pub log: OpenLog,
+    /// The outcome of their examination.
+    pub outcome: Outcome,
+}
 
 /// The reason why connections were not served, or the log could not be written at the end.
 #[derive(Drop)]
 pub enum ServeFault {
     /// Memory ran out.
     Memory,
-    /// A read of the log failed, with an error of this kind.
-    Read(ErrorKind),
-    /// The frame at an offset has a record that cannot be replayed.
+    /// A read of this file failed, with an error of this kind.
+    Read(FolderFile, ErrorKind),
+    /// The frame at a place has a record that cannot be replayed.
     Record {
-        /// The offset of the frame, in bytes.
-        place: u64,
+        /// The place of the frame.
+        place: LogPlace,
         /// The reason.
         cause: Cause,
     },
-    /// The log was rewritten, and the rewritten one did not take the place of the old one.
-    Replace(ReplaceError),
     /// The log cannot be written.
     Log(CommitError),
 }
@@ -51,35 +61,35 @@ impl From<AllocError> for ServeFault {
     }
 }
 
-impl From<io::Error> for ServeFault {
-    fn from(error: io::Error) -> ServeFault {
+impl ServeFault {
+    /// Returns the fault for a file that cannot be read.
+    pub fn of_read(file: FolderFile, error: io::Error) -> ServeFault {
         match error.kind() {
             ErrorKind::OutOfMemory => ServeFault::Memory,
-            kind => ServeFault::Read(kind),
+            kind => ServeFault::Read(file, kind),
         }
     }
 }
 
-impl From<ReplaceError> for ServeFault {
-    fn from(error: ReplaceError) -> ServeFault {
-        ServeFault::Replace(error)
+/// The disk of a log in a folder.
+type FolderDisk = SegmentedDisk<FileDisk, NextSegments>;
+
+/// The device of a log in a folder.
+type FolderLog<S> = IdleDevice<Step, StoreLog<S>, FolderDisk>;
+
+/// Returns the fault if the read of a file ended by itself, and not at a record.
+fn read_fault(file: FolderFile, ending: Ending) -> Option<ServeFault> {
+    match ending {
+        Ending::Failed(kind) => Some(ServeFault::Read(file, kind)),
+        Ending::Memory => Some(ServeFault::Memory),
+        Ending::TooLong => Some(ServeFault::Read(file, ErrorKind::FileTooLarge)),
+        Ending::End | Ending::Torn | Ending::Damaged(_) | Ending::Refused => None,
     }
 }
 
-/// The device of a log in a file.
-type FileLog<S> = IdleDevice<Step, StoreLog<S>, FramedDisk<FileDisk>>;
-
-/// Returns why a log was not replayed to its end.
-fn fault_of<W: Wait, S: Naming>(replayed: Replayed<'_, W, S, NoSink>) -> ServeFault {
-    let read = replayed.read();
-    let place = read.cursor.place;
-    match read.ending {
-        Ending::Failed(kind) => return ServeFault::Read(kind),
-        Ending::Memory => return ServeFault::Memory,
-        Ending::TooLong => return ServeFault::Read(ErrorKind::FileTooLarge),
-        Ending::End | Ending::Torn | Ending::Damaged(_) | Ending::Refused => {}
-    }
-    match replayed.into_replay().into_fault() {
+/// Returns the fault for a record that was not replayed.
+fn record_fault(place: LogPlace, fault: Option<Fault>) -> ServeFault {
+    match fault {
         Some(fault) => match fault.cause {
             Cause::Memory => ServeFault::Memory,
             cause => ServeFault::Record { place, cause },
@@ -91,43 +101,120 @@ fn fault_of<W: Wait, S: Naming>(replayed: Replayed<'_, W, S, NoSink>) -> ServeFa
     }
 }
 
-/// Replays a log at a desk, and continues it on its file. Returns the desk and the device of the log.
-fn replay_with_desk<W: Wait, S: Naming, R: Read>(
+/// Returns why one of the log's files was not replayed to its end.
+fn fault_of<W: Wait, S: Naming>(
+    start: LogPlace,
+    replayed: Replayed<'_, W, S, NoSink>,
+) -> ServeFault {
+    let read = replayed.read();
+    let fault = replayed.into_replay().into_fault();
+    let place = LogPlace {
+        file: start.file,
+        place: read.cursor.place,
+        offset: start.offset.saturating_add(read.cursor.place),
+    };
+    match read_fault(start.file, read.ending) {
+        Some(fault) => fault,
+        None => record_fault(place, fault),
+    }
+}
+
+/// Replays a file of a log in a folder.
+fn replay_file<'s, W: Wait, S: Naming>(
+    host: &HostRuntime,
+    folder: &str,
+    work: Work,
+    replay: Replay<'s, W, S, NoSink>,
+    buffer: &mut Vec<u8>,
+    segment: &mut Segment,
+) -> Result<Replayed<'s, W, S, NoSink>, ServeFault> {
+    let (name, id, start) = (segment.name, segment.id, segment.place(0));
+    let mut input = match segment.frames(host, folder, work) {
+        Ok(input) => input,
+        Err(error) => return Err(ServeFault::of_read(name, error)),
+    };
+    let replayed = replay_log(replay, &mut input, buffer, id)?;
+    if !replayed.is_whole() {
+        return Err(fault_of(start, replayed));
+    }
+    Ok(replayed)
+}
+
+/// Replays files of a log in a folder, one after another.
+fn replay_files<'s, W: Wait, S: Naming>(
+    host: &HostRuntime,
+    folder: &str,
+    work: Work,
+    replay: Replay<'s, W, S, NoSink>,
+    buffer: &mut Vec<u8>,
+    segments: &mut [Segment],
+) -> Result<Replay<'s, W, S, NoSink>, ServeFault> {
+    let mut replay = replay;
+    for segment in segments {
+        let replayed = replay_file(host, folder, work, replay, buffer, segment)?;
+        replay = replayed.into_replay();
+    }
+    Ok(replay)
+}
+
+/// Replays the log of a folder at a desk, and continues it after its last file. Returns the desk and the device of the log.
+fn replay_with_desk<W: Wait, S: Naming>(
     rt: &W,
+    host: &HostRuntime,
+    folder: &str,
     alloc: Global,
     store: &Store<S>,
     desk: Desk<S>,
     device: IdleDevice<Step, StoreLog<S>, ReplayedDisk>,
-    input: &mut R,
     log: OpenLog,
-) -> Result<(Desk<S>, FileLog<S>), ServeFault>
+    next: NextSegments,
+) -> Result<(Desk<S>, FolderLog<S>), ServeFault>
     requires written { device.written ≡ [] }
     requires durable { device.durable ≡ [] }
 {
-    let OpenLog { file, id } = log;
+    let OpenLog {
+        mut closed,
+        mut last,
+        number: _,
+    } = log;
+    let work = Work::begin(host, "replaying", last.end());
     let mut buffer = Vec::new(alloc);
     let replay = Replay::new(rt, store, alloc, desk, device, NoSink);
-    let replayed = replay_log(replay, input, &mut buffer, id)?;
-    if !replayed.is_whole() {
-        return Err(fault_of(replayed));
-    }
-    match continue_on_file(alloc, replayed, file) {
+    let replay = replay_files(
+        host,
+        folder,
+        work,
+        replay,
+        &mut buffer,
+        closed.as_mut_slice(),
+    )?;
+    let replayed = replay_file(host, folder, work, replay, &mut buffer, &mut last)?;
+    let Segment {
+        name,
+        file,
+        id: _,
+        length: _,
+        before,
+    } = last;
+    match continue_on_file(alloc, replayed, file, next, before) {
         Ok(continued) => Ok(continued),
         Err(ContinueError::Disk(DiskError::Memory)) => Err(ServeFault::Memory),
         Err(ContinueError::Disk(error)) => Err(ServeFault::Log(CommitError::Disk(error))),
-        Err(ContinueError::Unfinished) => Err(ServeFault::Read(ErrorKind::UnexpectedEof)),
+        Err(ContinueError::Unfinished) => Err(ServeFault::Read(name, ErrorKind::UnexpectedEof)),
     }
 }
 
-/// Replays a log, and continues it on its file. Returns the device of the log.
-fn replay_on<W: Wait, S: Naming, R: Read>(
+/// Replays the log of a folder, and continues it after its last file. Returns the device of the log.
+fn replay_on<W: Wait, S: Naming>(
     rt: &W,
+    host: &HostRuntime,
+    folder: &str,
     alloc: Global,
     store: &Store<S>,
     device: IdleDevice<Step, StoreLog<S>, ReplayedDisk>,
-    input: &mut R,
     log: OpenLog,
-) -> Result<FileLog<S>, ServeFault>
+    next: NextSegments,
+) -> Result<FolderLog<S>, ServeFault>
     requires written { device.written ≡ [] }
     requires durable { device.durable ≡ [] }
 {
@@ -137,7 +224,7 @@ fn replay_on<W: Wait, S: Naming, R: Read>(
     let Some(desk) = desks.pop() else {
         unreachable!()
     };
-    match replay_with_desk(rt, alloc, store, desk, device, input, log) {
+    match replay_with_desk(rt, host, folder, alloc, store, desk, device, log, next) {
         Ok((desk, device)) => {
             desks.push_reserved(desk);
             store.settle(rt, desks);
@@ -150,12 +237,12 @@ fn replay_on<W: Wait, S: Naming, R: Read>(
     }
 }
 
-/// Returns the device of a log whose file has the records of the store's history, and no others. This is so after a replay.
+/// Returns the device of a log whose files have the records of the store's history, and no others. This is so after a replay.
 fn whole_log<W: Wait, S: Naming>(
     rt: &W,
     store: &Store<S>,
-    device: FileLog<S>,
-) -> Result<FileLog<S>, ServeFault>
+    device: FolderLog<S>,
+) -> Result<FolderLog<S>, ServeFault>
     ensures { IfOk result (λ d. IsWholeOnSomeDisk S.names d) }
 {
     let (device, whole) = store.is_on_disk(rt, device);
@@ -165,19 +252,16 @@ fn whole_log<W: Wait, S: Naming>(
     Err(ServeFault::Log(CommitError::Closed))
 }
 
-/// Makes a rewritten log that was replayed the log of its folder, if there is one.
-fn replace_old(replacement: Option<Replacement<'_, '_>>) -> Result<(), ReplaceError> {
-    match replacement {
-        Some(replacement) => replacement.finish(),
-        None => Ok(()),
-    }
+/// Starts the thread that rewrites the log. Without the thread, the log is rewritten only at a start.
+fn start_watch<W: Threads>(rt: &W, watch: Watch) {
+    let _ = thread::spawn(rt, move || watch.run());
 }
 
 /// Writes what waits, syncs it unless the log is never synced, and marks the end of the log.
 fn finish_log<W: Wait, S: Naming>(
     rt: &W,
     store: &Store<S>,
-    device: SharedLogDevice<S, FramedDisk<FileDisk>>,
+    device: SharedLogDevice<S, FolderDisk>,
 ) -> Result<(), CommitError> {
     store.flush(rt, &device)?;
     let Some(idle) = device.into_inner() else {
@@ -199,16 +283,13 @@ fn serve_log_parts<
     W: Threads + Wait + Sync,
     S: Naming + Send + Sync,
     L: LeaseNaming + Send + Sync,
-    R: Read,
     I: Read + Send + Drop,
     O: Write + Send + Drop,
 >(
     rt: &W,
     alloc: Global,
     parts: Parts,
-    input: &mut R,
-    log: OpenLog,
-    replacement: Option<Replacement<'_, '_>>,
+    examined: ExaminedLog<'_>,
     leases: SharedLog<LeaseEvent>,
     end: &EndCell,
     lines: &mut [Connection<I, O>],
@@ -218,13 +299,22 @@ fn serve_log_parts<
     ensures served { OnOk result (AreServed S.names L.log I.remaining O.contents lines.old lines.new) }
     ensures totals { IfOk result (λ t. t.received ≡ t.in_sessions + t.closed + t.abandoned) }
 {
+    let ExaminedLog {
+        host,
+        folder,
+        log,
+        outcome,
+    } = examined;
+    let watch = Watch::new(host, String::from_str(alloc, folder)?, outcome);
+    let path = String::from_str(alloc, folder)?;
+    let next = NextSegments::after(host, path, log.number, log.last.id);
     let replayed = ReplayedDisk::new(alloc)?;
     let (store, device) = Store::<S>::with_log(parts, replayed);
-    let device = replay_on(rt, alloc, &store, device, input, log)?;
+    let device = replay_on(rt, &host, folder, alloc, &store, device, log, next)?;
     let device = whole_log(rt, &store, device)?;
-    replace_old(replacement)?;
+    start_watch(rt, watch);
     let device = LeaderCell::new(device);
-    let totals = serve_on::<W, S, L, FramedDisk<FileDisk>, I, O>(
+    let totals = serve_on::<W, S, L, FolderDisk, I, O>(
         rt,
         alloc,
         &store,
@@ -239,11 +329,11 @@ fn serve_log_parts<
     }
 }
 
-/// Replays a log into a new store of these parts, and serves all connections on the store until they end, as `serve_new`
+/// Replays the log of a folder into a new store of these parts, and serves all connections on the store until they end, as `serve_new`
 /// does. Each change is recorded in the log, and is durable before its reply if the policy of the parts promises that. Returns
 /// the store's totals, in which the replayed changes are counted.
 ///
-/// A log that was rewritten takes the place of the old one after its replay.
+/// While the connections are served, a thread rewrites the closed files of the log. It goes on until the program ends.
 ///
 /// If the log fails, no reply is sent any more, and `end` gets the error at once: the other connections may wait for requests.
 ///
@@ -252,15 +342,12 @@ fn serve_log_parts<
 /// - `Memory`
 /// - `Read`, if the log cannot be read.
 /// - `Record`, if a record cannot be replayed. Then no connection is served.
-/// - `Replace`, if the rewritten log did not take the place of the old one. Then no connection is served.
 /// - `Log`, if the log cannot be written, at the start or at the end.
-pub fn serve_log<W: Threads + Wait + Sync, R: Read, I: Read + Send + Drop, O: Write + Send + Drop>(
+pub fn serve_log<W: Threads + Wait + Sync, I: Read + Send + Drop, O: Write + Send + Drop>(
     rt: &W,
     alloc: Global,
     parts: Parts,
-    input: &mut R,
-    log: OpenLog,
-    replacement: Option<Replacement<'_, '_>>,
+    examined: ExaminedLog<'_>,
     end: &EndCell,
     lines: &mut [Connection<I, O>],
 ) -> Result<Totals, ServeFault>
@@ -268,15 +355,5 @@ pub fn serve_log<W: Threads + Wait + Sync, R: Read, I: Read + Send + Drop, O: Wr
     ensures totals { IfOk result (λ t. t.received ≡ t.in_sessions + t.closed + t.abandoned) }
 {
     let leases = SharedLog::new(alloc)?;
-    serve_log_parts::<W, Brand, Brand, R, I, O>(
-        rt,
-        alloc,
-        parts,
-        input,
-        log,
-        replacement,
-        leases,
-        end,
-        lines,
-    )
+    serve_log_parts::<W, Brand, Brand, I, O>(rt, alloc, parts, examined, leases, end, lines)
 }

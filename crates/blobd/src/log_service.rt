@@ -1,26 +1,115 @@
-//! Serves connections on a store with the log of a folder, which may have been rewritten.
-ghost use Rattle.blobd.specs.Arguments.{IsWithin};
+//! Serves connections on a store with the log of a folder.
+ghost use Rattle.server_cli.specs.Arguments.{IsWithin};
 
-use crate::arguments::Options;
-use crate::connection::Connection;
-use crate::damage::{Damage, Need};
-use crate::data_folder::{DataFolder, folder_stop};
-use crate::durable_serving::{ServeFault, serve_log};
-use crate::flags::LogOptions;
-use crate::opening::{OpenLog, open_log, seek_frames};
-use crate::progress::{Progress, Work};
-use crate::rewriting::{NewLog, ReplaceError, Replacement, When, keep_old, rewritten};
-use crate::service_end::EndCell;
-use crate::stop::Stop;
+use crate::durable_serving::{ExaminedLog, ServeFault, serve_log};
 use crate::totals::conclude;
-use blob_store::{Parts, Totals};
-use std::io::{self, BufReader, Read, Write};
+use blob_store::Parts;
+use log_folder::{
+    Damage, DataFolder, FolderError, FolderFile, LogPlace, OpenLog, Outcome, Segment, When,
+    accept_loss, compact, open_log,
+};
+use server_cli::{LogOptions, Need, Options, Stop};
+use std::io::{self, ErrorKind, Read, Write};
 use std::sync::Wait;
 use std::thread::Threads;
 use store_replay::Cause;
+use store_server::{Connection, EndCell};
+
+/// Opens the log of a folder. If the loss of what is after a place was accepted and the log is damaged there, cuts it there.
+fn open_mended<'w>(
+    rt: &HostRuntime,
+    folder: &DataFolder<'w>,
+    how: LogOptions<'w>,
+) -> Result<OpenLog, Stop<'w>> {
+    let found = match open_log(rt, folder) {
+        Err(FolderError::Damaged(place, _)) if how.accepted_loss == Some(place.offset) => {
+            match accept_loss(rt, folder, place) {
+                Ok(()) => open_log(rt, folder),
+                Err(error) => Err(error),
+            }
+        }
+        found => found,
+    };
+    match found {
+        Ok(log) => Ok(log),
+        Err(error) => Err(Stop::of_folder(how.folder, error)),
+    }
+}
+
+/// Returns the files of a log in order, with the number of the last one.
+fn segments_of(log: OpenLog) -> Result<(Vec<Segment>, u64), Stop<'static>> {
+    let OpenLog {
+        closed,
+        last,
+        number,
+    } = log;
+    let mut segments = closed;
+    if segments.push(last).is_err() {
+        return Err(Stop::Memory);
+    }
+    Ok((segments, number))
+}
+
+/// Rewrites a log if it is the time to, and opens it again then.
+fn examined<'w>(
+    rt: &HostRuntime,
+    folder: &DataFolder<'w>,
+    how: LogOptions<'w>,
+    log: OpenLog,
+    when: When,
+) -> Result<ExaminedLog<'w>, Stop<'w>> {
+    let (mut segments, number) = segments_of(log)?;
+    let outcome = match compact(rt, folder.path, segments.as_mut_slice(), number, when) {
+        Ok(outcome) => outcome,
+        Err(error) => return Err(Stop::of_folder(how.folder, error)),
+    };
+    if matches!(outcome, Outcome::Rewritten(_)) {
+        drop(segments);
+        let log = open_mended(rt, folder, how)?;
+        return Ok(ExaminedLog {
+            host: *rt,
+            folder: how.folder,
+            log,
+            outcome,
+        });
+    }
+    let Some(last) = segments.pop() else {
+        let error = io::Error::from(ErrorKind::NotFound);
+        let error = FolderError::of_file("open", FolderFile::Log(number), error);
+        return Err(Stop::of_folder(how.folder, error));
+    };
+    let log = OpenLog {
+        closed: segments,
+        last,
+        number,
+    };
+    Ok(ExaminedLog {
+        host: *rt,
+        folder: how.folder,
+        log,
+        outcome,
+    })
+}
+
+/// Opens the log of a folder, and makes it before if there is none. A torn end is cut off, and if less than half of the log is needed,
+/// it is rewritten.
+///
+/// # Errors
+///
+/// - `Stop::Folder`, if the log cannot be made, opened, read or cut.
+/// - `Stop::Damaged`, if it is no log of this version, or is damaged at another place than the accepted one.
+/// - `Stop::Memory`
+pub fn open_folder<'w>(
+    rt: &HostRuntime,
+    folder: &DataFolder<'w>,
+    how: LogOptions<'w>,
+) -> Result<ExaminedLog<'w>, Stop<'w>> {
+    let log = open_mended(rt, folder, how)?;
+    examined(rt, folder, how, log, When::Wasteful)
+}
 
 /// Returns the stop for a log that has a record at this place which cannot be replayed.
-fn record_stop<'w>(folder: &'w str, place: u64, cause: Cause) -> Stop<'w> {
+fn record_stop<'w>(folder: &'w str, place: LogPlace, cause: Cause) -> Stop<'w> {
     let need = match &cause {
         Cause::Refused { name: _, refusal } => Need::of_refusal(*refusal),
         _ => None,
@@ -44,172 +133,94 @@ fn record_stop<'w>(folder: &'w str, place: u64, cause: Cause) -> Stop<'w> {
 fn fault_stop<'w>(folder: &'w str, fault: ServeFault) -> Stop<'w> {
     match fault {
         ServeFault::Memory => Stop::Memory,
-        ServeFault::Read(kind) => folder_stop("read", folder, "/log", io::Error::from(kind)),
+        ServeFault::Read(file, kind) => {
+            let error = FolderError::of_file("read", file, io::Error::from(kind));
+            Stop::of_folder(folder, error)
+        }
         ServeFault::Log(error) => Stop::LogFailed { folder, error },
         ServeFault::Record { place, cause } => record_stop(folder, place, cause),
-        ServeFault::Replace(ReplaceError::Rename(error)) => {
-            folder_stop("rename", folder, "/log.new", error)
-        }
-        ServeFault::Replace(ReplaceError::Sync(error)) => folder_stop("sync", folder, "", error),
     }
 }
 
-/// Replays a log of a folder into a new store, and serves connections on it. With a replacement, the log is `log.new`.
-fn serve_folder<I: Read + Send + Drop, O: Write + Send + Drop>(
+/// Serves connections on a store of the options with the log of a folder, and prints its totals.
+fn serve_once<
+    'w,
+    W: Threads + Wait + Sync + Copy + Send + 'static,
+    I: Read + Send + Drop,
+    O: Write + Send + Drop,
+>(
     rt: &HostRuntime,
-    threads: &(impl Threads + Wait + Sync),
-    folder: &str,
-    parts: Parts,
-    mut log: OpenLog,
-    replacement: Option<Replacement<'_, '_>>,
-    end: &EndCell,
-    lines: &mut [Connection<I, O>],
-) -> Result<Totals, ServeFault> {
-    let (copy, length) = seek_frames(&mut log.file)?;
-    let work = Work {
-        verb: "replaying",
-        file: if replacement.is_some() {
-            "/log.new"
-        } else {
-            "/log"
-        },
-    };
-    let progress = Progress::new(rt, work, folder, copy, length);
-    let mut input = BufReader::new(rt.alloc(), progress)?;
-    serve_log(
-        threads,
-        rt.alloc(),
-        parts,
-        &mut input,
-        log,
-        replacement,
-        end,
-        lines,
-    )
-}
-
-/// Returns the parts of the options' store, with the policy of its log.
-fn parts_of<'w>(
-    rt: &HostRuntime,
+    threads: &W,
     options: &Options<'w>,
     how: LogOptions<'w>,
-) -> Result<Parts, Stop<'w>>
-    requires { IsWithin (options.now).store }
-{
-    match Parts::with_policy(rt.alloc(), &options.store, how.policy) {
-        Ok(parts) => Ok(parts),
-        Err(_) => Err(Stop::Memory),
-    }
-}
-
-/// Serves connections on a store with the log of a folder, and prints its totals.
-fn serve_old<'w, I: Read + Send + Drop, O: Write + Send + Drop>(
-    rt: &HostRuntime,
-    threads: &(impl Threads + Wait + Sync),
-    options: &Options<'w>,
-    how: LogOptions<'w>,
-    log: OpenLog,
+    log: ExaminedLog<'w>,
     end: &EndCell,
     lines: &mut [Connection<I, O>],
 ) -> Result<(), Stop<'w>>
     requires { IsWithin (options.now).store }
 {
-    let parts = parts_of(rt, options, how)?;
-    match serve_folder(rt, threads, how.folder, parts, log, None, end, lines) {
+    let Ok(parts) = Parts::with_policy(rt.alloc(), &options.store, how.policy) else {
+        return Err(Stop::Memory);
+    };
+    match serve_log(threads, rt.alloc(), parts, log, end, lines) {
         Ok(totals) => conclude(rt, totals, lines),
         Err(fault) => Err(fault_stop(how.folder, fault)),
     }
 }
 
-/// Serves connections on a store with the rewritten log of a folder, and prints its totals. Returns `false` if that log cannot be
-/// replayed or renamed: then it is removed, and the old one is still there.
-fn serve_new_log<'w, I: Read + Send + Drop, O: Write + Send + Drop>(
+/// Opens the log of a folder after a replay was stopped, if another replay may succeed, and returns the stop otherwise.
+///
+/// If a record cannot be replayed and the loss of it was accepted, the log is cut. If the settings are too small, the store may have
+/// needed more only for a time. So the log is rewritten, and has only what is there at its end.
+fn reopened<'w>(
     rt: &HostRuntime,
-    threads: &(impl Threads + Wait + Sync),
-    options: &Options<'w>,
     folder: &DataFolder<'w>,
     how: LogOptions<'w>,
-    new: NewLog,
-    end: &EndCell,
-    lines: &mut [Connection<I, O>],
-) -> Result<bool, Stop<'w>>
-    requires { IsWithin (options.now).store }
-{
-    let parts = parts_of(rt, options, how)?;
-    let NewLog { log, was, is } = new;
-    let new = Some(Replacement {
-        rt,
-        folder: how.folder,
-        was,
-        is,
-    });
-    let reason = match serve_folder(rt, threads, how.folder, parts, log, new, end, lines) {
-        Ok(totals) => {
-            conclude(rt, totals, lines)?;
-            return Ok(true);
-        }
-        Err(ServeFault::Record { .. }) => "a record of the new log cannot be replayed",
-        Err(ServeFault::Read(_)) => "the new log cannot be read",
-        Err(ServeFault::Replace(ReplaceError::Rename(_))) => "the new log cannot be renamed",
-        Err(fault) => return Err(fault_stop(how.folder, fault)),
-    };
-    keep_old(rt, folder, &reason)?;
-    Ok(false)
-}
-
-/// Serves connections on a store with a log that a replay refused with this stop, because the settings are too small. The store
-/// may have needed more only for a time. So the log is rewritten, and has only what is there at its end.
-fn serve_without_past<'w, I: Read + Send + Drop, O: Write + Send + Drop>(
-    rt: &HostRuntime,
-    threads: &(impl Threads + Wait + Sync),
-    options: &Options<'w>,
-    folder: &DataFolder<'w>,
-    how: LogOptions<'w>,
-    refused: Stop<'w>,
-    end: &EndCell,
-    lines: &mut [Connection<I, O>],
-) -> Result<(), Stop<'w>>
-    requires { IsWithin (options.now).store }
-{
-    let mut log = open_log(rt, folder, how.accepted_loss)?;
-    let Some(new) = rewritten(rt, folder, &mut log, When::Always)? else {
-        return Err(refused);
-    };
-    drop(log);
-    if serve_new_log(rt, threads, options, folder, how, new, end, lines)? {
-        return Ok(());
-    }
-    Err(refused)
-}
-
-/// Serves connections on a store with the log of a folder, or with the rewritten log if there is one.
-pub fn serve_either<'w, I: Read + Send + Drop, O: Write + Send + Drop>(
-    rt: &HostRuntime,
-    threads: &(impl Threads + Wait + Sync),
-    options: &Options<'w>,
-    folder: &DataFolder<'w>,
-    how: LogOptions<'w>,
-    log: OpenLog,
-    new: Option<NewLog>,
-    end: &EndCell,
-    lines: &mut [Connection<I, O>],
-) -> Result<(), Stop<'w>>
-    requires { IsWithin (options.now).store }
-{
-    let log = match new {
-        Some(new) => {
-            drop(log);
-            if serve_new_log(rt, threads, options, folder, how, new, end, lines)? {
-                return Ok(());
+    stop: Stop<'w>,
+) -> Result<ExaminedLog<'w>, Stop<'w>> {
+    match stop {
+        Stop::Damaged { place, .. } if how.accepted_loss == Some(place.offset) => {
+            match accept_loss(rt, folder, place) {
+                Ok(()) => open_folder(rt, folder, how),
+                Err(error) => Err(Stop::of_folder(how.folder, error)),
             }
-            open_log(rt, folder, how.accepted_loss)?
         }
-        None => log,
-    };
-    match serve_old(rt, threads, options, how, log, end, lines) {
-        Err(stop) if stop.is_of_settings() => {
-            serve_without_past(rt, threads, options, folder, how, stop, end, lines)
+        stop if stop.is_of_settings() => {
+            let log = open_mended(rt, folder, how)?;
+            let log = examined(rt, folder, how, log, When::Always)?;
+            match log.outcome {
+                Outcome::Rewritten(_) => Ok(log),
+                Outcome::Kept(_) => Err(stop),
+            }
         }
-        done => done,
+        stop => Err(stop),
+    }
+}
+
+/// Serves connections on a store of the options with the log of a folder, and prints its totals. If the log cannot be replayed as it
+/// is, it is cut or rewritten once ([`reopened`]).
+pub fn serve_folder<
+    'w,
+    W: Threads + Wait + Sync + Copy + Send + 'static,
+    I: Read + Send + Drop,
+    O: Write + Send + Drop,
+>(
+    rt: &HostRuntime,
+    threads: &W,
+    options: &Options<'w>,
+    folder: &DataFolder<'w>,
+    how: LogOptions<'w>,
+    log: ExaminedLog<'w>,
+    end: &EndCell,
+    lines: &mut [Connection<I, O>],
+) -> Result<(), Stop<'w>>
+    requires { IsWithin (options.now).store }
+{
+    match serve_once(rt, threads, options, how, log, end, lines) {
+        Ok(()) => Ok(()),
+        Err(stop) => {
+            let log = reopened(rt, folder, how, stop)?;
+            serve_once(rt, threads, options, how, log, end, lines)
+        }
     }
 }

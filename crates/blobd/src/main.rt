@@ -1,67 +1,42 @@
 //! Keeps a store, in memory or with a log in a folder, and serves it on connections.
 //!
+//!     blobd --version
 //!     blobd [--data DIR [--sync closes|each|never] [--accept-loss-after BYTE]]
 //!           SLOTS MAX_BLOB TENANT=QUOTA.. [-- IN OUT [IN OUT]..]
 //!
 //! A connection is a pair of files, such as the ends of two pipes. Requests are read from `IN` and replies written to
 //! `OUT`, in the frames of `docs/PROTOCOL.md`. Without files there is one connection: standard input and output. Each
 //! connection has a thread and a desk of its own. It ends when its input ends, and the program when all connections have
-//! ended. The program depends on `wire_server` for a connection, on `blob_store` for the store, on `lease_table` for the
-//! leases, and on `tenant_args` for the tenants.
+//! ended. The program depends on `store_server` for the connections, and on `server_cli` for its arguments and messages.
 //!
-//! With `--data` the changes of the store are kept in the file `DIR/log`. A start replays them: it depends on `store_replay`
-//! for that, and on `framed_disk` for the frames of the file. If the log cannot be written any more, the program ends at
-//! once. So it serves in a second thread, and the first one waits for the end of the service or for that failure.
+//! With `--data` the changes of the store are kept in the files `DIR/log.N`. A start replays them: it depends on `store_replay`
+//! for that, on `segmented_disk` for the bytes of the files, and on `log_folder` for the files. If the log cannot be written any
+//! more, the program ends at once. So it serves in a second thread, and the first one waits for the end of the service or for that
+//! failure. A third thread rewrites the log.
 //!
-//! It guarantees of the functions `serve_new` and `serve_log`, for each connection:
-//!
-//! - The output is the greeting and one reply for each request that was read, in order, unless a write or the log failed.
-//! - The requests' steps are part of a legal sequential history of the store, with these replies.
-//! - Each reply was written only after the steps that the store promises to be durable were so, in the sense of its log.
-//! - The requests' events of leases are part of a legal history of one table of leases.
-//! - The bytes of a read of a lease are of a content that has the digest in the request.
-//! - The connection ended with `ReadFailed` if and only if a read failed, and with `NotDurable` only if the store has a log.
+//! It guarantees of the function `serve_log` what `store_server` guarantees of `serve_new`, for each connection.
 #![tactic(auto)]
 
 ghost use Rattle.std.specs.Prelude.{◌≡◌, IfErr, IfOk};
-ghost use Rattle.blobd.specs.Stops.{stop_status};
-ghost use Rattle.blobd.specs.Arguments.{IsWithin};
+ghost use Rattle.server_cli.specs.Stops.{stop_status};
+ghost use Rattle.server_cli.specs.Arguments.{IsWithin};
 
-mod arguments;
-mod connection;
-mod damage;
-mod data_folder;
 mod durable_serving;
-mod flags;
-mod guard;
 mod log_service;
-mod opening;
-mod progress;
-mod rewriting;
-mod service_end;
-mod serving;
-mod shared;
-mod stop;
 mod totals;
 
-use crate::arguments::{Options, read_arguments};
-use crate::connection::Connection;
-use crate::data_folder::DataFolder;
-use crate::flags::LogOptions;
-use crate::log_service::serve_either;
-use crate::opening::{accept_loss, open_log};
-use crate::rewriting::{When, rewritten};
-use crate::service_end::{EndCell, ServiceEnd};
-use crate::serving::serve_new;
-use crate::stop::Stop;
+use crate::log_service::{open_folder, serve_folder};
 use crate::totals::conclude;
 use blob_store::Parts;
+use log_folder::DataFolder;
+use server_cli::{LogOptions, Options, Stop, read_arguments};
 use std::env;
 use std::fs::File;
 use std::io::{self, BufReader, BufWriter, ErrorKind, Read, Write};
 use std::process::ExitCode;
 use std::sync::{Arc, Wait};
 use std::thread::{self, Threads};
+use store_server::{Connection, EndCell, ServiceEnd, serve_new};
 
 /// A connection whose files are read and written through buffers.
 type Buffered<I, O> = Connection<BufReader<I>, BufWriter<O>>;
@@ -152,65 +127,35 @@ fn run_in_memory<'w>(
 }
 
 /// Serves the connections of the options on a store with the log of a folder.
-fn run_once<'w>(
+fn run_with_log<'w, W: Threads + Wait + Sync + Copy + Send + 'static>(
     rt: &HostRuntime,
-    threads: &(impl Threads + Wait + Sync),
+    threads: &W,
     options: &Options<'w>,
-    folder: &DataFolder<'w>,
     how: LogOptions<'w>,
     end: &EndCell,
 ) -> Result<(), Stop<'w>>
     requires { IsWithin (options.now).store }
 {
-    let mut log = open_log(rt, folder, how.accepted_loss)?;
-    let new = rewritten(rt, folder, &mut log, When::Wasteful)?;
+    let folder = match DataFolder::lock(rt, how.folder) {
+        Ok(folder) => folder,
+        Err(error) => return Err(Stop::of_folder(how.folder, error)),
+    };
+    let log = open_folder(rt, &folder, how)?;
     if options.paths.is_empty() {
         let line = buffered(rt, rt.reader(), io::writer(rt))?;
-        return serve_either(
-            rt,
-            threads,
-            options,
-            folder,
-            how,
-            log,
-            new,
-            end,
-            &mut [line],
-        );
+        return serve_folder(rt, threads, options, &folder, how, log, end, &mut [line]);
     }
     let mut lines = open_connections(rt, options.paths)?;
-    serve_either(
+    serve_folder(
         rt,
         threads,
         options,
-        folder,
+        &folder,
         how,
         log,
-        new,
         end,
         lines.as_mut_slice(),
     )
-}
-
-/// Serves the connections of the options on a store with a log. If the log has a record that cannot be replayed and its loss
-/// was accepted, it is cut, and the store made again.
-fn run_with_log<'w>(
-    rt: &HostRuntime,
-    threads: &(impl Threads + Wait + Sync),
-    options: &Options<'w>,
-    how: LogOptions<'w>,
-    end: &EndCell,
-) -> Result<(), Stop<'w>>
-    requires { IsWithin (options.now).store }
-{
-    let folder = DataFolder::lock(rt, how.folder)?;
-    match run_once(rt, threads, options, &folder, how, end) {
-        Err(Stop::Damaged { place, .. }) if how.accepted_loss == Some(place) => {
-            accept_loss(rt, &folder, place)?;
-            run_once(rt, threads, options, &folder, how, end)
-        }
-        done => done,
-    }
 }
 
 /// Returns the stop for arguments that cannot be read: memory ran out, or one of them is not UTF-8.
@@ -244,9 +189,9 @@ fn status_of(rt: &HostRuntime, done: Result<(), Stop<'_>>) -> u8 {
 }
 
 /// Serves a store with a log as the arguments say, and returns how the service ended.
-fn serve_words(
+fn serve_words<W: Threads + Wait + Sync + Copy + Send + 'static>(
     rt: &HostRuntime,
-    threads: &(impl Threads + Wait + Sync),
+    threads: &W,
     words: &[String],
     end: &EndCell,
 ) -> ServiceEnd {
@@ -297,12 +242,32 @@ fn run_beside<W: Threads + Wait + Sync + Copy + Send + 'static>(
     }
 }
 
+/// Returns whether the only argument is `--version`.
+fn asks_for_version(words: &[String]) -> bool {
+    match words {
+        [_, word] => word.as_str() == "--version",
+        _ => false,
+    }
+}
+
+/// Prints the versions of the formats. The program does not know what proved it: its record says that.
+fn print_version(rt: &HostRuntime) {
+    let mut output = io::writer(rt);
+    let _ = output.write_all(
+        b"blobd: protocol 1, log 1; the record blobd.proved states the commit and the proof\n",
+    );
+}
+
 /// Runs with the arguments of the command line, and returns the exit status.
 fn run_here<W: Threads + Wait + Sync + Copy + Send + 'static>(rt: &HostRuntime, threads: &W) -> u8 {
     let words = match words_of(rt) {
         Ok(words) => words,
         Err(error) => return report(rt, arguments_stop(error)),
     };
+    if asks_for_version(words.as_slice()) {
+        print_version(rt);
+        return 0;
+    }
     let options = match read_arguments(rt.alloc(), words.as_slice()) {
         Ok(options) => options,
         Err(stop) => return report(rt, stop),

@@ -2,11 +2,11 @@
 ghost use Rattle.std.specs.Prelude.{Some};
 ghost use Rattle.blobd.specs.Totals.{totals_text};
 
-use crate::connection::Connection;
-use crate::stop::Stop;
 use blob_store::Totals;
+use server_cli::Stop;
 use std::fmt;
 use std::io::{Read, Write};
+use store_server::Connection;
 
 /// The line of text that reports a store's totals.
 #[derive(Clone, Copy, Drop)]

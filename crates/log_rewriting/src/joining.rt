@@ -9,7 +9,7 @@ use std::mem;
 
 /// A receiver of the changes of a log, in the order of their records.
 pub trait Receiver: Drop {
-    /// Takes the next change. Its record begins at this offset in the joined payloads of the log.
+    /// Takes the next change. Its record begins at this offset in the joined payloads of the segments.
     ///
     /// # Errors
     ///
@@ -86,7 +86,9 @@ impl<C: Receiver> FrameSink for Joiner<C> {
     }
 }
 
-/// Gives the changes of a log with this id to a receiver, which it returns. The input begins after the log's header.
+/// Gives the changes of a log with this id to a receiver, which it returns with the offset after the last record. The first
+/// record has the offset `start`. The input begins after the log's header. The buffer grows with the longest frame, and can be used
+/// again.
 ///
 /// # Errors
 ///
@@ -97,27 +99,28 @@ impl<C: Receiver> FrameSink for Joiner<C> {
 pub fn give_changes<C: Receiver, R: Read>(
     alloc: Global,
     receiver: C,
+    start: u64,
     input: &mut R,
+    buffer: &mut Vec<u8>,
     id: u64,
-) -> Result<C, RewriteError> {
+) -> Result<(C, u64), RewriteError> {
     let mut joiner = Joiner {
         alloc,
         receiver,
         left: Vec::new(alloc),
-        offset: 0,
+        offset: start,
         error: None,
     };
-    let mut buffer = Vec::new(alloc);
-    let read = read_frames(&mut joiner, input, &mut buffer, id, start_of(id));
+    let read = read_frames(&mut joiner, input, buffer, id, start_of(id));
     let Joiner {
         alloc: _,
         receiver,
         left,
-        offset: _,
+        offset,
         error,
     } = joiner;
     match read.ending {
-        Ending::End if left.is_empty() => Ok(receiver),
+        Ending::End if left.is_empty() => Ok((receiver, offset)),
         Ending::Refused => Err(error.unwrap_or(RewriteError::NotWhole)),
         Ending::Failed(kind) => Err(RewriteError::Read(kind)),
         Ending::Memory => Err(RewriteError::Memory),

@@ -2,8 +2,8 @@
 //! state.
 //!
 //! The records of the log are read twice. An [`Inventory`] notes each change of the first pass. The [`Filter`] made of it gives, for
-//! each change of the second pass, those of the rewritten log. [`take_inventory`] and [`write_rewritten`] make the passes over the
-//! frames of a log.
+//! each change of the second pass, those of the rewritten log. [`take_inventory`] and [`LogRewriting`] make the passes over the
+//! frames of the log's segments.
 #![tactic(auto)]
 
 mod blobs;
@@ -26,4 +26,4 @@ pub use failure::RewriteError;
 pub use filter::Filter;
 pub use inventory::Inventory;
 pub use kept::Kept;
-pub use logs::{take_inventory, write_rewritten};
+pub use logs::{LogRewriting, take_inventory};

@@ -42,7 +42,8 @@ impl<'f, W: Write + Drop> Receiver for Rewriter<'f, W> {
     }
 }
 
-/// Returns the inventory of a log with this id. The input begins after the log's header.
+/// Adds the next segment, a log with this id, to the inventory of the segments before it. The input begins after the log's header.
+/// The buffer grows with the longest frame, and can be used again.
 ///
 /// # Errors
 ///
@@ -53,43 +54,88 @@ impl<'f, W: Write + Drop> Receiver for Rewriter<'f, W> {
 ///
 /// # Memory
 ///
-/// That of the inventory, besides the longest frame and the longest record.
+/// That of the inventory and the buffer, besides the longest record.
 pub fn take_inventory<R: Read>(
     alloc: Global,
+    before: Inventory,
     input: &mut R,
+    buffer: &mut Vec<u8>,
     id: u64,
 ) -> Result<Inventory, RewriteError> {
-    give_changes(alloc, Inventory::new(alloc), input, id)
+    let start = before.total();
+    let (inventory, _) = give_changes(alloc, before, start, input, buffer, id)?;
+    Ok(inventory)
 }
 
-/// Writes the frames of the rewritten log with the id `new` in place of those of a log with the id `old`, of which the filter
-/// was made. The input begins after that log's header, and the output after the header of the rewritten log. Returns the cursor after the last
-/// frame.
+/// A log that is written in place of the segments of which a filter was made.
 ///
-/// The frames have at least 65,536 bytes of records, the last one excepted, and state that nothing was synced.
-///
-/// # Errors
-///
-/// - `NoRecord`, `NotWhole`: the frames of the log are not whole records.
-/// - `TooLong`: a record or the log is too long.
-/// - `Read`, `Write`
-/// - `Memory`
+/// Its frames have at least 65,536 bytes of records, the last one excepted, and state that nothing was synced.
 ///
 /// # Memory
 ///
-/// The longest frame and the longest record, of either log.
-pub fn write_rewritten<R: Read, W: Write + Drop>(
+/// The longest record of the segments, and the longest frame of the rewritten log.
+#[derive(Drop)]
+pub struct LogRewriting<'f, W: Write + Drop> {
     alloc: Global,
-    filter: &Filter,
-    input: &mut R,
-    old: u64,
-    output: W,
-    new: u64,
-) -> Result<Cursor, RewriteError> {
-    let rewriter = Rewriter {
-        filter,
-        records: RecordWriter::new(alloc, output, new, start_of(new)),
-    };
-    let Rewriter { filter: _, records } = give_changes(alloc, rewriter, input, old)?;
-    records.finish()
+    rewriter: Rewriter<'f, W>,
+    /// The number of bytes of records that were read.
+    offset: u64,
+}
+
+impl<'f, W: Write + Drop> LogRewriting<'f, W> {
+    /// Begins the rewritten log with this id. The output is after its header.
+    pub fn new(alloc: Global, filter: &'f Filter, output: W, id: u64) -> LogRewriting<'f, W> {
+        LogRewriting {
+            alloc,
+            rewriter: Rewriter {
+                filter,
+                records: RecordWriter::new(alloc, output, id, start_of(id)),
+            },
+            offset: 0,
+        }
+    }
+
+    /// Writes what is kept of the next segment, a log with this id. The input begins after the log's header. The buffer grows
+    /// with the longest frame, and can be used again.
+    ///
+    /// # Errors
+    ///
+    /// - `NoRecord`, `NotWhole`: the frames of the log are not whole records.
+    /// - `TooLong`: a record or the rewritten log is too long.
+    /// - `Read`, `Write`
+    /// - `Memory`
+    pub fn rewrite<R: Read>(
+        self,
+        input: &mut R,
+        buffer: &mut Vec<u8>,
+        id: u64,
+    ) -> Result<LogRewriting<'f, W>, RewriteError> {
+        let LogRewriting {
+            alloc,
+            rewriter,
+            offset,
+        } = self;
+        let (rewriter, offset) = give_changes(alloc, rewriter, offset, input, buffer, id)?;
+        Ok(LogRewriting {
+            alloc,
+            rewriter,
+            offset,
+        })
+    }
+
+    /// Writes what is left, flushes the output, and returns the cursor after the last frame.
+    ///
+    /// # Errors
+    ///
+    /// - `TooLong`
+    /// - `Write`
+    pub fn finish(self) -> Result<Cursor, RewriteError> {
+        let LogRewriting {
+            alloc: _,
+            rewriter,
+            offset: _,
+        } = self;
+        let Rewriter { filter: _, records } = rewriter;
+        records.finish()
+    }
 }

@@ -1,16 +1,18 @@
 -- What a replay has taken.
-use Rattle.std.proofs.Common.{◌≡◌, ℕ, true, List, [], ◌∷◌, ◌++◌, ◌∙◌, ap, refl, sym, subst, append_assoc, append-nil, inl, inr, Option}
+use Rattle.std.proofs.Common.{◌≡◌, ◌-◌, ℕ, true, List, [], ◌∷◌, ◌++◌, ◌∙◌, ap, refl, sym, subst, append_assoc, append-nil, arith, inl, inr, length, take, Option}
+use Rattle.std.proofs.lemmas.List.{length-append, take_at}
 use Rattle.durable_log.specs.Views.{DeviceView}
 use Rattle.framed_disk.proofs.Framing.{payloads-snoc}
 use Rattle.log_frames.proofs.Taking.{one_end, one_fits, one_given}
 use Rattle.log_frames.specs.Frames.{Frame, end_of, frame_bytes, payloads}
 use Rattle.log_frames.specs.Headers.{start_of}
 use Rattle.log_frames.specs.declared.cursor.Cursor.{Cursor}
+use Rattle.log_frames.specs.declared.reading.Ending.{Ending}
 use Rattle.std.specs.Io.KnownBytes.{Consumes}
 use Rattle.std.proofs.KnownBytes.{Consumes-nil}
 use Rattle.log_frames.specs.Frames.{IsFrame, cursor_after}
 use Rattle.store_model.specs.Histories.{Step}
-use Rattle.store_replay.specs.Replays.{BeginsWith, Continues, IsBeginning, IsReplayOf, ReplayView, ReplaysFrame, ReplaysNoFrame, fresh, total}
+use Rattle.store_replay.specs.Replays.{BeginsWith, Continues, EndsWithReplayOf, IsReadAs, IsReplayOf, ReplayView, ReplaysFrame, ReplaysNoFrame, replayed_before, total}
 
 -- ---- one payload
 
@@ -27,51 +29,59 @@ takes old new left payload more c = c.more ∙ sym (append_assoc old.written lef
 
 -- ---- frames
 
--- a new replay has taken no frame
-pub no_frame : (id : ℕ) (v : ReplayView) → v ≡ fresh → IsReplayOf id [] (start_of id) v
-no_frame id v e = record { are = tt; at_end = refl; taken = λ _. ap total e }
+-- nothing was read yet
+pub start : (id : ℕ) (c : Cursor) (frames : List Frame) (v : ReplayView) (log : Option (List ℕ)) → frames ≡ [] → c ≡ start_of id → IsReplayOf id (total v) frames c v × BeginsWith id log log frames
+start id c frames v log none at_start =
+    let first : IsReplayOf id (total v) [] c v = record { are = tt; at_end = at_start; taken = λ _. sym (append-nil (total v)) } in
+    (subst (λ (fs : List Frame). IsReplayOf id (total v) fs c v) (sym none) first, subst (λ (fs : List Frame). BeginsWith id log log fs) (sym none) (Consumes-nil log))
 
 -- one frame more was replayed
-pub one_frame : (id : ℕ) (c next : Cursor) (log rest : Option (List ℕ)) (before after : List Frame) (old new : ReplayView)
-    → IsReplayOf id before c old → ReplaysFrame id c next log rest before after old new → IsReplayOf id after next new
-one_frame id c next log rest before after old new so_far r =
+pub one_frame : (id : ℕ) (c next : Cursor) (log rest : Option (List ℕ)) (taken : List ℕ) (before after : List Frame) (old new : ReplayView)
+    → IsReplayOf id taken before c old → ReplaysFrame id c next log rest before after old new → IsReplayOf id taken after next new
+one_frame id c next log rest taken before after old new so_far r =
     let start = start_of id in
     let fits : IsFrame (end_of id start before) r.frame = subst (λ (at : Cursor). IsFrame at r.frame) so_far.at_end r.fits in
-    let all : IsReplayOf id (before ++ r.frame ∷ []) next new = record {
+    let all : IsReplayOf id taken (before ++ r.frame ∷ []) next new = record {
       are = one_fits id start before r.frame so_far.are fits;
       at_end = r.at_end ∙ ap (λ (at : Cursor). cursor_after id at r.frame) so_far.at_end ∙ sym (one_end id start before r.frame);
-      taken = λ _. r.taken.total_after ∙ ap (λ t. t ++ r.frame.payload) (so_far.taken r.taken.went_on) ∙ sym (payloads-snoc before r.frame);
+      taken = λ _. r.taken.total_after ∙ ap (λ t. t ++ r.frame.payload) (so_far.taken r.taken.went_on) ∙ append_assoc taken (payloads before) r.frame.payload ∙ ap (λ t. taken ++ t) (sym (payloads-snoc before r.frame));
     } in
-    subst (λ (fs : List Frame). IsReplayOf id fs next new) (sym r.added) all
+    subst (λ (fs : List Frame). IsReplayOf id taken fs next new) (sym r.added) all
 
 -- the log that was read begins with one frame more
-pub begins_with : (id : ℕ) (c next : Cursor) (log mid rest : Option (List ℕ)) (before after : List Frame) (old new : ReplayView)
-    → IsReplayOf id before c old → BeginsWith id log mid before → ReplaysFrame id c next mid rest before after old new → BeginsWith id log rest after
-begins_with id c next log mid rest before after old new so_far given r =
+pub begins_with : (id : ℕ) (c next : Cursor) (log mid rest : Option (List ℕ)) (taken : List ℕ) (before after : List Frame) (old new : ReplayView)
+    → IsReplayOf id taken before c old → BeginsWith id log mid before → ReplaysFrame id c next mid rest before after old new → BeginsWith id log rest after
+begins_with id c next log mid rest taken before after old new so_far given r =
     let start = start_of id in
     let more : Consumes mid rest (frame_bytes id (end_of id start before) r.frame) = subst (λ (at : Cursor). Consumes mid rest (frame_bytes id at r.frame)) so_far.at_end r.given in
     subst (λ (fs : List Frame). BeginsWith id log rest fs) (sym r.added) (one_given id start log mid rest before r.frame given more)
 
 -- no further frame was replayed
-pub no_more : (id : ℕ) (c : Cursor) (before after : List Frame) (old new : ReplayView) → IsReplayOf id before c old → ReplaysNoFrame before after old new → IsReplayOf id after c new
-no_more id c before after old new so_far (same, inl e) =
-    subst (λ (fs : List Frame). IsReplayOf id fs c new) (sym same) (subst (λ (v : ReplayView). IsReplayOf id before c v) (sym e) so_far)
-no_more id c before after old new so_far (same, inr stopped) =
-    subst (λ (fs : List Frame). IsReplayOf id fs c new) (sym same) (record { are = so_far.are; at_end = so_far.at_end; taken = λ g. cc })
+pub no_more : (id : ℕ) (c : Cursor) (log : Option (List ℕ)) (e : Ending) (taken : List ℕ) (before after : List Frame) (old new : ReplayView)
+    → IsReplayOf id taken before c old → ReplaysNoFrame id c log e before after old new → IsReplayOf id taken after c new
+no_more id c log e taken before after old new so_far ended =
+    let same : IsReplayOf id taken before c new = elim ended.replay [
+      | inl e ↦ subst (λ (v : ReplayView). IsReplayOf id taken before c v) (sym e) so_far
+      | inr stopped ↦ record { are = so_far.are; at_end = so_far.at_end; taken = λ g. cc }
+    ] in
+    subst (λ (fs : List Frame). IsReplayOf id taken fs c new) (sym ended.frames) same
 
--- nothing was read yet
-pub start : (id : ℕ) (c : Cursor) (frames : List Frame) (v : ReplayView) (log : Option (List ℕ)) → v ≡ fresh → frames ≡ [] → c ≡ start_of id → IsReplayOf id frames c v × BeginsWith id log log frames
-start id c frames v log is_fresh none at_start =
-    let first : IsReplayOf id [] c v = subst (λ (at : Cursor). IsReplayOf id [] at v) (sym at_start) (no_frame id v is_fresh) in
-    (subst (λ (fs : List Frame). IsReplayOf id fs c v) (sym none) first, subst (λ (fs : List Frame). BeginsWith id log log fs) (sym none) (Consumes-nil log))
+-- the log begins with the same frames, and ends there
+pub read_as : (id : ℕ) (c : Cursor) (log rest : Option (List ℕ)) (e : Ending) (before after : List Frame) (old new : ReplayView)
+    → BeginsWith id log rest before → ReplaysNoFrame id c rest e before after old new → IsReadAs id log after c e
+read_as id c log rest e before after old new given ended = record {
+  rest = rest;
+  begins = subst (λ (fs : List Frame). BeginsWith id log rest fs) (sym ended.frames) given;
+  ends = ended.ends;
+}
 
--- the log begins with the same frames
-pub same_beginning : (id : ℕ) (log rest : Option (List ℕ)) (before after : List Frame) (old new : ReplayView) → BeginsWith id log rest before → ReplaysNoFrame before after old new → IsBeginning id log after
-same_beginning id log rest before after old new given ended = (rest, subst (λ (fs : List Frame). BeginsWith id log rest fs) (sym ended.0) given)
-
--- if nothing is left over, the replayed bytes are the payloads
-pub whole : (id : ℕ) (frames : List Frame) (c : Cursor) (v : ReplayView) → IsReplayOf id frames c v → v.goes_on ≡ true → v.left ≡ [] → v.replayed ≡ payloads frames
-whole id frames c v of g none = sym (append-nil v.replayed) ∙ ap (λ t. v.replayed ++ t) (sym none) ∙ of.taken g
+-- if nothing is left over, the replayed bytes end with the payloads
+pub whole : (id : ℕ) (frames : List Frame) (c : Cursor) (v : ReplayView) → EndsWithReplayOf id frames c v → v.goes_on ≡ true → v.left ≡ [] → v.replayed ≡ replayed_before v frames ++ payloads frames
+whole id frames c v (before, of) g none =
+    let all : v.replayed ≡ before ++ payloads frames = sym (append-nil v.replayed) ∙ ap (λ t. v.replayed ++ t) (sym none) ∙ of.taken g in
+    let long : length v.replayed - length (payloads frames) ≡ length before = omega (arith, ap length all, length-append before (payloads frames)) in
+    let front : replayed_before v frames ≡ before = ap (λ n. take n v.replayed) long ∙ ap (take (length before)) all ∙ take_at before (payloads frames) (length before) refl in
+    all ∙ ap (λ t. t ++ payloads frames) (sym front)
 
 -- nothing was left over before
 pub alone : (old new : DeviceView Step) (left payload rest more : List ℕ) → left ≡ [] → more ≡ rest → Continues old new payload rest → Continues old new (left ++ payload) more

@@ -1,10 +1,12 @@
 -- What a replay knows of a log.
-use Rattle.std.specs.Prelude.{◌≡◌, ◌⊎◌, ℕ, Bool, false, true, List, [], ◌∷◌, ◌++◌, Option}
+use Rattle.std.specs.Prelude.{◌≡◌, ◌⊎◌, ◌-◌, ℕ, Bool, false, true, List, [], ◌∷◌, ◌++◌, Option, length, take}
 use Rattle.std.specs.Io.KnownBytes.{Consumes}
 use Rattle.durable_log.specs.Views.{DeviceView}
+use Rattle.log_frames.specs.Endings.{EndsAt}
 use Rattle.log_frames.specs.Frames.{AreFrames, Frame, IsFrame, cursor_after, end_of, frame_bytes, frames_bytes, payloads}
 use Rattle.log_frames.specs.Headers.{start_of}
 use Rattle.log_frames.specs.declared.cursor.Cursor.{Cursor}
+use Rattle.log_frames.specs.declared.reading.Ending.{Ending}
 use Rattle.store_model.specs.Histories.{Step}
 
 -- a replay: whether it goes on, the bytes of the records that were played and compared, and the bytes that are left over
@@ -43,26 +45,38 @@ pub record HasDurable (bytes : List ℕ) (d : DeviceView Step) : Type 0 where
 
 -- ---- frames
 
--- a log that was replayed: its id, the frames that were read, the cursor after them, and the replay
+-- a log that was replayed: its id, the frames that were read, the cursor after them, why there were no more, and the replay
 pub record ReplayedView : Type 0 where
   pub id : ℕ
   pub frames : List Frame
   pub cursor : Cursor
+  pub ending : Ending
   pub replay : ReplayView
 
--- The frames are those of a log with this id, and the cursor is after them. While the replay goes on, the bytes that it took are their payloads.
-pub record IsReplayOf (id : ℕ) (frames : List Frame) (c : Cursor) (v : ReplayView) : Type 0 where
+-- The frames are those of a log with this id, and the cursor is after them. While the replay goes on, the bytes that it took are those that it
+-- took before, from other logs, and then the payloads of the frames.
+pub record IsReplayOf (id : ℕ) (before : List ℕ) (frames : List Frame) (c : Cursor) (v : ReplayView) : Type 0 where
   pub are : AreFrames id (start_of id) frames
   pub at_end : c ≡ end_of id (start_of id) frames
-  pub taken : v.goes_on ≡ true → total v ≡ payloads frames
+  pub taken : v.goes_on ≡ true → total v ≡ before ++ payloads frames
+
+-- the same, whatever the replay took before
+abbrev pub EndsWithReplayOf : ℕ → List Frame → Cursor → ReplayView → Type 0
+EndsWithReplayOf id frames c v = (before : List ℕ) × IsReplayOf id before frames c v
+
+-- the replayed bytes without the payloads of these frames at their end
+abbrev pub replayed_before : ReplayView → List Frame → List ℕ
+replayed_before v frames = take (length v.replayed - length (payloads frames)) v.replayed
 
 -- the log that was read begins with these frames
 abbrev pub BeginsWith : ℕ → Option (List ℕ) → Option (List ℕ) → List Frame → Type 0
 BeginsWith id log rest frames = Consumes log rest (frames_bytes id (start_of id) frames)
 
--- the log begins with these frames, and something follows
-abbrev pub IsBeginning : ℕ → Option (List ℕ) → List Frame → Type 0
-IsBeginning id log frames = (rest : Option (List ℕ)) × BeginsWith id log rest frames
+-- the log begins with these frames, and what follows at the cursor is the reason why there are no more
+pub record IsReadAs (id : ℕ) (log : Option (List ℕ)) (frames : List Frame) (c : Cursor) (ending : Ending) : Type 0 where
+  pub rest : Option (List ℕ)
+  pub begins : BeginsWith id log rest frames
+  pub ends : EndsAt id c rest ending
 
 -- a frame was read at the cursor, and replayed
 pub record ReplaysFrame (id : ℕ) (c next : Cursor) (log rest : Option (List ℕ)) (before after : List Frame) (old new : ReplayView) : Type 0 where
@@ -73,6 +87,8 @@ pub record ReplaysFrame (id : ℕ) (c next : Cursor) (log rest : Option (List �
   pub added : after ≡ before ++ frame ∷ []
   pub taken : TakesPayload old frame.payload new
 
--- no frame was added, and the replay is unchanged or does not go on
-abbrev pub ReplaysNoFrame : List Frame → List Frame → ReplayView → ReplayView → Type 0
-ReplaysNoFrame before after old new = (after ≡ before) × ((new ≡ old) ⊎ (new.goes_on ≡ false))
+-- no frame was added, for this reason, and the replay is unchanged or does not go on
+pub record ReplaysNoFrame (id : ℕ) (c : Cursor) (log : Option (List ℕ)) (ending : Ending) (before after : List Frame) (old new : ReplayView) : Type 0 where
+  pub frames : after ≡ before
+  pub replay : (new ≡ old) ⊎ (new.goes_on ≡ false)
+  pub ends : EndsAt id c log ending

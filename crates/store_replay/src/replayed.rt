@@ -1,10 +1,11 @@
 //! Replays a log, and continues it.
 
-ghost use Rattle.std.specs.Prelude.{◌≡◌, ◌≤◌, ◌+◌, ◌++◌, ◌∷◌, [], false, true, IfOk, OnErr, OnOk, length};
+ghost use Rattle.std.specs.Prelude.{◌≡◌, ◌≤◌, ◌+◌, ◌++◌, ◌∷◌, [], false, true, IfErr, IfOk, OnErr, OnOk, length};
 ghost use Rattle.log_frames.specs.Frames.{AreFrames, end_of, payloads};
 ghost use Rattle.log_frames.specs.Headers.{log_bytes, start_of};
 ghost use Rattle.log_frames.specs.Reads.{frame_in, payload_in};
-ghost use Rattle.store_replay.specs.Replays.{HasDurable, IsBeginning, IsReplayOf, ReplaysFrame, ReplaysNoFrame, TakesPayload, fresh};
+ghost use Rattle.log_frames.specs.declared.reading.Ending.TheVariants.{End, Refused};
+ghost use Rattle.store_replay.specs.Replays.{EndsWithReplayOf, HasDurable, IsReadAs, IsReplayOf, ReplaysFrame, ReplaysNoFrame, TakesPayload, total};
 
 use crate::observer::ChangeSink;
 use crate::replay::Replay;
@@ -18,6 +19,7 @@ use log_frames::{
     Cursor, Ending, FrameHead, FrameSink, FramesRead, NextFrame, ReadFault, judge_rest,
     read_next_frame, start_of,
 };
+use segmented_disk::{SegmentFolder, SegmentedDisk};
 use std::alloc::{AllocError, Global};
 use std::fmt;
 use std::fs::File;
@@ -27,8 +29,9 @@ use std::sync::Wait;
 
 /// A log that was read and replayed, perhaps only up to a fault.
 ///
-/// Contracts see the frames that were read, and the replay. While there is no fault, the bytes that were replayed and those
-/// that are left over are the payloads of these frames.
+/// Contracts see the frames that were read, the reason why there were no more, and the replay. While there is no fault, the
+/// bytes that were replayed and those that are left over end with the payloads of these frames. In front of these payloads
+/// are those of the logs that were replayed before.
 #[derive(Drop)]
 pub struct Replayed<'s, W: Wait, S: Naming, O: ChangeSink> {
     replay: Replay<'s, W, S, O>,
@@ -38,13 +41,13 @@ pub struct Replayed<'s, W: Wait, S: Naming, O: ChangeSink> {
 }
 
 impl<'s, W: Wait, S: Naming, O: ChangeSink> Model for Replayed<'s, W, S, O> {
-    ghost use Rattle.store_replay.specs.Replays.{IsReplayOf, ReplayedView};
+    ghost use Rattle.store_replay.specs.Replays.{EndsWithReplayOf, ReplayedView};
 
     ghost Value = { ReplayedView };
 
-    ghost view = { λ r. record { id = r.id; frames = r.trail; cursor = r.read.cursor; replay = r.replay } };
+    ghost view = { λ r. record { id = r.id; frames = r.trail; cursor = r.read.cursor; ending = r.read.ending; replay = r.replay } };
 
-    ghost invariant = { λ r. IsReplayOf r.id r.trail r.read.cursor r.replay };
+    ghost invariant = { λ r. EndsWithReplayOf r.id r.trail r.read.cursor r.replay };
 }
 
 /// The reason why a log cannot be continued.
@@ -85,6 +88,7 @@ fn replay_frame<W: Wait, S: Naming, O: ChangeSink>(
     ensures added { OnOk result (trail.new ≡ trail.old ++ frame_in head buffer.now ∷ []) }
     ensures stops { OnErr result (replay.new.goes_on ≡ false) }
     ensures kept { OnErr result (trail.new ≡ trail.old) }
+    ensures refused { IfErr result (λ e. e ≡ Refused) }
 {
     let (_, behind) = buffer.split_at(32);
     let (payload, _) = behind.split_at(head.length as usize);
@@ -109,7 +113,8 @@ fn replay_next_frame<R: Read, W: Wait, S: Naming, O: ChangeSink>(
 ) -> Result<(u64, Cursor), Ending>
     ensures replayed { IfOk result (λ r. ReplaysFrame id cursor r.1 (R.remaining input.old)
         (R.remaining input.new) trail.old trail.new replay.old replay.new) }
-    ensures ended { OnErr result (ReplaysNoFrame trail.old trail.new replay.old replay.new) }
+    ensures ended { IfErr result (λ e. ReplaysNoFrame id cursor (R.remaining input.old) e trail.old trail.new
+        replay.old replay.new) }
 {
     match read_next_frame(input, buffer, id, cursor) {
         Ok(NextFrame::Frame(head, next)) => {
@@ -134,10 +139,9 @@ fn replay_frames<R: Read, W: Wait, S: Naming, O: ChangeSink>(
     buffer: &mut Vec<u8>,
     id: u64,
 ) -> FramesRead
-    requires replay { replay.old ≡ fresh }
-    requires trail { trail.old ≡ [] }
-    ensures of { IsReplayOf id trail.new result.cursor replay.new }
-    ensures read { IsBeginning id (R.remaining input.old) trail.new }
+    requires { trail.old ≡ [] }
+    ensures of { IsReplayOf id (total replay.old) trail.new result.cursor replay.new }
+    ensures read { IsReadAs id (R.remaining input.old) trail.new result.cursor result.ending }
 {
     let mut cursor = start_of(id);
     let mut synced: u64 = 0;
@@ -166,6 +170,8 @@ fn replay_frames<R: Read, W: Wait, S: Naming, O: ChangeSink>(
 /// Reads the frames of a log with this id, from the end of its header on, and replays them. The buffer grows with the
 /// longest frame, as for `read_frames`.
 ///
+/// The replay goes on from the logs that it has taken before. A record may begin in one of them and end in this one.
+///
 /// # Errors
 ///
 /// - if memory for the replay runs out. A fault of the replay is no error: `Replayed` has it.
@@ -175,9 +181,9 @@ pub fn replay_log<'s, R: Read, W: Wait, S: Naming, O: ChangeSink>(
     buffer: &mut Vec<u8>,
     id: u64,
 ) -> Result<Replayed<'s, W, S, O>, AllocError>
-    requires { replay ≡ fresh }
-    ensures of { IfOk result (λ r. (r.id ≡ id) × IsReplayOf id r.frames r.cursor r.replay) }
-    ensures read { IfOk result (λ r. IsBeginning id (R.remaining input.old) r.frames) }
+    ensures id { IfOk result (λ r. r.id ≡ id) }
+    ensures of { IfOk result (λ r. IsReplayOf id (total replay.entry) r.frames r.cursor r.replay) }
+    ensures read { IfOk result (λ r. IsReadAs id (R.remaining input.old) r.frames r.cursor r.ending) }
 {
     let mut replay = replay;
     let mut trail = FrameTrail::new(replay.allocator())?;
@@ -198,7 +204,7 @@ impl<'s, W: Wait, S: Naming, O: ChangeSink> Replayed<'s, W, S, O> {
         &self.replay
     }
 
-    /// Returns the replay.
+    /// Returns the replay, which can go on with the next log.
     pub fn into_replay(self) -> Replay<'s, W, S, O>
         ensures { result ≡ self.entry.replay }
     {
@@ -213,74 +219,114 @@ impl<'s, W: Wait, S: Naming, O: ChangeSink> Replayed<'s, W, S, O> {
 
     /// Returns what is known of the frames that were read: the cursor after them, and the reason why there was no more.
     pub fn read(&self) -> FramesRead
-        ensures { result.cursor ≡ self.now.cursor }
+        ensures cursor { result.cursor ≡ self.now.cursor }
+        ensures ending { result.ending ≡ self.now.ending }
     {
         self.read
     }
 
-    /// Returns whether the whole log was replayed: it ends in order, there was no fault, and nothing is left over.
-    pub fn is_whole(&self) -> bool
-        ensures { result ≡ true → (self.now.replay.goes_on ≡ true) × (self.now.replay.left ≡ []) }
+    /// Returns whether the log was replayed up to its end: it ends in order, and there was no fault. Its last record may end in
+    /// the next log.
+    pub fn is_at_end(&self) -> bool
+        ensures { result ≡ true → (self.now.ending ≡ End) × (self.now.replay.goes_on ≡ true) }
     {
-        matches!(self.read.ending, Ending::End)
-            && self.replay.goes_on()
-            && self.replay.left_over() == 0
+        matches!(self.read.ending, Ending::End) && self.replay.goes_on()
+    }
+
+    /// Returns whether the log was replayed up to its end, and nothing is left over.
+    pub fn is_whole(&self) -> bool
+        ensures ended { result ≡ true → (self.now.ending ≡ End) × (self.now.replay.goes_on ≡ true) }
+        ensures left { result ≡ true → self.now.replay.left ≡ [] }
+    {
+        self.is_at_end() && self.replay.left_over() == 0
     }
 }
 
-/// Continues a log on a disk that holds it: a log with this id and the frames that `F` names, whose payloads were
-/// replayed. Writes a mark and syncs the disk. Returns the desk of the replay, and the device of the store's log, which
-/// writes to that disk from then on.
+/// Continues the last log of a replay on a disk that holds it: a log with this id and the frames that `F` names. `B` names the
+/// payloads of the logs that were replayed before, whose files have this length. Writes a mark and syncs the disk. Returns
+/// the desk of the replay, and the device of the store's log, which writes to that disk from then on, and later to those that
+/// the folder makes.
 ///
 /// # Errors
 ///
 /// - The error of a call on the disk.
 /// - `Memory`
-pub fn continue_on<'s, F: FramesName, D: Disk, W: Wait, S: Naming, O: ChangeSink>(
+pub fn continue_on<
+    's,
+    F: FramesName,
+    B: BytesName,
+    D: Disk,
+    G: SegmentFolder<D>,
+    W: Wait,
+    S: Naming,
+    O: ChangeSink,
+>(
     alloc: Global,
     replay: Replay<'s, W, S, O>,
     raw: D,
     id: u64,
     cursor: Cursor,
-) -> Result<(Desk<S>, IdleDevice<Step, StoreLog<S>, FramedDisk<D>>), DiskError>
+    folder: G,
+    closed_length: u64,
+) -> Result<(Desk<S>, IdleDevice<Step, StoreLog<S>, SegmentedDisk<D, G>>), DiskError>
     requires frames { AreFrames id (start_of id) F.frames }
     requires cursor { cursor ≡ end_of id (start_of id) F.frames }
     requires written { D.written raw ≡ log_bytes id F.frames }
     requires synced { D.synced raw ≡ D.written raw }
     requires goes_on { replay.goes_on ≡ true }
-    requires replayed { replay.replayed ≡ payloads F.frames }
+    requires replayed { replay.replayed ≡ B.bytes ++ payloads F.frames }
     ensures { IfOk result (λ r. HasDurable replay.entry.replayed r.1) }
 {
-    let mut disk = FramedDisk::open::<F>(alloc, raw, id, cursor)?;
+    let segment = FramedDisk::open::<F>(alloc, raw, id, cursor)?;
+    let mut disk = SegmentedDisk::new::<B>(alloc, folder, segment, closed_length, cursor.place)?;
     disk.mark()?;
     disk.sync()?;
     Ok(replay.finish(disk))
 }
 
-/// Continues a log on the file that it was read from. The frames and the bytes of the file are picked in the proof alone.
-#[tactic(auto, using(crate::proofs::Taking::whole))]
-fn continue_on_file_as<'s, F: FramesName, B: BytesName, W: Wait, S: Naming, O: ChangeSink>(
+/// Continues the last log of a replay on the file that it was read from. The frames, the bytes of the file and the payloads of
+/// the logs before are picked in the proof alone.
+fn continue_on_file_as<
+    's,
+    F: FramesName,
+    B: BytesName,
+    C: BytesName,
+    G: SegmentFolder<FileDisk>,
+    W: Wait,
+    S: Naming,
+    O: ChangeSink,
+>(
     alloc: Global,
     replay: Replay<'s, W, S, O>,
     trail: &FrameTrail,
     id: u64,
     cursor: Cursor,
     file: File,
-) -> Result<(Desk<S>, IdleDevice<Step, StoreLog<S>, FramedDisk<FileDisk>>), DiskError>
+    folder: G,
+    closed_length: u64,
+) -> Result<
+    (
+        Desk<S>,
+        IdleDevice<Step, StoreLog<S>, SegmentedDisk<FileDisk, G>>,
+    ),
+    DiskError,
+>
     requires named { F.frames ≡ trail.now }
     requires bytes { B.bytes ≡ log_bytes id trail.now }
-    requires of { IsReplayOf id trail.now cursor replay }
+    requires closed { replay.replayed ≡ C.bytes ++ payloads trail.now }
+    requires of { EndsWithReplayOf id trail.now cursor replay }
     requires goes_on { replay.goes_on ≡ true }
-    requires left { replay.left ≡ [] }
     ensures { IfOk result (λ r. HasDurable replay.entry.replayed r.1) }
 {
     let _ = trail;
     let raw = FileDisk::new::<B>(alloc, file, cursor.place)?;
-    continue_on::<F, FileDisk, W, S, O>(alloc, replay, raw, id, cursor)
+    continue_on::<F, C, FileDisk, G, W, S, O>(alloc, replay, raw, id, cursor, folder, closed_length)
 }
 
-/// Continues a log on the file that it was read from. Syncs the file, writes a mark and syncs it again. Returns the desk of
-/// the replay, and the device of the store's log, which writes to that file from then on.
+/// Continues the last log of a replay on the file that it was read from. Syncs the file, writes a mark and syncs it again.
+/// `closed_length` is the length of the files of the logs that were replayed before, in bytes. Returns the desk of the
+/// replay, and the device of the store's log, which writes to that file from then on, and later to those that the folder
+/// makes.
 ///
 /// The premise of `FileDisk` is that the file holds the header and the frames that were read.
 ///
@@ -289,11 +335,20 @@ fn continue_on_file_as<'s, F: FramesName, B: BytesName, W: Wait, S: Naming, O: C
 /// - `Unfinished` if the log was not replayed as a whole.
 /// - `Disk`: the file cannot be sought, written or synced, it has another length than the log that was read, or memory ran
 ///   out.
-pub fn continue_on_file<'s, W: Wait, S: Naming, O: ChangeSink>(
+#[tactic(auto, using(crate::proofs::Taking::whole))]
+pub fn continue_on_file<'s, G: SegmentFolder<FileDisk>, W: Wait, S: Naming, O: ChangeSink>(
     alloc: Global,
     replayed: Replayed<'s, W, S, O>,
     file: File,
-) -> Result<(Desk<S>, IdleDevice<Step, StoreLog<S>, FramedDisk<FileDisk>>), ContinueError>
+    folder: G,
+    closed_length: u64,
+) -> Result<
+    (
+        Desk<S>,
+        IdleDevice<Step, StoreLog<S>, SegmentedDisk<FileDisk, G>>,
+    ),
+    ContinueError,
+>
     ensures { IfOk result (λ r. HasDurable replayed.entry.replay.replayed r.1) }
 {
     if !replayed.is_whole() {
@@ -305,13 +360,15 @@ pub fn continue_on_file<'s, W: Wait, S: Naming, O: ChangeSink>(
         id,
         trail,
     } = replayed;
-    let done = continue_on_file_as::<Brand, Brand, W, S, O>(
+    let done = continue_on_file_as::<Brand, Brand, Brand, G, W, S, O>(
         alloc,
         replay,
         &trail,
         id,
         read.cursor,
         file,
+        folder,
+        closed_length,
     );
     match done {
         Ok(continued) => Ok(continued),

@@ -4,4 +4,4 @@ use Rattle.log_frames.specs.declared.cursor.Cursor.{Cursor}
 use Rattle.store_replay.proofs.replayed.continue_on_file_as.Goals as goal
 
 pub new-requires : goal.new-requires
-new-requires g c = ap length c.requires.bytes ∙ log_bytes-length c.args.id c.args.trail.now ∙ ap (λ (at : Cursor). at.place) (sym c.requires.of.at_end)
+new-requires g c = ap length c.requires.bytes ∙ log_bytes-length c.args.id c.args.trail.now ∙ ap (λ (at : Cursor). at.place) (sym c.requires.of.1.at_end)

@@ -1,5 +1,0 @@
-pub mod Flagging
-pub mod Guarding
-pub mod Partings
-pub mod Sending
-pub mod Through

@@ -1,0 +1,48 @@
+//! The names of the files in the folder of a log.
+
+use std::alloc::{AllocError, Global};
+use std::fmt;
+
+/// A file in the folder of a log, or the folder.
+#[derive(Clone, Copy, Debug, PartialEq, Eq)]
+pub enum FolderFile {
+    /// The folder.
+    Folder,
+    /// `lock`: locked by the process that has the folder.
+    Lock,
+    /// `log.N`: the segment with this number.
+    Log(u64),
+    /// `base.N`: what is needed of the segments up to this number.
+    Base(u64),
+    /// `log.new`: a segment that is being made.
+    NewLog,
+    /// `base.new`: a base that is being written.
+    NewBase,
+    /// `log`: the only segment of a folder that an earlier version made.
+    EarlierLog,
+    /// `rewrite`: the request to rewrite the log.
+    Request,
+}
+
+/// The name, with a slash before it. The text of the folder is empty.
+impl fmt::Display for FolderFile {
+    fn fmt<W: fmt::Write>(&self, f: &mut fmt::Formatter<W>) -> fmt::Result {
+        match self {
+            FolderFile::Folder => Ok(()),
+            FolderFile::Lock => f.write_str("/lock"),
+            FolderFile::Log(number) => write!(f, "/log.{number}"),
+            FolderFile::Base(number) => write!(f, "/base.{number}"),
+            FolderFile::NewLog => f.write_str("/log.new"),
+            FolderFile::NewBase => f.write_str("/base.new"),
+            FolderFile::EarlierLog => f.write_str("/log"),
+            FolderFile::Request => f.write_str("/rewrite"),
+        }
+    }
+}
+
+impl FolderFile {
+    /// Returns the path of the file in a folder.
+    pub fn path(self, alloc: Global, folder: &str) -> Result<String, AllocError> {
+        format!(in alloc; "{folder}{self}")
+    }
+}

@@ -1,0 +1,226 @@
+//! Rewrites the closed segments of a log into a base.
+
+use crate::data_folder::{create, remove, rename_synced};
+use crate::error::FolderError;
+use crate::folder_file::FolderFile;
+use crate::listing::Listing;
+use crate::progress::Work;
+use crate::segment::Segment;
+use log_frames::{Cursor, header_bytes, write_frame};
+use log_rewriting::{Filter, Inventory, LogRewriting, RewriteError, take_inventory};
+use std::fs::File;
+use std::io::{self, BufWriter, Seek, SeekFrom, Write};
+
+/// Segments of at most this length in all are not rewritten, in bytes.
+const SMALL: u64 = 1_048_576;
+
+/// When segments are rewritten.
+#[derive(Clone, Copy, PartialEq, Eq)]
+pub enum When {
+    /// If they are longer than a MiB and less than half of them is needed.
+    Wasteful,
+    /// In any case.
+    Always,
+}
+
+/// What became of segments.
+#[derive(Clone, Copy, Debug, PartialEq, Eq)]
+pub enum Outcome {
+    /// They stay as they are. This number of bytes of records is needed.
+    Kept(u64),
+    /// There is a base in place of them, which has this length in bytes.
+    Rewritten(u64),
+}
+
+/// Returns the length of all segments, in bytes.
+pub fn length_of(segments: &[Segment]) -> u64 {
+    match segments.last() {
+        Some(last) => last.end(),
+        None => 0,
+    }
+}
+
+/// Returns the inventory of segments.
+fn inventory_of(
+    rt: &HostRuntime,
+    folder: &str,
+    segments: &mut [Segment],
+    buffer: &mut Vec<u8>,
+) -> Result<Inventory, RewriteError> {
+    let work = Work::begin(rt, "examining", length_of(segments));
+    let mut inventory = Inventory::new(rt.alloc());
+    for segment in segments {
+        let id = segment.id;
+        let mut input = match segment.frames(rt, folder, work) {
+            Ok(input) => input,
+            Err(error) => return Err(RewriteError::of_read(error)),
+        };
+        inventory = take_inventory(rt.alloc(), inventory, &mut input, buffer, id)?;
+    }
+    Ok(inventory)
+}
+
+/// Syncs a log, and writes a last frame which states that it was synced up to there.
+fn sync_and_mark(file: &mut File, id: u64, end: Cursor) -> io::Result<()> {
+    file.sync_all()?;
+    let _ = file.seek(SeekFrom::End(0))?;
+    if end.place <= u64::MAX - 40 {
+        let _ = write_frame(file, id, end, end.place, b"")?;
+    }
+    file.sync_all()
+}
+
+/// Writes what is needed of segments behind the header of a log with this id. Returns the cursor after the last frame.
+fn write_needed(
+    rt: &HostRuntime,
+    folder: &str,
+    filter: &Filter,
+    segments: &mut [Segment],
+    buffer: &mut Vec<u8>,
+    file: &File,
+    id: u64,
+) -> Result<Cursor, RewriteError> {
+    let Ok(output) = BufWriter::new(rt.alloc(), file) else {
+        return Err(RewriteError::Memory);
+    };
+    let work = Work::begin(rt, "rewriting", length_of(segments));
+    let mut rewriting = LogRewriting::new(rt.alloc(), filter, output, id);
+    for segment in segments {
+        let old = segment.id;
+        let mut input = match segment.frames(rt, folder, work) {
+            Ok(input) => input,
+            Err(error) => return Err(RewriteError::of_read(error)),
+        };
+        rewriting = rewriting.rewrite(&mut input, buffer, old)?;
+    }
+    rewriting.finish()
+}
+
+/// Makes `base.new`, a log with this id and without frames.
+fn begin_base(rt: &HostRuntime, folder: &str, id: u64) -> io::Result<File> {
+    let mut file = create(rt, folder, FolderFile::NewBase)?;
+    file.write_all(&header_bytes(id))?;
+    Ok(file)
+}
+
+/// Writes what is needed of segments into `base.new` with this id, and syncs it.
+fn write_base(
+    rt: &HostRuntime,
+    folder: &str,
+    filter: &Filter,
+    segments: &mut [Segment],
+    buffer: &mut Vec<u8>,
+    id: u64,
+) -> Result<Segment, RewriteError> {
+    let mut file = match begin_base(rt, folder, id) {
+        Ok(file) => file,
+        Err(error) => return Err(RewriteError::of_write(error)),
+    };
+    let end = write_needed(rt, folder, filter, segments, buffer, &file, id)?;
+    if let Err(error) = sync_and_mark(&mut file, id, end) {
+        return Err(RewriteError::of_write(error));
+    }
+    match file.seek(SeekFrom::End(0)) {
+        Ok(length) => Ok(Segment {
+            name: FolderFile::NewBase,
+            file,
+            id,
+            length,
+            before: 0,
+        }),
+        Err(error) => Err(RewriteError::of_write(error)),
+    }
+}
+
+/// Writes what is needed of segments into `base.new`, and compares the states that both leave. Does nothing if it is not the time to.
+fn rewrite(
+    rt: &HostRuntime,
+    folder: &str,
+    segments: &mut [Segment],
+    when: When,
+) -> Result<Outcome, RewriteError> {
+    let (was, id) = match segments.last() {
+        Some(last) => (last.end(), last.id),
+        None => return Ok(Outcome::Kept(0)),
+    };
+    if when == When::Wasteful && was <= SMALL {
+        return Ok(Outcome::Kept(was));
+    }
+    let mut buffer = Vec::new(rt.alloc()); // One for all files, so that memory does not grow with their number.
+    let inventory = inventory_of(rt, folder, segments, &mut buffer)?;
+    let live = inventory.live();
+    if when == When::Wasteful && live >= inventory.total() / 2 {
+        return Ok(Outcome::Kept(live));
+    }
+    let filter = inventory.filter()?;
+    let mut base = [write_base(rt, folder, &filter, segments, &mut buffer, id)?];
+    let left = inventory_of(rt, folder, &mut base, &mut buffer)?;
+    if !inventory.has_same_state(&left) {
+        return Err(RewriteError::Differs);
+    }
+    let [base] = base;
+    Ok(Outcome::Rewritten(base.length))
+}
+
+/// Returns the files of a folder that a base has replaced.
+fn replaced_files(rt: &HostRuntime, folder: &str) -> io::Result<Vec<FolderFile>> {
+    let listing = Listing::read(rt, folder)?;
+    listing.replaced(rt.alloc())
+}
+
+/// Makes `base.new` the base up to this number, so that a crash leaves it, and removes the files that it replaces.
+fn replace(rt: &HostRuntime, folder: &str, number: u64) -> Result<(), FolderError> {
+    let base = FolderFile::Base(number);
+    if let Err(error) = rename_synced(rt, folder, FolderFile::NewBase, base) {
+        return Err(FolderError::of_file("create", base, error));
+    }
+    let files = match replaced_files(rt, folder) {
+        Ok(files) => files,
+        Err(error) => return Err(FolderError::of_file("read", FolderFile::Folder, error)),
+    };
+    for file in files.iter() {
+        if let Err(error) = remove(rt, folder, *file) {
+            return Err(FolderError::of_file("remove", *file, error));
+        }
+    }
+    Ok(())
+}
+
+/// Rewrites the segments up to the one with this number, which are closed, into a base, if it is the time to. Prints both lengths. If
+/// the base cannot be written, prints why, and the segments stay as they are.
+///
+/// The base is synced, and leaves the same state as the segments, before it takes their place. A crash leaves either.
+///
+/// # Errors
+///
+/// Then the base may have taken the place of the segments, and nothing may be added to the last one of them.
+///
+/// - `File`, if the base cannot get its name, or a file that it replaces cannot be removed.
+/// - `Memory`
+pub fn compact(
+    rt: &HostRuntime,
+    folder: &str,
+    segments: &mut [Segment],
+    number: u64,
+    when: When,
+) -> Result<Outcome, FolderError> {
+    let was = length_of(segments);
+    let outcome = match rewrite(rt, folder, segments, when) {
+        Ok(outcome) => outcome,
+        Err(error) => {
+            let _ = eprint!(rt;
+                "blobd: {folder}{} was not written: {error}\n",
+                FolderFile::Base(number)
+            );
+            let _ = remove(rt, folder, FolderFile::NewBase);
+            return Ok(Outcome::Kept(was));
+        }
+    };
+    let Outcome::Rewritten(is) = outcome else {
+        return Ok(outcome);
+    };
+    replace(rt, folder, number)?;
+    let base = FolderFile::Base(number);
+    let _ = eprint!(rt; "blobd: {folder}{base} was written: {is} of {was} bytes are left\n");
+    Ok(outcome)
+}

@@ -1,0 +1,127 @@
+//! Rewrites closed segments while a store is served.
+
+use crate::data_folder::remove;
+use crate::error::FolderError;
+use crate::folder_file::FolderFile;
+use crate::listing::Listing;
+use crate::rewriting::{Outcome, When, compact, length_of};
+use crate::segment::Segment;
+use std::thread;
+use std::time::Duration;
+
+/// The pause between two looks at the folder, in milliseconds.
+const PAUSE_MILLIS: u64 = 1000;
+
+/// Watches the folder of a log, to rewrite its closed segments while a store writes the last one.
+///
+/// It examines them when they are twice as long as what was needed of them before, and when the file `rewrite` is in the folder.
+/// So the bytes that it reads are, over a long time, a small multiple of those that are written.
+#[derive(Drop)]
+pub struct Watch {
+    rt: HostRuntime,
+    folder: String,
+    /// The length of the closed segments from which on they are examined, in bytes.
+    next: u64,
+    /// The number of the last segment when they were last looked at.
+    last: u64,
+}
+
+/// Returns the length of the closed segments from which on they are examined again, in bytes.
+fn next_length(outcome: Outcome) -> u64 {
+    match outcome {
+        Outcome::Kept(needed) => needed.saturating_mul(2),
+        Outcome::Rewritten(length) => length.saturating_mul(2),
+    }
+}
+
+/// Opens the closed segments of a folder.
+fn open_closed(
+    rt: &HostRuntime,
+    folder: &str,
+    listing: &Listing,
+) -> Result<Vec<Segment>, FolderError> {
+    let mut files = match listing.files(rt.alloc()) {
+        Ok(files) => files,
+        Err(error) => return Err(FolderError::of_file("read", FolderFile::Folder, error)),
+    };
+    let _ = files.pop();
+    let mut segments: Vec<Segment> = Vec::new(rt.alloc());
+    for file in files.iter() {
+        let before = match segments.last() {
+            Some(previous) => previous.end(),
+            None => 0,
+        };
+        let next = Segment::open(rt, folder, *file, before)?;
+        if segments.push(next).is_err() {
+            return Err(FolderError::Memory);
+        }
+    }
+    Ok(segments)
+}
+
+impl Watch {
+    /// Begins after the segments of a folder were examined with this outcome.
+    pub fn new(rt: HostRuntime, folder: String, outcome: Outcome) -> Watch {
+        Watch {
+            rt,
+            folder,
+            next: next_length(outcome),
+            last: 0,
+        }
+    }
+
+    /// Returns whether the file `rewrite` was in the folder. Removes it.
+    fn is_asked(&self) -> bool {
+        matches!(
+            remove(&self.rt, self.folder.as_str(), FolderFile::Request),
+            Ok(true)
+        )
+    }
+
+    /// Rewrites the closed segments of a listing, if they are long enough or it was asked for.
+    fn rewrite(&mut self, listing: &Listing, is_asked: bool) -> Result<(), FolderError> {
+        let mut segments = open_closed(&self.rt, self.folder.as_str(), listing)?;
+        if !is_asked && length_of(segments.as_slice()) < self.next {
+            return Ok(());
+        }
+        let when = if is_asked {
+            When::Always
+        } else {
+            When::Wasteful
+        };
+        let number = listing.last().saturating_sub(1);
+        let folder = self.folder.as_str();
+        let outcome = compact(&self.rt, folder, segments.as_mut_slice(), number, when)?;
+        self.next = next_length(outcome);
+        Ok(())
+    }
+
+    /// Looks at the folder, and rewrites the closed segments if it is the time to.
+    fn look(&mut self) -> Result<(), FolderError> {
+        let is_asked = self.is_asked();
+        let listing = match Listing::read(&self.rt, self.folder.as_str()) {
+            Ok(listing) => listing,
+            Err(error) => return Err(FolderError::of_file("read", FolderFile::Folder, error)),
+        };
+        let last = listing.last();
+        if last == self.last && !is_asked {
+            return Ok(());
+        }
+        self.last = last;
+        if last <= listing.base.saturating_add(1) {
+            return Ok(()); // No segment was closed since the base was written.
+        }
+        self.rewrite(&listing, is_asked)
+    }
+
+    /// Looks at the folder again and again. If a look fails, prints why.
+    pub fn run(mut self) {
+        for _ in 0..u64::MAX {
+            thread::sleep(&self.rt, Duration::from_millis(PAUSE_MILLIS));
+            if let Err(error) = self.look() {
+                let folder = self.folder.as_str();
+                let _ = eprint!(self.rt; "blobd: the log in {folder} was not rewritten: {error}\n");
+            }
+        }
+    }
+}

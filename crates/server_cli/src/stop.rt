@@ -1,0 +1,183 @@
+//! The reasons why the program stops before it serves all connections.
+ghost use Rattle.std.specs.Prelude.{◌≡◌};
+ghost use Rattle.server_cli.specs.Stops.{is_settings, stop_status, stop_text, tenant_stop};
+ghost use Rattle.server_cli.specs.declared.stop.Stop.TheVariants.{Memory};
+
+use crate::need::Need;
+use durable_log::CommitError;
+use log_folder::{Damage, FolderError, FolderFile, LogPlace};
+use std::alloc::AllocError;
+use std::{fmt, io};
+use tenant_args::TenantFault;
+
+/// The reason why the program stops before it serves all connections.
+#[derive(Drop)]
+pub enum Stop<'w> {
+    /// The arguments are wrong.
+    Usage,
+    /// A connection's file cannot be opened.
+    File {
+        /// The file's path.
+        path: &'w str,
+        /// The error of the operating system.
+        error: io::Error,
+    },
+    /// Memory ran out.
+    Memory,
+    /// The folder of the log or a file in it cannot be used.
+    Folder {
+        /// What cannot be done, as a verb.
+        action: &'static str,
+        /// The folder.
+        folder: &'w str,
+        /// The file in it, or the folder.
+        file: FolderFile,
+        /// The error of the operating system.
+        error: io::Error,
+    },
+    /// Another process has the folder of the log.
+    Held {
+        /// The folder.
+        folder: &'w str,
+    },
+    /// The log is damaged, or is no log of this version.
+    Damaged {
+        /// The folder of the log.
+        folder: &'w str,
+        /// The place in the log.
+        place: LogPlace,
+        /// What is wrong there.
+        damage: Damage,
+    },
+    /// The log cannot be written any more.
+    LogFailed {
+        /// The folder of the log.
+        folder: &'w str,
+        /// The reason.
+        error: CommitError,
+    },
+    /// The store that wrote the log had other settings.
+    Settings {
+        /// The folder of the log.
+        folder: &'w str,
+        /// The place of the first frame that needs other settings.
+        place: LogPlace,
+        /// The name of the repository or tenant whose change was refused.
+        name: String,
+        /// The setting that it needs.
+        need: Need,
+    },
+}
+
+impl From<AllocError> for Stop<'_> {
+    ghost from_gives = { λ _ e. e ≡ Memory };
+
+    fn from(_error: AllocError) -> Self {
+        Stop::Memory
+    }
+}
+
+impl From<TenantFault> for Stop<'_> {
+    ghost from_gives = { λ fault e. e ≡ tenant_stop fault };
+
+    fn from(fault: TenantFault) -> Self {
+        match fault {
+            TenantFault::BadTenant => Stop::Usage,
+            TenantFault::Memory => Stop::Memory,
+        }
+    }
+}
+
+impl<'w> Stop<'w> {
+    /// Returns the stop for a folder whose log cannot be used.
+    pub fn of_folder(folder: &'w str, error: FolderError) -> Stop<'w> {
+        match error {
+            FolderError::Memory => Stop::Memory,
+            FolderError::Held => Stop::Held { folder },
+            FolderError::Damaged(place, damage) => Stop::Damaged {
+                folder,
+                place,
+                damage,
+            },
+            FolderError::File {
+                action,
+                file,
+                error,
+            } => Stop::Folder {
+                action,
+                folder,
+                file,
+                error,
+            },
+        }
+    }
+}
+
+impl Stop<'_> {
+    /// Returns whether the store that wrote the log had other settings.
+    pub fn is_of_settings(&self) -> bool
+        ensures { result ≡ is_settings self.now }
+    {
+        matches!(self, Stop::Settings { .. })
+    }
+
+    /// Returns the exit status, 2 to 10. `docs/OPERATIONS.md` lists them.
+    pub fn status(&self) -> u8
+        ensures { result ≡ stop_status self.now }
+    {
+        match self {
+            Stop::Usage => 2,
+            Stop::File { .. } => 3,
+            Stop::Memory => 5,
+            Stop::Folder { .. } => 6,
+            Stop::Held { .. } => 7,
+            Stop::Damaged { .. } => 8,
+            Stop::LogFailed { .. } => 9,
+            Stop::Settings { .. } => 10,
+        }
+    }
+}
+
+/// The text that the program prints, with its line feed.
+impl fmt::Display for Stop<'_> {
+    ghost output = { λ stop. stop_text stop };
+
+    fn fmt<W: fmt::Write>(&self, f: &mut fmt::Formatter<W>) -> fmt::Result {
+        match self {
+            Stop::Usage => f.write_str(
+                "usage: blobd [--data DIR [--sync closes|each|never] [--accept-loss-after BYTE]] SLOTS MAX_BLOB TENANT=QUOTA.. [-- IN OUT [IN OUT]..]\n",
+            ),
+            Stop::File { path, error } => write!(f, "blobd: cannot open {path}: {error}\n"),
+            Stop::Memory => f.write_str("blobd: out of memory\n"),
+            Stop::Folder {
+                action,
+                folder,
+                file,
+                error,
+            } => write!(f, "blobd: cannot {action} {folder}{file}: {error}\n"),
+            Stop::Held { folder } => write!(f, "blobd: another process has {folder}/lock\n"),
+            Stop::Damaged {
+                folder,
+                place,
+                damage,
+            } => write!(
+                f,
+                "blobd: {folder}{} is damaged at byte {}, byte {} of the log: {damage}\n",
+                place.file, place.place, place.offset
+            ),
+            Stop::LogFailed { folder, error } => {
+                write!(f, "blobd: cannot write the log in {folder}: {error}\n")
+            }
+            Stop::Settings {
+                folder,
+                place,
+                name,
+                need,
+            } => write!(
+                f,
+                "blobd: {folder}{} needs other settings at byte {}: {name}: {need}\n",
+                place.file, place.place
+            ),
+        }
+    }
+}

@@ -1,0 +1,3 @@
+pub mod Guarding
+pub mod Sending
+pub mod Through

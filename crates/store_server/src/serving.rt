@@ -1,0 +1,258 @@
+//! Serves connections on a store.
+ghost use Rattle.std.specs.Prelude.{◌≡◌, ◌⊎◌, ◌+◌, [], IfErr, IfOk, OnErr, OnOk};
+ghost use Rattle.blob_digest.specs.declared.refusal.Refusal.TheVariants.{LimitReached, Memory};
+ghost use Rattle.blob_store.specs.Parts.{names_of};
+ghost use Rattle.blob_store.specs.StoreBackends.{work_of};
+ghost use Rattle.blob_store.specs.Workers.{zero_work};
+ghost use Rattle.store_server.specs.Connections.{AreServed, AreServedOn, IsClosedConnection, ServesStreams};
+ghost use Rattle.wire_server.specs.Connections.{EndsByRead};
+ghost use Rattle.wire_server.specs.ReplyStreams.{output_of};
+
+use crate::connection::{Connection, EndedConnection};
+use crate::guard::StoreGuard;
+use crate::service_end::{EndCell, ServiceEnd};
+use crate::shared::SharedLeases;
+use blob_digest::Refusal;
+use blob_store::{Desk, MAX_DESKS, Naming, Parts, SharedLogDevice, Store, StoreBackend, Totals};
+use ghost_log::SharedLog;
+use lease_table::{LeaseEvent, LeaseNaming, LeaseWriter, LockedLeaseTable};
+use locked_book::StorePins;
+use log_disk::{Disk, FileDisk};
+use std::alloc::{AllocError, Global};
+use std::io::{Read, Write};
+use std::marker::Brand;
+use std::sync::{Mutex, Wait};
+use std::thread::{self, Threads};
+use watched_reader::Watched;
+use wire_server::{Ending, ReplyStream, serve};
+
+/// Serves a connection with a new desk and a new writer of the table's history. Returns why the connection ended, and the
+/// desk. If a commit fails, the connection ends with `NotDurable`, and so does the service, with the error of the log.
+fn serve_with_desk<'s, W: Wait, S: Naming, L: LeaseNaming, D: Disk, I: Read, O: Write>(
+    rt: &'s W,
+    alloc: Global,
+    store: &'s Store<S>,
+    device: Option<&'s SharedLogDevice<S, D>>,
+    end: &EndCell,
+    table: &Mutex<LockedLeaseTable<'s, StorePins<S>, L>>,
+    desk: Desk<S>,
+    writer: LeaseWriter<L>,
+    input: &mut Watched<I>,
+    output: &mut ReplyStream<StoreGuard<'s, S, D>, O>,
+) -> (Ending, Desk<S>)
+    requires fresh { work_of desk ≡ zero_work }
+    requires unwritten { writer.own ≡ [] }
+    requires undurable { desk.trace.durable ≡ [] }
+    ensures served { ServesStreams S.names L.log I.remaining O.contents
+        input.old (output_of output.old) (output_of output.new) result.0 }
+    ensures failed { EndsByRead result.0 input.old input.new }
+{
+    let mut guard = StoreGuard::new(store, device);
+    let mut backend = StoreBackend { rt, store, desk };
+    let mut leases = SharedLeases { rt, table, writer };
+    let ending = serve(
+        rt,
+        alloc,
+        &mut guard,
+        &mut backend,
+        &mut leases,
+        input,
+        output,
+    );
+    if let Some(error) = guard.failure() {
+        end.end(rt, ServiceEnd::Failed(error));
+    }
+    let StoreBackend {
+        rt: _,
+        store: _,
+        desk,
+    } = backend;
+    desk.reveal_invariant();
+    leases.writer.reveal_invariant();
+    (ending, desk)
+}
+
+/// Serves a connection with a desk of its own, and returns why it ended. The desk is settled at the end.
+///
+/// # Errors
+///
+/// Nothing is read or written then.
+///
+/// - `LimitReached`, if 1,024 desks exist.
+/// - `Memory`, if the desk cannot be allocated.
+pub fn serve_streams<'s, W: Wait, S: Naming, L: LeaseNaming, D: Disk, I: Read, O: Write>(
+    rt: &'s W,
+    alloc: Global,
+    store: &'s Store<S>,
+    device: Option<&'s SharedLogDevice<S, D>>,
+    end: &EndCell,
+    table: &Mutex<LockedLeaseTable<'s, StorePins<S>, L>>,
+    input: &mut Watched<I>,
+    output: &mut ReplyStream<StoreGuard<'s, S, D>, O>,
+) -> Result<Ending, Refusal>
+    ensures served { IfOk result (ServesStreams S.names L.log I.remaining O.contents
+        input.old (output_of output.old) (output_of output.new)) }
+    ensures failed { IfOk result (λ e. EndsByRead e input.old input.new) }
+    ensures same { OnErr result ((input.new ≡ input.old) × (output.new ≡ output.old)) }
+    ensures refused { IfErr result (λ e. (e ≡ LimitReached) ⊎ (e ≡ Memory)) }
+{
+    let mut desks = store.desks(rt, 1)?;
+    let Some(desk) = desks.pop() else {
+        unreachable!()
+    };
+    let writer = table.lock(rt).writer();
+    let (ending, desk) = serve_with_desk(
+        rt, alloc, store, device, end, table, desk, writer, input, output,
+    );
+    desks.push_reserved(desk);
+    store.settle(rt, desks);
+    Ok(ending)
+}
+
+/// Serves a connection until it ends, and then drops its input and output.
+fn serve_connection<
+    's,
+    W: Wait,
+    S: Naming,
+    L: LeaseNaming,
+    D: Disk,
+    I: Read + Drop,
+    O: Write + Drop,
+>(
+    rt: &'s W,
+    alloc: Global,
+    store: &'s Store<S>,
+    device: Option<&'s SharedLogDevice<S, D>>,
+    end: &EndCell,
+    table: &Mutex<LockedLeaseTable<'s, StorePins<S>, L>>,
+    line: &mut Connection<I, O>,
+)
+    ensures { IsClosedConnection S.names L.log I.remaining O.contents line.old line.new }
+{
+    if let Some((mut input, output)) = line.ends.take() {
+        let mut replies = ReplyStream::new(output);
+        let served = serve_streams(
+            rt,
+            alloc,
+            store,
+            device,
+            end,
+            table,
+            &mut input,
+            &mut replies,
+        );
+        let output = replies.into_output();
+        line.ended = Some(EndedConnection::new(input, output, served));
+    }
+}
+
+/// Serves all connections until they end, each in a thread of its own, at most 1,024 at once. If no thread can be started,
+/// it serves them one after another.
+fn serve_connections<
+    's,
+    'l,
+    W: Threads + Wait + Sync,
+    S: Naming + Send + Sync,
+    L: LeaseNaming + Send + Sync,
+    D: Disk + Send,
+    I: Read + Send + Drop,
+    O: Write + Send + Drop,
+>(
+    rt: &'s W,
+    alloc: Global,
+    store: &'s Store<S>,
+    device: Option<&'s SharedLogDevice<S, D>>,
+    end: &EndCell,
+    table: &'l Mutex<LockedLeaseTable<'s, StorePins<S>, L>>,
+    lines: &mut [Connection<I, O>],
+)
+    ensures { AreServed S.names L.log I.remaining O.contents lines.old lines.new }
+{
+    thread::for_each_mut(
+        rt,
+        lines,
+        MAX_DESKS as usize,
+        &|_, line| serve_connection(rt, alloc, store, device, end, table, line),
+    );
+}
+
+/// Serves all connections on a store with one new table of leases, gives back the remaining leases, and returns the
+/// store's totals. With a device, no reply is sent before what the store promises is durable on it.
+pub fn serve_on<
+    's,
+    W: Threads + Wait + Sync,
+    S: Naming + Send + Sync,
+    L: LeaseNaming + Send + Sync,
+    D: Disk + Send,
+    I: Read + Send + Drop,
+    O: Write + Send + Drop,
+>(
+    rt: &'s W,
+    alloc: Global,
+    store: &'s Store<S>,
+    device: Option<&'s SharedLogDevice<S, D>>,
+    end: &EndCell,
+    log: SharedLog<LeaseEvent>,
+    lines: &mut [Connection<I, O>],
+) -> Totals
+    requires log { (log.name ≡ L.log) × (log.entries ≡ []) }
+    ensures served { AreServed S.names L.log I.remaining O.contents lines.old lines.new }
+    ensures totals { result.received ≡ result.in_sessions + result.closed + result.abandoned }
+{
+    let table = Mutex::new(LockedLeaseTable::<'s, StorePins<S>, L>::new(alloc, log));
+    serve_connections(rt, alloc, store, device, end, &table, lines);
+    table.into_inner().end();
+    store.totals(rt)
+}
+
+/// Serves all connections on a new store of these parts, with a table of leases that has this log. The type parameters
+/// name the parts and the log.
+fn serve_parts<
+    W: Threads + Wait + Sync,
+    S: Naming + Send + Sync,
+    L: LeaseNaming + Send + Sync,
+    I: Read + Send + Drop,
+    O: Write + Send + Drop,
+>(
+    rt: &W,
+    alloc: Global,
+    parts: Parts,
+    log: SharedLog<LeaseEvent>,
+    lines: &mut [Connection<I, O>],
+) -> Totals
+    requires named { names_of parts ≡ S.names }
+    requires log { (log.name ≡ L.log) × (log.entries ≡ []) }
+    ensures served { AreServed S.names L.log I.remaining O.contents lines.old lines.new }
+    ensures totals { result.received ≡ result.in_sessions + result.closed + result.abandoned }
+{
+    let store = Store::<S>::new(parts);
+    let end = EndCell::new();
+    serve_on::<W, S, L, FileDisk, I, O>(rt, alloc, &store, None, &end, log, lines)
+}
+
+/// Serves all connections on a new store of these parts until they end, and returns the store's totals.
+///
+/// Each connection has a thread of its own, and at most 1,024 are served at once. If no thread can be started, they are
+/// served one after another. Any connection may read or give back a lease that another one has taken. The remaining leases
+/// are given back at the end. If memory runs out for the desk of a connection, it is closed without being served.
+///
+/// # Errors
+///
+/// `AllocError`, if the history's log cannot be allocated. Then all connections stay open.
+///
+/// # Cost
+///
+/// It allocates one log, and for each connection a desk, a thread, and the buffer of its longest request.
+pub fn serve_new<W: Threads + Wait + Sync, I: Read + Send + Drop, O: Write + Send + Drop>(
+    rt: &W,
+    alloc: Global,
+    parts: Parts,
+    lines: &mut [Connection<I, O>],
+) -> Result<Totals, AllocError>
+    ensures served { OnOk result (AreServedOn parts I.remaining O.contents lines.old lines.new) }
+    ensures totals { IfOk result (λ t. t.received ≡ t.in_sessions + t.closed + t.abandoned) }
+    ensures same { OnErr result (lines.new ≡ lines.old) }
+{
+    let log = SharedLog::new(alloc)?;
+    Ok(serve_parts::<W, Brand, Brand, I, O>(rt, alloc, parts, log, lines))
+}
