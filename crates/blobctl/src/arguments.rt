@@ -34,39 +34,44 @@ Example: open an upload session, and add a chunk to it.
 fn command<'a>(alloc: Global) -> Result<Command<'a>, AllocError>
     ensures { IfOk result (λ c. app_of c ≡ program) }
 {
-    let slots = Arg::new(alloc, "slots")
-        .help("Set the number of blobs that fit, 1 to 65536")
-        .long("slots")
-        .value_name("N")
-        .value_parser(clap::value_parser!(u32).range(1..=65536))
-        .default_value("64");
-    let max_blob = Arg::new(alloc, "max-blob")
-        .help("Limit the length of a blob, 0 to 1099511627776")
-        .long("max-blob")
-        .value_name("BYTES")
-        .value_parser(clap::value_parser!(u64).range(0..=1_099_511_627_776))
-        .default_value("1048576");
-    let workers = Arg::new(alloc, "workers")
-        .help("Run the script by N threads, 1 to 64")
-        .long("workers")
-        .value_name("N")
-        .value_parser(clap::value_parser!(u32).range(1..=64))
-        .default_value("1");
-    let tenants = Arg::new(alloc, "tenants")
-        .help("Serve a tenant with a quota in bytes; 1 to 256 of them")
-        .value_name("TENANT=QUOTA")
-        .required(true)
-        .num_args(1..)
-        .action(ArgAction::Append);
+    // Each argument is made where it is added, so that no other one has to be dropped if memory runs out.
     Command::new(alloc, "blobctl")
         .about(
             "Runs a script of commands on a blob store in memory, and prints replies and final state",
         )
         .after_help(AFTER_HELP)
-        .arg(slots)?
-        .arg(max_blob)?
-        .arg(workers)?
-        .arg(tenants)
+        .arg(
+            Arg::new(alloc, "slots")
+                .help("Set the number of blobs that fit, 1 to 65536")
+                .long("slots")
+                .value_name("N")
+                .value_parser(clap::value_parser!(u32).range(1..=65536))
+                .default_value("64"),
+        )?
+        .arg(
+            Arg::new(alloc, "max-blob")
+                .help("Limit the length of a blob, 0 to 1099511627776")
+                .long("max-blob")
+                .value_name("BYTES")
+                .value_parser(clap::value_parser!(u64).range(0..=1_099_511_627_776))
+                .default_value("1048576"),
+        )?
+        .arg(
+            Arg::new(alloc, "workers")
+                .help("Run the script by N threads, 1 to 64")
+                .long("workers")
+                .value_name("N")
+                .value_parser(clap::value_parser!(u32).range(1..=64))
+                .default_value("1"),
+        )?
+        .arg(
+            Arg::new(alloc, "tenants")
+                .help("Serve a tenant with a quota in bytes; 1 to 256 of them")
+                .value_name("TENANT=QUOTA")
+                .required(true)
+                .num_args(1..)
+                .action(ArgAction::Append),
+        )
 }
 
 /// Returns the stop for an error of `clap`.
