@@ -1,6 +1,6 @@
 #!/usr/bin/env python3
 """Measures a blobd that keeps its store in a folder: small commands and uploads with each policy and without a log, starts from long
-logs, and a push of small layers next to Debian's docker-registry.
+logs, small commands while the log is rewritten, and a push of small layers next to Debian's docker-registry.
 
 A connection is a pair of named pipes, and has a tenant of its own. bench/durable/player.c sends requests on 1, 4 and 16 of them, each
 after the reply to the one before. The library of crates/blobd/crashes/shim.c counts the syncs, and can make each last longer. The folder
@@ -15,6 +15,7 @@ It needs a built blobd and cc, and registryd and docker-registry for the push (B
 each measure has a tenth of its requests."""
 import argparse
 import http.client
+import itertools
 import pathlib
 import random
 import shutil
@@ -28,7 +29,7 @@ sys.dont_write_bytecode = True
 sys.path[:0] = [str(TOP / "crates/blobd/crashes"), str(TOP / "crates/blobd")]
 import data_folder
 import registry
-from data_folder import Blobd, Trace
+from data_folder import Blobd, FolderLog, Trace, log_length
 from frames import ABANDON, APPEND, CLOSE, DELETE, PUT_MANIFEST, START, SWEEP, request, sha256
 
 MIB = 1 << 20
@@ -69,6 +70,13 @@ def garbage(tenant, count, size):
             yield request(SWEEP)
 
 
+def obstruct(folder):
+    """Waits until a program has made the log of a folder. Then makes a folder in the way of a base, so that the log is not rewritten."""
+    while not (folder / "log.1").exists():
+        time.sleep(0.001)
+    (folder / "base.new").mkdir()
+
+
 class Bench:
     """The program that is measured, the tools, and a folder for all files."""
 
@@ -97,11 +105,13 @@ class Bench:
         trace.unlink(missing_ok=True)
         return Blobd(words, self.room, connections, self.shim, {"CRASH_TRACE": str(trace), "CRASH_SYNC_MS": str(pause)})
 
-    def plays(self, folder, policy, requests, pause=0):
+    def plays(self, folder, policy, requests, pause=0, is_rewritten=True):
         """Plays the requests of each connection on a new program. Returns the seconds, the number of requests, the milliseconds (median,
         99th percentile, most), and the number of syncs."""
         words = [self.player]
         blobd = self.blobd(folder, policy, len(requests), pause)
+        if not is_rewritten:
+            obstruct(folder)
         for (to, back), calls in zip(blobd.pipes, requests):
             file = to.with_suffix(".requests")
             file.write_bytes(b"".join(calls))
@@ -129,10 +139,11 @@ class Bench:
                 )
 
     def restart(self, title, policy, requests):
-        """Prints how long a start from the log of these requests takes."""
+        """Prints how long a start from the log of these requests takes. The log was not rewritten before."""
         folder = self.folder()
-        self.plays(folder, policy, [requests])
-        size = (folder / "log").stat().st_size
+        self.plays(folder, policy, [requests], is_rewritten=False)
+        (folder / "base.new").rmdir()
+        size = log_length(folder)
         blobd = self.blobd(folder, "closes", 1)
         start = time.monotonic()
         blobd.opens()
@@ -141,12 +152,55 @@ class Bench:
         processor = (int(usage[11]) + int(usage[12])) / registry.TICKS
         peak = blobd.peak() / 1024
         blobd.ends()
-        left = (folder / "log").stat().st_size
+        left = log_length(folder)
         told = f", of which {left / MIB:,.1f} MiB are left" if left < size else ""
         print(
             f"{title}: {took:.2f} s, {processor:.2f} s of processor time, {peak:,.0f} MiB, from a log of {size / MIB:,.1f} MiB{told}",
             flush=True,
         )
+
+
+def timed(line, requests):
+    """Makes requests. Returns the milliseconds of each."""
+    times = []
+    for sent in requests:
+        begun = time.monotonic()
+        line.asks(sent)
+        times.append(1000 * (time.monotonic() - begun))
+    return times
+
+
+def distributed(times):
+    """Returns a text with the median, the 99th percentile and the most of some times."""
+    times = sorted(times)
+    return f"median {times[len(times) // 2]:.3f} ms, p99 {times[len(times) * 99 // 100]:.3f} ms, most {times[-1]:.3f} ms"
+
+
+def rewriting(bench):
+    """Prints how long a rewriting takes while the store is served, and the times of small commands before it and meanwhile."""
+    count, folder = bench.scaled(1024), bench.folder()
+    print("\nA rewriting by request, and small commands on one connection meanwhile")
+    blobd = bench.blobd(folder, "closes", 2)
+    line, other = blobd.opens()
+    obstruct(folder)
+    timed(line, garbage("t0", count, MIB))
+    calls = small("t1", 1 << 40)
+    quiet = timed(other, itertools.islice(calls, bench.scaled(2000)))
+    (folder / "base.new").rmdir()
+    size, request, meanwhile = log_length(folder), folder / "rewrite", []
+    request.touch()
+    while request.exists():
+        time.sleep(0.001)
+    start = time.monotonic()
+    while not FolderLog(folder).base:
+        meanwhile += timed(other, itertools.islice(calls, 20))
+    took = time.monotonic() - start
+    blobd.ends()
+    print(
+        f"{count} blobs of a MiB, three of four deleted: {took:.2f} s, {log_length(folder) / MIB:,.1f} of {size / MIB:,.1f} MiB are left\n"
+        f"commands before: {distributed(quiet)}\ncommands meanwhile: {distributed(meanwhile)}",
+        flush=True,
+    )
 
 
 def small_commands(bench):
@@ -238,6 +292,7 @@ MEASURES = {
     "blobs": small_blobs,
     "large": large_blobs,
     "restarts": restarts,
+    "rewriting": rewriting,
     "push": push,
 }
 

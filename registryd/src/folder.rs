@@ -19,6 +19,22 @@ pub struct Folder {
     last: Mutex<Option<(Instant, u64)>>,
 }
 
+/// The file by which the store is asked to rewrite its log.
+const REWRITE: &str = "rewrite";
+
+/// Returns whether a file with this name is part of the store's log.
+fn is_of_log(name: &str) -> bool {
+    let number = name.strip_prefix("log.").or_else(|| name.strip_prefix("base."));
+    name == "log" || number.map_or(false, |number| !number.is_empty() && number.bytes().all(|byte| byte.is_ascii_digit()))
+}
+
+/// Returns the length of the store's log in a folder, in bytes, or `None` if there is no log.
+pub fn log_length(path: &Path) -> Option<u64> {
+    let files = std::fs::read_dir(path).ok()?.flatten();
+    let lengths = files.filter(|file| file.file_name().to_str().map_or(false, is_of_log));
+    lengths.map(|file| file.metadata().map_or(0, |data| data.len())).reduce(|sum, length| sum + length)
+}
+
 /// Returns the number of bytes on the disk of a folder that this user may still write.
 fn free_bytes(path: &Path) -> io::Result<u64> {
     let path = CString::new(path.as_os_str().as_bytes())?;
@@ -63,7 +79,12 @@ impl Folder {
 
     /// Returns the length of the log, in bytes.
     pub fn log_bytes(&self) -> u64 {
-        self.bytes("log")
+        log_length(&self.path).unwrap_or(0)
+    }
+
+    /// Asks the store to rewrite its log. It looks for the request once a second.
+    pub fn ask_for_rewriting(&self) -> io::Result<()> {
+        std::fs::File::create(self.path.join(REWRITE)).map(drop)
     }
 
     /// Returns the length of the database, in bytes, with the transactions that are not yet in its file.
@@ -88,6 +109,21 @@ mod tests {
         assert!(folder(u64::MAX).check().is_err());
         let free = folder(0).free().unwrap();
         assert!(free > 0 && free < u64::MAX);
+    }
+
+    #[test]
+    fn the_log_has_several_files() {
+        let path = std::env::temp_dir().join(format!("registryd-folder-{}", std::process::id()));
+        std::fs::create_dir(&path).unwrap();
+        assert_eq!(log_length(&path), None);
+        for (name, text) in [("base.3", "123"), ("log.4", "12345"), ("log.new", "x"), ("lock", "x"), ("log.x", "x")] {
+            std::fs::write(path.join(name), text).unwrap();
+        }
+        assert_eq!(log_length(&path), Some(8));
+        let folder = Folder::new(path.clone(), 0);
+        folder.ask_for_rewriting().unwrap();
+        assert!(path.join("rewrite").exists());
+        std::fs::remove_dir_all(path).unwrap();
     }
 
     #[test]

@@ -157,6 +157,7 @@ impl Signals {
 async fn run(options: Options) -> Result<(), Failure> {
     let mut signals = Signals::new()?;
     let hangup = Hangup::new()?;
+    let rewrite = signal(SignalKind::user_defined1())?;
     let connections = Connections::new(limits(&options)?);
     let mut reloads = Reloads::new();
     let access = access(&options, &mut reloads)?;
@@ -179,6 +180,7 @@ async fn run(options: Options) -> Result<(), Failure> {
         serve_metrics(&started.registry, listener, &options);
     }
     tokio::spawn(hangup.reload(reloads));
+    tokio::spawn(rewrite_on_signal(rewrite, started.registry.clone()));
     serve(started, listener, tls, connections, signals).await
 }
 
@@ -282,7 +284,7 @@ async fn start(options: &Options, access: Access) -> Result<Started, Failure> {
     metrics.set_verified(provenance.is_proved());
     let limit = Duration::from_secs(options.call_s);
     let writer = options.data.as_ref().map(|_| Writer::new(metrics.add_folder(options.is_durable()), limit));
-    let had_log = options.data.as_ref().map_or(false, |folder| folder.join("log").exists());
+    let had_log = options.data.as_ref().map_or(false, |path| folder::log_length(path).is_some());
     let (store, mut child) = start_store(options, writer.clone()).await?;
     let kept = match &options.data {
         Some(folder) => match startup::recover(&store, folder.clone(), options.is_durable(), had_log).await {
@@ -367,6 +369,17 @@ async fn failed(database: &Option<(Arc<Writer>, WriterThread)>) -> Failure {
     match database {
         Some((writer, _)) => Failure::of_database(&writer.failure().await),
         None => std::future::pending().await,
+    }
+}
+
+/// Asks the store to rewrite its log after each signal. A signal that arrives during the start is obeyed after it.
+async fn rewrite_on_signal(mut asked: Signal, registry: Arc<Registry>) {
+    while asked.recv().await.is_some() {
+        match registry.folder.as_ref().map(Folder::ask_for_rewriting) {
+            Some(Ok(())) => tracing::info!("asked the store to rewrite its log"),
+            Some(Err(error)) => tracing::error!("cannot ask the store to rewrite its log: {error}"),
+            None => tracing::warn!("there is no log to rewrite: start with --data"),
+        }
     }
 }
 

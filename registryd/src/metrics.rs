@@ -59,6 +59,7 @@ struct Inner {
     durable: IntGauge,
     verified: IntGauge,
     log: IntGauge,
+    live: IntGauge,
     database: IntGauge,
     free: IntGauge,
     commits: Commits,
@@ -88,6 +89,7 @@ impl Metrics {
             durable: gauge("registryd_durable", "1 if a change is on the disk before its reply, 0 otherwise."),
             verified: gauge("registryd_store_verified", "1 if a record names the store's program as proved, 0 otherwise."),
             log: gauge("registryd_log_bytes", "Length of the log of the store, in bytes."),
+            live: gauge("registryd_live_bytes", "Bytes of the blobs and uploads of all tenants, which the log has to keep."),
             database: gauge("registryd_database_bytes", "Length of the database of tags, in bytes."),
             free: gauge("registryd_free_bytes", "Bytes that are free on the disk of the folder."),
             commits: Commits::new(),
@@ -163,10 +165,11 @@ impl Metrics {
 
     /// Adds the metrics of a folder, and returns the counter of the database's transactions.
     pub fn add_folder(&self, is_durable: bool) -> Commits {
-        let Inner { registry, durable, log, database, free, commits, .. } = &*self.0;
+        let Inner { registry, durable, log, live, database, free, commits, .. } = &*self.0;
         durable.set(i64::from(is_durable));
-        let all: [Box<dyn prometheus::core::Collector>; 5] = [
+        let all: [Box<dyn prometheus::core::Collector>; 6] = [
             Box::new(log.clone()),
+            Box::new(live.clone()),
             Box::new(database.clone()),
             Box::new(free.clone()),
             Box::new(commits.total.clone()),
@@ -201,12 +204,15 @@ impl Metrics {
         if let Ok(count) = store.free_slots().await? {
             free_slots.set(count as i64);
         }
+        let mut live = 0;
         for tenant in tenants {
             if let Ok(usage) = store.usage(tenant).await? {
+                live += usage.0;
                 used.with_label_values(&[tenant]).set(usage.0 as i64);
                 quota.with_label_values(&[tenant]).set(usage.1 as i64);
             }
         }
+        self.0.live.set(live as i64);
         let mut text = Vec::new();
         TextEncoder::new().encode(&registry.gather(), &mut text).expect("writing to memory succeeds");
         Ok(String::from_utf8_lossy(&text).into_owned())

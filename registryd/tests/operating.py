@@ -2,17 +2,22 @@
 """Types the commands of docs/BACKUP.md, "Backup", "Restore" and "A standby": copies the folder of a registry that has ended,
 and that of one to which clients push, and starts registries on the copies. All that was acknowledged before a copy began has
 to be there, byte for byte."""
-import contextlib, os, random, shutil, tempfile, time
+import contextlib, os, random, shutil, signal, tempfile, threading, time
 
+from crash.paths import log_of
 from documented import Shell, blocks
 from playing import play, until
 from pushing import CONTENT, Raw, Skopeo, check_listed
+from rewriting import fill, litter
 from server import free_port, serving, sha256
 
 DOCUMENT = "docs/BACKUP.md"
 TENANTS = ("acme=10000000000", "other=1000000000")
 REPOS = ("acme/raw", "other/raw/deep")
 REMOTE = {"RCLONE_CONFIG_STANDBY_TYPE": "alias"}
+HEADER = 32  # the length of a file of a log that has just been made
+# Copies one file after the other, slowly.
+SLOW_CP = 'cp() { for file in "${@:1:$#-1}"; do sleep 0.3; command cp "$file" "${@: -1}" || return; done; }\n'
 
 
 def only(found):
@@ -130,24 +135,57 @@ def a_folder_is_copied_while_clients_push():
             server.end()
 
 
+def a_folder_is_copied_while_its_log_is_rewritten():
+    """Asks for a rewriting when the copy of the log begins, until the copy has been interrupted by it: files that are copied are
+    removed meanwhile."""
+    copying, _ = blocks(DOCUMENT, "While clients push")
+    assert copying.count("cp /srv") == 1
+    with machine() as (folder, shell):
+        registry = f"{folder}/srv/registry"
+        with serving("--data", registry, tenants=TENANTS) as server:
+            fill(server.client(), "acme/large", 8)
+            busy, interrupted = Busy(server), []
+            def copy():
+                litter(server.client())
+                before = log_of(registry).base
+                asking = threading.Timer(random.uniform(0, 0.5), server.process.send_signal, [signal.SIGUSR1])
+                asking.start()
+                said = shell.type(SLOW_CP + copying)
+                asking.join()
+                assert until(lambda: log_of(registry).base != before, 60), "the log is not rewritten"
+                interrupted.append("No such file or directory" in said)
+            for _ in range(10):
+                busy.copy(copy)
+                with started(shell, only(blocks(DOCUMENT, "Restore"))) as client:
+                    busy.check(client)
+                shutil.rmtree(f"{folder}/srv/restored")
+                if interrupted[-1]:
+                    break
+            busy.stop()
+            server.end()
+        assert interrupted[-1], "no copy was interrupted by a rewriting"
+
+
 def a_copy_may_end_anywhere():
-    """Cuts the copied log at places after those that it had when the database was copied: each is a possible end of a copy."""
+    """Cuts the last file of a copied log at places after those that it had when the database was copied: each is a possible end of a
+    copy."""
     copying, _ = blocks(DOCUMENT, "While clients push")
     restoring = only(blocks(DOCUMENT, "Restore"))
-    measuring = "stat --format %s /srv/registry/log > \"$copy/begun\"\nsleep 0.2\ncp /srv"
+    measuring = "stat --format '%n %s' /srv/registry/log.* > \"$copy/begun\"\nsleep 0.2\ncp /srv"
     assert copying.count("cp /srv") == 1
     with machine() as (folder, shell):
         with serving("--data", f"{folder}/srv/registry", tenants=TENANTS) as server:
+            litter(server.client())
             busy = Busy(server)
             busy.copy(lambda: shell.type(copying.replace("cp /srv", measuring)))
             busy.stop()
             server.end()
         backup = f"{folder}/backup/{max(os.listdir(f'{folder}/backup'))}"
-        copied = f"{backup}/log"
+        copied, files = log_of(backup).last, len(log_of(backup).paths)
         with open(f"{backup}/begun") as file:
-            begun = int(file.read())
-        length = os.path.getsize(copied)
-        assert length > begun, "nothing was appended during the backup"
+            lengths = {os.path.basename(name): int(length) for name, length in map(str.split, file)}
+        begun, length = lengths.get(copied.name, HEADER), os.path.getsize(copied)
+        assert files > 1 and length > begun, (files, begun, length)
         shutil.copy(copied, f"{folder}/copied")
         for seed in range(3):
             end = random.Random(seed).randrange(begun, length)
@@ -180,7 +218,8 @@ def a_standby_starts_on_its_last_copy():
         assert len(copies) >= 2, copies
         # A copy that was broken off: it has no database, and is not used.
         os.mkdir(f"{second}/srv/copies/9")
-        shutil.copy(f"{second}/srv/copies/{copies[-1]}/log", f"{second}/srv/copies/9/log")
+        for file in log_of(f"{second}/srv/copies/{copies[-1]}").paths:
+            shutil.copy(file, f"{second}/srv/copies/9")
         with started(standby, starting) as client:
             busy.check(client)
             assert client.ask("HEAD", f"/v2/acme/late/blobs/{sha256(b'late')}").status == 404
@@ -190,8 +229,8 @@ def a_standby_starts_on_its_last_copy():
 
 
 def main():
-    play("operating", [a_folder_is_copied_at_rest, a_folder_is_copied_while_clients_push, a_copy_may_end_anywhere,
-                       a_standby_starts_on_its_last_copy])
+    play("operating", [a_folder_is_copied_at_rest, a_folder_is_copied_while_clients_push,
+                       a_folder_is_copied_while_its_log_is_rewritten, a_copy_may_end_anywhere, a_standby_starts_on_its_last_copy])
 
 
 if __name__ == "__main__":

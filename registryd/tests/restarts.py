@@ -2,6 +2,7 @@
 """Tests restarts of a registry with a folder: after a signal, and after SIGKILL of either program or of both."""
 import contextlib, json, os, random, signal, sqlite3, tempfile, threading, time
 
+from crash.paths import log_of
 from playing import play, until
 from referrers import artifact, descriptor, index, page, referrers
 from server import INDEX, MANIFEST, manifest_of, serving, sha256, sha512
@@ -448,7 +449,8 @@ def the_folder_is_measured():
             client = server.client()
             pushed(client)
             assert server.metric("registryd_durable") == 1
-            assert server.metric("registryd_log_bytes") == os.path.getsize(f"{path}/log")
+            assert server.metric("registryd_log_bytes") == log_of(path).length()
+            assert server.metric("registryd_live_bytes") == len(CONFIG + b"layer")
             files = sum(os.path.getsize(f"{path}/registry.db{end}") for end in ("", "-wal"))
             assert server.metric("registryd_database_bytes") == files
             room = os.statvfs(path)
@@ -462,10 +464,11 @@ def the_folder_is_measured():
             assert server.metric("registryd_database_commits_total") > before
             assert os.stat(f"{path}/registry.db").st_mode & 0o77 == 0
             by_signal(server)
-        assert sorted(os.listdir(path)) == ["lock", "log", "registry.db"]
+        assert sorted(os.listdir(path)) == ["lock", "log.1", "registry.db"]
     with serving() as server:
         assert server.metric("registryd_durable") == 0
-        assert b"registryd_log_bytes" not in server.client().ask("GET", "/metrics").body
+        text = server.client().ask("GET", "/metrics").body
+        assert b"registryd_log_bytes" not in text and b"registryd_live_bytes" not in text
 
 
 def main():

@@ -3,6 +3,7 @@
 if a call to the store fails. A test of a full disk is left out if it may not mount one."""
 import contextlib, os, random, re, resource, signal, subprocess, tempfile, time
 
+from crash.paths import log_of
 from playing import play, serving_stub, until
 from restarts import PATCH, by_signal, database, folder, opened, pulled, push, pushed
 from server import BLOBD, MANIFEST, REGISTRYD, serving, sha256
@@ -25,7 +26,7 @@ def check(result, status, *texts):
 
 
 def a_folder_that_cannot_be_used():
-    for name in ("log", "lock", "registry.db"):
+    for name in ("log.1", "base.1", "lock", "registry.db"):
         with folder() as path:
             os.makedirs(f"{path}/{name}")
             check(ended("--data", path), 6, name, "see to its rights and its disk")
@@ -62,24 +63,31 @@ def a_folder_is_released_after_a_kill():
 
 
 def a_damaged_log():
-    with folder() as path:
-        with serving("--data", path) as server:
-            pushed(server.client())
-            pushed(server.client(), tag="v2", layer=b"another")
-            by_signal(server)
-        with open(f"{path}/log", "r+b") as log:
-            log.seek(200)
-            byte = log.read(1)
-            log.seek(200)
-            log.write(bytes([byte[0] ^ 1]))
-        status, text = ended("--data", path)
-        check((status, text), 8, "restore a backup, or accept the loss with --accept-loss-after")
-        # What blobd names is what the option takes. Tags whose manifests are lost are dropped.
-        byte = re.search(r"damaged at byte (\d+)", text).group(1)
-        with serving("--data", path, "--accept-loss-after", byte) as server:
-            assert pulled(server.client(), "acme/one", "v2") == 404
-            assert "dropped manifests that the store does not have" in server.logged()
-            by_signal(server)
+    """Each of its two files is damaged. What is in the file before it is not lost."""
+    large = random.Random(1).randbytes(1_200_000)
+    for name, status_of_large in (("log.1", 404), ("log.2", 200)):
+        with folder() as path:
+            with serving("--data", path) as server:
+                push(server.client(), "acme/one", large)
+                pushed(server.client())
+                pushed(server.client(), tag="v2", layer=b"another")
+                by_signal(server)
+            assert [file.name for file in log_of(path).paths] == ["log.1", "log.2"]
+            with open(f"{path}/{name}", "r+b") as log:
+                log.seek(200)
+                byte = log.read(1)
+                log.seek(200)
+                log.write(bytes([byte[0] ^ 1]))
+            status, text = ended("--data", path)
+            check((status, text), 8, name, "restore a backup, or accept the loss with --accept-loss-after")
+            # What blobd names is what the option takes. Tags whose manifests are lost are dropped.
+            byte = re.search(r"byte (\d+) of the log", text).group(1)
+            with serving("--data", path, "--accept-loss-after", byte) as server:
+                client = server.client()
+                assert pulled(client, "acme/one", "v2") == 404
+                assert client.ask("HEAD", f"/v2/acme/one/blobs/{sha256(large)}").status == status_of_large, name
+                assert "dropped manifests that the store does not have" in server.logged()
+                by_signal(server)
 
 
 def a_damaged_database():
@@ -97,7 +105,8 @@ def a_log_that_cannot_be_written():
         with serving("--data", path) as server:
             client = server.client()
             image = pushed(client)
-            resource.prlimit(server.child(), resource.RLIMIT_FSIZE, (os.path.getsize(f"{path}/log"), resource.RLIM_INFINITY))
+            longest = os.path.getsize(log_of(path).last)
+            resource.prlimit(server.child(), resource.RLIMIT_FSIZE, (longest, resource.RLIM_INFINITY))
             with contextlib.suppress(OSError):
                 assert client.ask("POST", f"/v2/acme/one/blobs/uploads/?digest={sha256(b'x')}", b"x", PATCH).status == 503
             assert server.process.wait(timeout=20) == 9, server.logged()[-1000:]

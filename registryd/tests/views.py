@@ -4,6 +4,7 @@ import base64, hashlib, json, os, re, shutil, tempfile, time
 from unittest import mock
 
 import server as servers
+from crash.paths import log_of
 from limits import CHEAP, basic, users
 from playing import play, until
 from restarts import by_signal, folder, opened, push, pushed
@@ -63,7 +64,7 @@ def a_folder_has_commits_and_lengths():
             kept = status["folder"]
             assert kept["commits"] == server.metric("registryd_database_commits_total") > 0
             assert kept["last_commit"] == server.metric("registryd_last_commit_timestamp_seconds")
-            assert kept["log_bytes"] == os.path.getsize(f"{path}/log") and kept["min_free_bytes"] == 1 < kept["free_bytes"]
+            assert kept["log_bytes"] == log_of(path).length() and kept["min_free_bytes"] == 1 < kept["free_bytes"]
             by_signal(server)
         with serving("--data", path) as server:
             assert [repo["name"] for repo in status_of(server.client(), "?tenant=acme")["repositories"]] == ["acme/one"]

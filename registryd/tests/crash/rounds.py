@@ -1,5 +1,7 @@
 """Rounds of starts, clients, and kills or losses of power, and the comparisons after them."""
 import collections
+import contextlib
+import http.client
 import random
 import shutil
 import signal
@@ -16,6 +18,7 @@ from crash.looks import Look
 from crash.program import KILLS, SLOTS, Killable
 from crash.pushers import PodmanPusher, PodmanStore, Skopeo
 from crash.raw import Raw
+from rewriting import litter
 
 # The number of rounds after which they begin with an empty folder.
 ROUNDS_OF_A_FOLDER = 8
@@ -23,6 +26,9 @@ ROUNDS_OF_A_FOLDER = 8
 # The greatest number of seconds before a kill, the share of kills while the programs start, the greatest number of seconds until such a
 # one, and the share of kills before the clients change anything.
 MOST_TIME, EARLY, MOST_EARLY, IDLE = 1.5, 0.12, 0.3, 0.12
+
+# The share of times at which clients work for which the log gets long and is rewritten, and the repository of the blobs for this.
+REWRITTEN, LITTER = 0.5, "pod/litter"
 
 # The number of folders in which a loss must be found if nothing is synced, and of turns of a client before others change something.
 MOST_TRIES, TURNS, MOST_TURNS = 8, 60, 2000
@@ -44,47 +50,37 @@ WRONG = (Fault, Interrupted, AssertionError, OSError, subprocess.TimeoutExpired)
 
 
 class Log:
-    """What a loss of power may leave of a log instead of what was written: the bytes after the last one, or the log that a start has
-    replaced."""
+    """What a loss of power may leave of a log instead of what was written. `trace` is the file in which the library notes the calls on the
+    log, and `kept` the folder into which it moves removed files."""
 
-    def __init__(self, path, trace):
-        self.path, self.trace = path, trace
-        self.old = self.at_start = b""
-        self.renamed = -1
-
-    def read(self):
-        return self.path.read_bytes() if self.path.exists() else b""
-
-    def starts(self):
-        self.at_start = self.read()
-
-    def ends(self):
-        """Notes whether the log was replaced in a run."""
-        renamed = paths.Trace(self.trace).renamed()
-        if renamed > self.renamed:
-            self.old, self.renamed = self.at_start, renamed
-
-    def loses_power(self, room, folder):
-        """Leaves what a loss of power may leave. Returns the number of bytes lost."""
-        before = paths.counts["bytes lost"]
-        paths.lose_power(room, folder, self.old)
+    def __init__(self, folder, trace, kept):
+        self.folder, self.trace, self.kept = folder, trace, kept
         self.stays()
-        return paths.counts["bytes lost"] - before
+
+    def loses_power(self, room):
+        """Leaves what a loss of power may leave. Returns the number of bytes lost, and of files that lack a sync."""
+        before = dict(paths.counts)
+        paths.lose_power(room, self.folder, self.synced)
+        self.stays()
+        return [paths.counts[name] - before[name] for name in ("bytes lost", "faults")]
 
     def stays(self):
-        """Takes the bytes that are there for synced."""
+        """Takes the files that are there for synced."""
         self.trace.unlink(missing_ok=True)
-        self.old, self.renamed = self.read(), -1
+        shutil.rmtree(self.kept, ignore_errors=True)
+        self.kept.mkdir()
+        self.synced = paths.log_files(self.folder)
 
 
 class Folder:
     """A folder of a registry, its clients, and what is on its disk."""
 
-    def __init__(self, path, rng, store, has_losses, most):
+    def __init__(self, lane, path, has_losses):
+        rng, store, most = lane.rng, lane.store, lane.most
         self.path, self.has_losses = path / "data", has_losses
         self.facts = Facts(("acme", "other"))
         self.disk = Disk()
-        self.log = Log(self.path / "log", path.parent / "trace")
+        self.log = Log(self.path, lane.path / "trace", lane.kept)
         self.has_podman = bool(store.images) and rng.random() < 0.5
         seeds = [rng.randrange(1 << 40) for _ in range(4)]
         folder = path / "images"
@@ -98,10 +94,11 @@ class Folder:
 
 
 class Lane:
-    """A sequence of rounds. `path` and `rng` are those of a loss of power of a log, too."""
+    """A sequence of rounds. `path`, `rng` and `kept` are those of a loss of power of a log, too."""
 
     def __init__(self, path, seed, most):
         self.path, self.rng, self.most = path, random.Random(seed), most
+        self.kept = path / "kept"
         self.shim = paths.build_shim(path)
         self.store = PodmanStore(path / "podman")
         self.folder, self.made, self.servers, self.now = None, 0, [], "before the first folder"
@@ -124,16 +121,15 @@ class Lane:
             shutil.rmtree(self.folder.path.parent)
         self.made += 1
         self.now, self.last = f"folder {self.made}", "nothing"
-        (self.path / "trace").unlink(missing_ok=True)
         (self.path / "writes").unlink(missing_ok=True)
-        self.folder = Folder(self.path / f"folder{self.made}", self.rng, self.store, has_losses, self.most)
+        self.folder = Folder(self, self.path / f"folder{self.made}", has_losses)
 
     def starts(self, *words, failing=None):
         """Starts the programs on the folder. `failing` are settings of the library."""
         environment = {"LD_PRELOAD": str(self.shim), "CRASH_SYNC_MS": str(self.rng.choice(SYNC_MS)), **(failing or {})}
         if self.folder.has_losses:
-            self.folder.log.starts()
-            environment |= {"CRASH_TRACE": str(self.path / "trace"), "CRASH_WRITES": str(self.path / "writes")}
+            environment |= {"CRASH_TRACE": str(self.path / "trace"), "CRASH_KEEP": str(self.kept)}
+            environment["CRASH_WRITES"] = str(self.path / "writes")
         self.servers.append(Killable(self.folder.path, *words, environment=environment))
         self.servers[-1].may_end = failing is not None
         return self.servers[-1]
@@ -233,6 +229,8 @@ class Lane:
             client.promise = "each" if policy == "each" else "closes"
         before = sum(client.requests for client in clients)
         threads = [threading.Thread(target=client.works, args=(server,)) for client in clients]
+        if self.rng.random() < REWRITTEN:
+            threads.append(threading.Thread(target=self.rewrites, args=(server,)))
         for thread in threads:
             thread.start()
         end = time.monotonic() + seconds
@@ -246,6 +244,13 @@ class Lane:
         self.counts["requests"] += sum(client.requests for client in clients) - before
         if any(client.fault for client in clients):
             raise Fault("; ".join(client.fault for client in clients if client.fault))
+
+    def rewrites(self, server):
+        """Makes so long a log that it has several files, and asks for a rewriting, twice or until the programs end."""
+        with contextlib.suppress(*WRONG, http.client.HTTPException):
+            for _ in range(2):
+                litter(server.client(), repo=LITTER)
+                server.process.send_signal(signal.SIGUSR1)
 
     def crashes(self, server, kind):
         """Takes the power away, or waits for the end of the programs if the next start need not do so."""
@@ -266,7 +271,6 @@ class Lane:
         """Waits for the end of the programs, and notes what they have written."""
         server.waits()
         self.folder.disk.runs(self.path / "writes", self.folder.path)
-        self.folder.log.ends()
 
     def loses(self, parts):
         """Leaves in the folder what a loss of power may leave of these parts."""
@@ -277,7 +281,9 @@ class Lane:
         if "database" in parts:
             self.counts["bytes lost"] += folder.disk.loses_power(folder.path, self.rng)
         if "log" in parts:
-            self.counts["bytes lost"] += folder.log.loses_power(self, folder.path)
+            lost, faults = folder.log.loses_power(self)
+            self.counts["bytes lost"] += lost
+            self.counts["wrong"] += faults
         else:
             folder.log.stays()
 
@@ -291,6 +297,7 @@ class Lane:
         look = Look(server, facts, 0)
         look.finishes()
         look.removes()
+        litter(server.client(), repo=LITTER)
         look.compares("the status after a signal", server.end() == 0, server.process.returncode)
         server = self.starts("--session-s", "1", "--empty-session-s", "1")
         server.is_ready()
