@@ -209,7 +209,11 @@ impl From<Refusal> for Fault {
                     .with_header("Retry-After", "1")
             }
             Reason::TooManyReaders => soon("TOOMANYREQUESTS", "the blob has too many readers"),
-            Reason::LimitReached => Fault::new(StatusCode::FORBIDDEN, "DENIED", "a count of the store has reached its limit"),
+            // Other limits are named by `Fault::limit`.
+            Reason::LimitReached => {
+                Fault::new(StatusCode::FORBIDDEN, "DENIED", "the tenant has as many blobs as it may have: delete one")
+                    .with_detail(json!({ "limit": "blobs" }))
+            }
             Reason::Memory => Fault::new(StatusCode::SERVICE_UNAVAILABLE, "UNSUPPORTED", "out of memory")
                 .with_header("Retry-After", "1"),
             Reason::Busy => soon("TOOMANYREQUESTS", "another request is appending to the upload"),

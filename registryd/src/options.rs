@@ -114,8 +114,8 @@ pub struct Options {
     /// Run this program as the store
     #[arg(long, value_name = "PATH", default_value = "blobd")]
     pub blobd: PathBuf,
-    /// Serve this tenant with a quota in bytes
-    #[arg(value_name = "TENANT=QUOTA", required = true, value_parser = tenant_word)]
+    /// Serve this tenant with a quota in bytes and a number of blobs
+    #[arg(value_name = "TENANT=QUOTA[,BLOBS]", required = true, value_parser = tenant_word)]
     pub tenants: Vec<String>,
 }
 

@@ -36,7 +36,7 @@ pub struct Setup<'a> {
     pub writer: Option<Arc<Writer>>,
     pub slots: u32,
     pub max_blob: u64,
-    /// Arguments of the form `TENANT=QUOTA`.
+    /// Arguments of the form `TENANT=QUOTA` or `TENANT=QUOTA,BLOBS`.
     pub tenants: &'a [String],
     /// The tenants' names.
     pub names: Vec<String>,

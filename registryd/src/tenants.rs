@@ -1,4 +1,4 @@
-//! The arguments `TENANT=QUOTA` of the command line, by the rules of the store.
+//! The arguments `TENANT=QUOTA` and `TENANT=QUOTA,BLOBS` of the command line, by the rules of the store.
 use std::collections::HashSet;
 
 /// The maximum number of tenants.
@@ -7,24 +7,37 @@ const MAX_TENANTS: usize = 256;
 /// The maximum quota, in bytes.
 const MAX_QUOTA: u64 = 1 << 50;
 
+/// The maximum share, in distinct blobs.
+const MAX_SHARE: u64 = u32::MAX as u64;
+
 /// The maximum length of a repository's name, and so of a tenant's, in bytes.
 const MAX_NAME: usize = 255;
 
-/// Checks an argument of the form `TENANT=QUOTA`, and returns it.
+/// Checks an argument of the form `TENANT=QUOTA` or `TENANT=QUOTA,BLOBS`, and returns it.
 ///
 /// # Errors
 ///
 /// Fails with a message that quotes the argument.
 pub fn tenant_word(word: &str) -> Result<String, String> {
-    let (name, quota) = word.split_once('=').ok_or_else(|| format!("`{word}` is not TENANT=QUOTA"))?;
+    let (name, limits) = word.split_once('=').ok_or_else(|| format!("`{word}` is not TENANT=QUOTA[,BLOBS]"))?;
     if !is_component(name) {
         return Err(format!("invalid tenant `{name}` in `{word}`: write a name such as acme or acme-2"));
     }
-    let is_number = !quota.is_empty() && quota.bytes().all(|byte| byte.is_ascii_digit());
-    match quota.parse::<u64>() {
-        Ok(count) if is_number && count <= MAX_QUOTA => Ok(word.to_string()),
-        _ => Err(format!("invalid quota `{quota}` in `{word}`: write a number of bytes from 0 to {MAX_QUOTA}")),
+    let (quota, share) = limits.split_once(',').map_or((limits, None), |(quota, share)| (quota, Some(share)));
+    if !is_number_within(quota, MAX_QUOTA) {
+        return Err(format!("invalid quota `{quota}` in `{word}`: write a number of bytes from 0 to {MAX_QUOTA}"));
     }
+    match share {
+        Some(share) if !is_number_within(share, MAX_SHARE) => {
+            Err(format!("invalid share `{share}` in `{word}`: write a number of blobs from 0 to {MAX_SHARE}"))
+        }
+        _ => Ok(word.to_string()),
+    }
+}
+
+/// Returns whether a text is a number in decimal digits that is at most `most`.
+fn is_number_within(text: &str, most: u64) -> bool {
+    !text.is_empty() && text.bytes().all(|byte| byte.is_ascii_digit()) && text.parse::<u64>().is_ok_and(|number| number <= most)
 }
 
 /// Returns why a store cannot have these tenants, if it cannot.
@@ -82,7 +95,13 @@ mod tests {
     fn a_message_names_the_word() {
         assert_eq!(tenant_word("acme=0"), Ok("acme=0".to_string()));
         assert_eq!(tenant_word("acme=1125899906842624"), Ok("acme=1125899906842624".to_string()));
+        for word in ["acme=5,0", "acme=5,500", "acme=5,4294967295"] {
+            assert_eq!(tenant_word(word), Ok(word.to_string()));
+        }
         for word in ["acme", "acme=", "=1", "acme=-1", "acme=+1", "acme=x", "acme=1125899906842625", "A=1", "a/b=1"] {
+            assert!(tenant_word(word).unwrap_err().contains(&format!("`{word}`")), "{word}");
+        }
+        for word in ["acme=5,", "acme=,5", "acme=5,-1", "acme=5,1,1", "acme=5,4294967296"] {
             assert!(tenant_word(word).unwrap_err().contains(&format!("`{word}`")), "{word}");
         }
     }

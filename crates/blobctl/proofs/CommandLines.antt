@@ -1,6 +1,6 @@
 -- The words of the command line as `clap` and the options read them.
 use Rattle.std.proofs.Common.{◌≡◌, ℕ, ◌<◌, ◌^◌, List, [], ◌∷◌, length, map, Option, Some, None, Result, Ok, Err, refl, true, sym, ap, ◌∙◌, codes, subst, inl, inr, ℤ, w64}
-use Rattle.std.specs.Prelude.{IsSomeAnd, MatchOption, option_map, pos, unwrap_or}
+use Rattle.std.specs.Prelude.{IsSomeAnd, MatchOption, false, option_map, pos, unwrap_or}
 use Rattle.std.specs.Borrow.{Bor}
 use Rattle.std.specs.Str.Parse.{IsNumeral, ParsesUnsigned, digits_value, without_leading_plus}
 use Rattle.std.proofs.lemmas.Option.{same_Some}
@@ -94,7 +94,7 @@ words_taken (Some s) none v empty is = ap (λ (u : Option (List Text)). unwrap_o
 pub refused_found : (words : List Text) (rows : List Row) (stop : Stop) → fault_of program words ≡ [] → rows ≡ matches_of program words → RefusesFound rows stop → RefusesWords words stop
 refused_found words rows (Help text) taken is why = absurd why
 refused_found words rows (Usage text) taken is why = inr (taken, subst (λ (r : List Row). RefusesFound r (Usage text)) is why)
-refused_found words rows BadTenant taken is why = (taken, subst (λ (r : List Row). HasBadTenant (tenant_args r)) is why)
+refused_found words rows BadTenant taken is why = (taken, subst (λ (r : List Row). HasBadTenant false (tenant_args r)) is why)
 refused_found words rows NotUtf8 taken is why = absurd why
 refused_found words rows Memory taken is why = tt
 

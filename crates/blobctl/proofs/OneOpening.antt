@@ -52,15 +52,18 @@ module _ (x y : Tenant) (xs ys : List Tenant) (rising : Rises (x ∷ xs)) (other
       let some : sum_by f (x ∷ xs) ≡ 1 + sum_by f xs = sum_by-cons f x xs ∙ ap (λ b. cond b 1 0 + sum_by f xs) (same_itself x.name) in
       absurd (omega (arith, sums f, none, some))
 
+  -- tenants of one name have one value
+  same_value : (g : Tenant → ℕ) → x.name ≡ y.name → g x ≡ g y
+  same_value g name =
+      let f : Tenant → ℕ = λ t. cond (same_text t.name x.name) (g t) 0 in
+      let here : sum_by f (x ∷ xs) ≡ g x + sum_by f xs = sum_by-cons f x xs ∙ ap (λ b. cond b (g x) 0 + sum_by f xs) (same_itself x.name) in
+      let there : sum_by f (y ∷ ys) ≡ g y + sum_by f ys = sum_by-cons f y ys ∙ ap (λ b. cond b (g y) 0 + sum_by f ys) (same_text_is y.name x.name (sym name)) in
+      let rest : sum_by f xs ≡ 0 = sum_past x.name g xs (sorted_head text_cmp x.name (names xs) rising) in
+      let rest' : sum_by f ys ≡ 0 = sum_past x.name g ys (subst (λ q. Past q (names ys)) (sym name) (sorted_head text_cmp y.name (names ys) other)) in
+      omega (arith, sums f, here, there, rest, rest')
+
   same_heads : x.name ≡ y.name → x ≡ y
-  same_heads name =
-      let f : Tenant → ℕ = λ t. cond (same_text t.name x.name) t.quota 0 in
-      let here : sum_by f (x ∷ xs) ≡ x.quota + sum_by f xs = sum_by-cons f x xs ∙ ap (λ b. cond b x.quota 0 + sum_by f xs) (same_itself x.name) in
-      let there : sum_by f (y ∷ ys) ≡ y.quota + sum_by f ys = sum_by-cons f y ys ∙ ap (λ b. cond b y.quota 0 + sum_by f ys) (same_text_is y.name x.name (sym name)) in
-      let rest : sum_by f xs ≡ 0 = sum_past x.name (λ t. t.quota) xs (sorted_head text_cmp x.name (names xs) rising) in
-      let rest' : sum_by f ys ≡ 0 = sum_past x.name (λ t. t.quota) ys (subst (λ q. Past q (names ys)) (sym name) (sorted_head text_cmp y.name (names ys) other)) in
-      let quota : x.quota ≡ y.quota = omega (arith, sums f, here, there, rest, rest') in
-      λ i. record { name = name i; quota = quota i }
+  same_heads name = λ i. record { name = name i; quota = same_value (λ t. t.quota) name i; share = same_value (λ t. t.share) name i }
 
   same_tails : x ≡ y → (f : Tenant → ℕ) → sum_by f xs ≡ sum_by f ys
   same_tails same f = omega (arith, sums f, sum_by-cons f x xs, sum_by-cons f y ys, ap f same)

@@ -17,7 +17,7 @@ use Rattle.oci_manifest.specs.Manifests.{refs_of, max_manifest}
 use Rattle.std.specs.Option.{ok_or}
 use Rattle.store_model.specs.Catalog.{Catalog, Resident, opening}
 use Rattle.store_model.specs.Runs as runs
-use Rattle.store_model.specs.Commands.{Outcome, tenant, start, append, close, abandon, mount, delete, put_manifest, delete_manifest, with_stored_blob, was_leased, has_source, mounted_outcome, started_outcome, has_manifest, add_manifest, chunk_length_check, session, not_busy, check_no_referrer, referrer, check_all_links, manifest, check_link, is_digest_accepted, has_slot, check_quota, content_in, lacks_room_for, cannot_open, is_full_of_manifests}
+use Rattle.store_model.specs.Commands.{Outcome, tenant, start, append, close, abandon, mount, delete, put_manifest, delete_manifest, with_stored_blob, was_leased, has_source, mounted_outcome, started_outcome, has_manifest, add_manifest, chunk_length_check, session, not_busy, check_no_referrer, referrer, check_all_links, manifest, check_link, is_digest_accepted, has_slot, check_quota, check_share, content_in, lacks_room_for, cannot_open, is_full_of_manifests}
 use Rattle.store_model.specs.Sweep.{IsAfterSweep, IsSweep, is_orphan}
 use Rattle.store_model.specs.declared.swept.Swept.{Swept as SweptCounts}
 use Rattle.store_api.specs.Answers.{Answer, Swept}
@@ -145,7 +145,7 @@ module _ (C : Catalog) (none : LentNone C) where
   run_keeps (Append repo n range bytes) no_lease =
       answered_keeps _ (append C repo n range bytes) (bind_keeps (tenant C repo) _ (λ t _. bind_keeps (chunk_length_check C t repo n range (length bytes)) _ (λ m _. bind_keeps (check_quota C t (length bytes)) _ (λ _ _. ok_keeps _ _ none))))
   run_keeps (Close repo n digest range bytes) no_lease =
-      answered_keeps _ (close C repo n digest range bytes) (bind_keeps (tenant C repo) _ (λ t _. bind_keeps (chunk_length_check C t repo n range (length bytes)) _ (λ m _. bind_keeps (check_quota C t (length bytes)) _ (λ _ _. bind_keeps (refuse (not (is_digest_accepted C digest (content_in C.sessions (t, n) bytes))) no.DigestInvalid) _ (λ _ _. bind_keeps (has_slot C digest) _ (λ _ _. ok_keeps _ _ (stored_none t repo n digest (content_in C.sessions (t, n) bytes))))))))
+      answered_keeps _ (close C repo n digest range bytes) (bind_keeps (tenant C repo) _ (λ t _. bind_keeps (chunk_length_check C t repo n range (length bytes)) _ (λ m _. bind_keeps (check_quota C t (length bytes)) _ (λ _ _. bind_keeps (refuse (not (is_digest_accepted C digest (content_in C.sessions (t, n) bytes))) no.DigestInvalid) _ (λ _ _. bind_keeps (check_share C t digest) _ (λ _ _. bind_keeps (has_slot C digest) _ (λ _ _. ok_keeps _ _ (stored_none t repo n digest (content_in C.sessions (t, n) bytes)))))))))
   run_keeps (Abandon repo n) no_lease =
       answered_keeps _ (abandon C repo n) (bind_keeps (tenant C repo) _ (λ t _. bind_keeps (session C t repo n) _ (λ s _. bind_keeps (not_busy s.chunks) _ (λ _ _. ok_keeps _ _ none))))
   run_keeps (Mount repo digest from) no_lease =

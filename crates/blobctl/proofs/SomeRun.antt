@@ -139,7 +139,7 @@ module _ (C : Catalog) where
 
   close_fine : (repo : Text) (number : ℕ) (digest : Text) (range : Option ByteRange) (last : Text) → Fine (steps.close C repo number digest range last)
   close_fine repo number digest range last =
-      bind_fine (steps.tenant C repo) _ (tenant_fine repo) (λ t. bind_fine (steps.chunk_length_check C t repo number range (length last)) _ (check_fine t repo number range (length last)) (λ _. bind_fine (steps.check_quota C t (length last)) _ (quota_fine t (length last)) (λ _. bind_fine (refuse (not (steps.is_digest_accepted C digest (content_in C.sessions (t, number) last))) no.DigestInvalid) _ (refuse_fine _ _ refl) (λ _. bind_fine (steps.has_slot C digest) _ (refuse_fine _ _ refl) (λ _. tt)))))
+      bind_fine (steps.tenant C repo) _ (tenant_fine repo) (λ t. bind_fine (steps.chunk_length_check C t repo number range (length last)) _ (check_fine t repo number range (length last)) (λ _. bind_fine (steps.check_quota C t (length last)) _ (quota_fine t (length last)) (λ _. bind_fine (refuse (not (steps.is_digest_accepted C digest (content_in C.sessions (t, number) last))) no.DigestInvalid) _ (refuse_fine _ _ refl) (λ _. bind_fine (steps.check_share C t digest) _ (refuse_fine _ _ refl) (λ _. bind_fine (steps.has_slot C digest) _ (refuse_fine _ _ refl) (λ _. tt))))))
 
   abandon_fine : (repo : Text) (number : ℕ) → Fine (steps.abandon C repo number)
   abandon_fine repo number = bind_fine (steps.tenant C repo) _ (tenant_fine repo) (λ t. bind_fine (steps.session C t repo number) _ (session_fine _ repo) (λ s. bind_fine (not_busy s.chunks) _ (not_busy_fine s.chunks) (λ _. tt)))

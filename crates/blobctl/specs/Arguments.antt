@@ -1,5 +1,5 @@
 -- The arguments of the program, and the options that they give.
-use Rattle.std.specs.Prelude.{⊤, ◌≡◌, ◌≢◌, ◌⊎◌, ℕ, List, [], ◌∷◌, MatchOption, Option, Some, codes, pos, true, unwrap_or}
+use Rattle.std.specs.Prelude.{⊤, ◌≡◌, ◌≢◌, ◌⊎◌, ℕ, List, [], ◌∷◌, MatchOption, Option, Some, codes, false, pos, true, unwrap_or}
 use Rattle.std.specs.Str.Parse.{IsNumeral, digits_value, without_leading_plus}
 use Rattle.clap.specs.Faults.{fault_of}
 use Rattle.clap.specs.Kinds.{IsAmong}
@@ -102,7 +102,7 @@ tenant_args rows = unwrap_or (all_of (codes "tenants") rows) []
 -- the options are those of the found words, with slots of generation 0 at first
 pub record AreOptionsOf (rows : List Row) (options : Options) : Type 0 where
   pub numbers : HaveNumbers rows options.store.slots options.store.max_blob
-  pub tenants : SpellTenants (tenant_args rows) (tenants_shown options.store.tenants.items)
+  pub tenants : SpellTenants false (tenant_args rows) (tenants_shown options.store.tenants.items)
   pub first : options.store.first_generation ≡ 0
   pub workers : HaveWorkers rows options.workers
 
@@ -110,7 +110,7 @@ pub record AreOptionsOf (rows : List Row) (options : Options) : Type 0 where
 abbrev pub RefusesFound : List Row → Stop → Type 0
 RefusesFound rows (Help text) = ⊥
 RefusesFound rows (Usage text) = HaveNoNumbers rows ⊎ HaveNoWorkers rows
-RefusesFound rows BadTenant = HasBadTenant (tenant_args rows)
+RefusesFound rows BadTenant = HasBadTenant false (tenant_args rows)
 RefusesFound rows NotUtf8 = ⊥
 RefusesFound rows Memory = ⊤
 
@@ -125,6 +125,6 @@ pub record SpellOptions (words : List Text) (options : Options) : Type 0 where
 abbrev pub RefusesWords : List Text → Stop → Type 0
 RefusesWords words (Help text) = IsAmong DisplayHelp (fault_of program words)
 RefusesWords words (Usage text) = ((kind : ErrorKind) × (kind ≢ DisplayHelp) × IsAmong kind (fault_of program words)) ⊎ ((fault_of program words ≡ []) × RefusesFound (matches_of program words) (Usage text))
-RefusesWords words BadTenant = (fault_of program words ≡ []) × HasBadTenant (tenant_args (matches_of program words))
+RefusesWords words BadTenant = (fault_of program words ≡ []) × HasBadTenant false (tenant_args (matches_of program words))
 RefusesWords words NotUtf8 = ⊥
 RefusesWords words Memory = ⊤

@@ -128,7 +128,7 @@ fn options_of(alloc: Global, matches: &ArgMatches<'_>) -> Result<Options, Stop>
     };
     let none: &[&str] = &[];
     let words = matches.get_strs("tenants").unwrap_or(none);
-    let tenants = read_tenants(alloc, words)?;
+    let tenants = read_tenants(alloc, words, false)?;
     let store = Config {
         slots,
         max_blob,

@@ -3,6 +3,7 @@ pub mod HolderCounts
 pub mod LinkKeys
 pub mod ManifestRows
 pub mod ManifestTableRows
+pub mod Shares
 pub mod Soundness
 pub mod Tables
 pub mod TenantLists

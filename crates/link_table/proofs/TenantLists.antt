@@ -1,9 +1,8 @@
 -- Lists of tenants: sorted, moved about, and with names that differ.
 use Rattle.std.proofs.Common.{◌≡◌, ℕ, ◌+◌, ◌<◌, ◌≤◌, ◌^◌, Bool, true, false, cond, List, [], ◌∷◌, length, map, get_or, Option, Some, None, refl, sym, ap, ◌∙◌, arith, add-one}
 use Prim.Native.Nat.{zero, suc}
-use Rattle.std.specs.Prelude.{nat_eq, String, string_bytes}
+use Rattle.std.specs.Prelude.{nat_eq, string_bytes}
 use Rattle.std.specs.declared.cmp.Ordering.{Ordering}
-use Rattle.std.specs.declared.alloc.Global.{Global}
 use Rattle.std.specs.declared.cmp.Ordering.TheVariants.{Less, Equal, Greater}
 use Rattle.std.specs.Ordering.{is_lt, is_eq, ordering_then, ordering_reverse, nat_cmp}
 use Rattle.std.specs.Option.{option_eq}
@@ -21,6 +20,7 @@ use Rattle.spec_lib.specs.Texts.{Text, text_cmp, same_text}
 use Rattle.blob_digest.specs.Names.{tenant_name, IsComponent}
 use Rattle.blob_digest.specs.Tenants.{Tenant, tenant_of, is_repo_of_tenant}
 use Rattle.spec_lib.proofs.Rows.{position-map, sum_by-map}
+use Rattle.link_table.specs.declared.tenants.TenantSettings.{TenantSettings}
 use Rattle.link_table.specs.Tenancy.{HasNames, IsWithinLimits, AreTenants, tenant_shown, tenants_shown}
 use Rattle.spec_lib.proofs.Sorted.{is_less}
 
@@ -94,15 +94,15 @@ module _ (xs ys : List Tenant) (moved : IsPermutation xs ys) where
 -- ---- whose a repository is
 
 -- a repository's tenant is looked up in the rows
-pub tenant_of-rows : (rows : List (String Global × ℕ)) (repo name : Text) → name ≡ tenant_name repo → tenant_of (tenants_shown rows) repo ≡ position (λ t. same_text (string_bytes t.0) name) rows
-tenant_of-rows rows repo name is = position-map (λ t. same_text t.name (tenant_name repo)) tenant_shown rows ∙ ap (λ n. position (λ t. same_text (string_bytes t.0) n) rows) (sym is)
+pub tenant_of-rows : (rows : List TenantSettings) (repo name : Text) → name ≡ tenant_name repo → tenant_of (tenants_shown rows) repo ≡ position (λ t. same_text (string_bytes t.name) name) rows
+tenant_of-rows rows repo name is = position-map (λ t. same_text t.name (tenant_name repo)) tenant_shown rows ∙ ap (λ n. position (λ t. same_text (string_bytes t.name) n) rows) (sym is)
 
 pub is_repo_of_tenant-found : (ts : List Tenant) (repo : Text) (t : ℕ) → tenant_of ts repo ≡ Some t → is_repo_of_tenant ts t repo ≡ true
 is_repo_of_tenant-found ts repo t found = ap (λ o. option_eq nat_eq o (Some t)) found ∙ eq-eqb t t refl
 
 -- a tenant with a repository exists
 pub own_within : (ts : List Tenant) (t : ℕ) (repo : Text) → is_repo_of_tenant ts t repo ≡ true → t < length ts
-own_within ts t repo own = (position-Some (λ x. same_text x.name (tenant_name repo)) ts t (record { name = []; quota = 0 }) (is_some_of (tenant_of ts repo) own)).0
+own_within ts t repo own = (position-Some (λ x. same_text x.name (tenant_name repo)) ts t (record { name = []; quota = 0; share = 0 }) (is_some_of (tenant_of ts repo) own)).0
   where
     is_some_of : (o : Option ℕ) → option_eq nat_eq o (Some t) ≡ true → o ≡ Some t
     is_some_of None e = cc
@@ -120,32 +120,32 @@ All-unmap P f [] all k d lt = absurd (omega arith)
 All-unmap P f (x ∷ xs) all zero d lt = all 0 (f x) (omega arith)
 All-unmap P f (x ∷ xs) all (suc k) d lt = All-unmap P f xs (λ j e below. all (suc j) e (omega arith)) k d (omega arith)
 
-abbrev pub row_cmp : String Global × ℕ → String Global × ℕ → Ordering
-row_cmp x y = ordering_then (text_cmp (string_bytes x.0) (string_bytes y.0)) (nat_cmp x.1 y.1)
+abbrev pub row_cmp : TenantSettings → TenantSettings → Ordering
+row_cmp x y = ordering_then (text_cmp (string_bytes x.name) (string_bytes y.name)) (ordering_then (nat_cmp x.quota y.quota) (nat_cmp x.share y.share))
 
 -- neighbours in order of which the first name isn't below the second have one name
-tied : (x y : String Global × ℕ) → is_lt (row_cmp y x) ≡ false → false ≡ is_lt (text_cmp (string_bytes x.0) (string_bytes y.0)) → same_text (string_bytes x.0) (string_bytes y.0) ≡ true
-tied x y up not_below = texts_ties (string_bytes x.0) (string_bytes y.0) ∙ by_cases (text_cmp (string_bytes x.0) (string_bytes y.0)) refl
+tied : (x y : TenantSettings) → is_lt (row_cmp y x) ≡ false → false ≡ is_lt (text_cmp (string_bytes x.name) (string_bytes y.name)) → same_text (string_bytes x.name) (string_bytes y.name) ≡ true
+tied x y up not_below = texts_ties (string_bytes x.name) (string_bytes y.name) ∙ by_cases (text_cmp (string_bytes x.name) (string_bytes y.name)) refl
   where
-    by_cases : (r : Ordering) → text_cmp (string_bytes x.0) (string_bytes y.0) ≡ r → is_eq r ≡ true
+    by_cases : (r : Ordering) → text_cmp (string_bytes x.name) (string_bytes y.name) ≡ r → is_eq r ≡ true
     by_cases Less e = absurd (true≢false (sym (not_below ∙ ap is_lt e)))
     by_cases Equal e = refl
     by_cases Greater e =
-        let back : text_cmp (string_bytes y.0) (string_bytes x.0) ≡ Less = nat_list_cmp_total.antisymm (string_bytes y.0) (string_bytes x.0) ∙ ap ordering_reverse e in
-        absurd (true≢false (sym (ap (λ r. is_lt (ordering_then r (nat_cmp y.1 x.1))) back) ∙ up))
+        let back : text_cmp (string_bytes y.name) (string_bytes x.name) ≡ Less = nat_list_cmp_total.antisymm (string_bytes y.name) (string_bytes x.name) ∙ ap ordering_reverse e in
+        absurd (true≢false (sym (ap (λ r. is_lt (ordering_then r (ordering_then (nat_cmp y.quota x.quota) (nat_cmp y.share x.share)))) back) ∙ up))
 
-abbrev pub name_of : String Global × ℕ → Text
-name_of x = string_bytes x.0
+abbrev pub name_of : TenantSettings → Text
+name_of x = string_bytes x.name
 
-some_row : (ts : List (String Global × ℕ)) → 0 < length ts → String Global × ℕ
+some_row : (ts : List TenantSettings) → 0 < length ts → TenantSettings
 some_row [] some = absurd (omega arith)
 some_row (x ∷ ts) some = x
 
 -- two neighbours of one name
-abbrev pub HasNeighbours : List (String Global × ℕ) → Type 0
-HasNeighbours ts = (k : ℕ) × (k + 1 < length ts) × ((d : String Global × ℕ) → false ≡ is_lt (text_cmp (name_of (get_or ts k d)) (name_of (get_or ts (k + 1) d))))
+abbrev pub HasNeighbours : List TenantSettings → Type 0
+HasNeighbours ts = (k : ℕ) × (k + 1 < length ts) × ((d : TenantSettings) → false ≡ is_lt (text_cmp (name_of (get_or ts k d)) (name_of (get_or ts (k + 1) d))))
 
-twice : (ts : List (String Global × ℕ)) → IsSortedBy (λ x y. is_lt (row_cmp x y)) ts → HasNeighbours ts → HasNames (tenants_shown ts) → ⊥
+twice : (ts : List TenantSettings) → IsSortedBy (λ x y. is_lt (row_cmp x y)) ts → HasNeighbours ts → HasNames (tenants_shown ts) → ⊥
 twice ts up at names =
     let k = at.0 in
     let d = some_row ts (let lt = at.1 in omega arith) in
@@ -156,20 +156,20 @@ twice ts up at names =
     let shown = sum_by-map (λ t. cond (same_text t.name name) 1 0) tenant_shown ts in
     omega arith
 
-module _ (given ts : List (String Global × ℕ)) (moved : IsPermutation given ts) where
+module _ (given ts : List TenantSettings) (moved : IsPermutation given ts) where
   pub shown_moved : IsPermutation (tenants_shown given) (tenants_shown ts)
   shown_moved = IsPermutation-map tenant_shown given ts moved
 
   back : IsPermutation (tenants_shown ts) (tenants_shown given)
   back = IsPermutation-sym (tenants_shown given) (tenants_shown ts) shown_moved
 
-  pub no_component : (All (λ t. IsComponent (string_bytes t.0)) ts → ⊥) → HasNames (tenants_shown given) → ⊥
+  pub no_component : (All (λ t. IsComponent (string_bytes t.name)) ts → ⊥) → HasNames (tenants_shown given) → ⊥
   no_component none names = none (All-unmap (λ t. IsComponent t.name) tenant_shown ts (HasNames-moved (tenants_shown given) (tenants_shown ts) shown_moved names).components)
 
   pub comes_twice : IsSortedBy (λ x y. is_lt (row_cmp x y)) ts → HasNeighbours ts → HasNames (tenants_shown given) → ⊥
   comes_twice up at names = twice ts up at (HasNames-moved (tenants_shown given) (tenants_shown ts) shown_moved names)
 
-  module _ (next : AllAdjacentBelow (λ x y. true ≡ is_lt (text_cmp (name_of x) (name_of y))) ts (length ts)) (components : All (λ t. IsComponent (string_bytes t.0)) ts) where
+  module _ (next : AllAdjacentBelow (λ x y. true ≡ is_lt (text_cmp (name_of x) (name_of y))) ts (length ts)) (components : All (λ t. IsComponent (string_bytes t.name)) ts) where
     rises : IsStrictlySortedBy text_cmp (map (λ t. t.name) (tenants_shown ts))
     rises = rising_by text_cmp nat_list_cmp_total (λ t. t.name) tenant_shown ts (λ k d lt.
         let lt' : k + 1 < length ts = omega arith in

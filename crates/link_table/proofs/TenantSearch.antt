@@ -1,8 +1,7 @@
 -- A tenant is found by its name if the names rise.
 use Rattle.std.proofs.Common.{◌≡◌, ℕ, ◌<◌, Bool, true, false, List, [], ◌∷◌, length, map, get_or, Option, Some, None, is_some, Result, Ok, Err, refl, sym, ap, ◌∙◌, arith, inl, inr}
 use Prim.Native.Nat.{zero, suc}
-use Rattle.std.specs.Prelude.{String, string_bytes, ◌||◌, cond}
-use Rattle.std.specs.declared.alloc.Global.{Global}
+use Rattle.std.specs.Prelude.{string_bytes, ◌||◌, cond}
 use Rattle.std.specs.declared.cmp.Ordering.{Ordering}
 use Rattle.std.specs.declared.cmp.Ordering.TheVariants.{Less, Equal, Greater}
 use Rattle.std.specs.Ordering.{is_lt, is_eq}
@@ -17,23 +16,24 @@ use Rattle.std.proofs.lemmas.List.Quantifiers.{position-Some}
 use Rattle.spec_lib.specs.Texts.{Text, text_cmp, same_text}
 use Rattle.spec_lib.proofs.Rows.{is_some-position, sum_by-map}
 use Rattle.spec_lib.proofs.Sorted.{gap}
+use Rattle.link_table.specs.declared.tenants.TenantSettings.{TenantSettings}
 use Rattle.link_table.specs.Tenancy.{AreTenants, tenant_shown, tenants_shown}
 use Rattle.link_table.proofs.TenantLists.{two_places, once}
 
 abbrev Row : Type 0
-Row = String Global × ℕ
+Row = TenantSettings
 
 abbrev entry : Row → Text × ℕ
-entry x = (string_bytes x.0, x.1)
+entry x = (string_bytes x.name, x.quota)
 
 below_names : (x : Text) (rows : List Row) → AllByRecursion (λ y. text_cmp x y ≡ Less) (map (λ t. t.name) (tenants_shown rows)) → below_all text_cmp x (map entry rows) ≡ true
 below_names x [] all = refl
-below_names x (y ∷ rows) all = and_from (is_lt (text_cmp x (string_bytes y.0))) (below_all text_cmp x (map entry rows)) (ap is_lt all.0) (below_names x rows all.1)
+below_names x (y ∷ rows) all = and_from (is_lt (text_cmp x (string_bytes y.name))) (below_all text_cmp x (map entry rows)) (ap is_lt all.0) (below_names x rows all.1)
 
 sorted_rows : (rows : List Row) → IsStrictlySortedBy text_cmp (map (λ t. t.name) (tenants_shown rows)) → is_sorted text_cmp (map entry rows) ≡ true
 unfolding IsStrictlySortedBy
 sorted_rows [] up = refl
-sorted_rows (x ∷ rows) up = and_from (below_all text_cmp (string_bytes x.0) (map entry rows)) (is_sorted text_cmp (map entry rows)) (below_names (string_bytes x.0) rows up.0) (sorted_rows rows up.1)
+sorted_rows (x ∷ rows) up = and_from (below_all text_cmp (string_bytes x.name) (map entry rows)) (is_sorted text_cmp (map entry rows)) (below_names (string_bytes x.name) rows up.0) (sorted_rows rows up.1)
 
 any_place : {A : Type 0} (p : A → Bool) (xs : List A) (j : ℕ) (d : A) → j < length xs → p (get_or xs j d) ≡ true → list_any p xs ≡ true
 any_place p [] j d lt h = absurd (omega arith)
@@ -50,7 +50,7 @@ some_row (x ∷ rows) i lt = x
 
 module _ (rows : List Row) (tenants : AreTenants (tenants_shown rows)) (name : Text) where
   abbrev named : Row → Bool
-  named x = same_text (string_bytes x.0) name
+  named x = same_text (string_bytes x.name) name
 
   alone : (d : Row) (i j : ℕ) → i < j → j < length rows → named (get_or rows i d) ≡ true → named (get_or rows j d) ≡ true → ⊥
   alone d i j below within g h =
@@ -59,10 +59,10 @@ module _ (rows : List Row) (tenants : AreTenants (tenants_shown rows)) (name : T
       let shown = sum_by-map (λ t. cond (same_text t.name name) 1 0) tenant_shown rows in
       omega arith
 
-  is_named : (r : Ordering) (x : Row) → text_cmp (string_bytes x.0) name ≡ r → is_eq r ≡ true → named x ≡ true
-  is_named r x is h = texts_ties (string_bytes x.0) name ∙ ap is_eq is ∙ h
+  is_named : (r : Ordering) (x : Row) → text_cmp (string_bytes x.name) name ≡ r → is_eq r ≡ true → named x ≡ true
+  is_named r x is h = texts_ties (string_bytes x.name) name ∙ ap is_eq is ∙ h
 
-  at_found : (i : ℕ) → i < length rows → HoldsAt (λ t. text_cmp (string_bytes t.0) name ≡ Equal) rows i → (o : Option ℕ) → position named rows ≡ o → Some i ≡ o
+  at_found : (i : ℕ) → i < length rows → HoldsAt (λ t. text_cmp (string_bytes t.name) name ≡ Equal) rows i → (o : Option ℕ) → position named rows ≡ o → Some i ≡ o
   at_found i lt is None none =
       let d = some_row rows i lt in
       absurd (true≢false (sym (any_place named rows i d lt (is_named Equal (get_or rows i d) (is d) refl)) ∙ sym (is_some-position named rows) ∙ ap is_some none))
@@ -76,10 +76,10 @@ module _ (rows : List Row) (tenants : AreTenants (tenants_shown rows)) (name : T
         | inr (inr above) ↦ absurd (alone d i j above first.0 here first.1)
       ]
 
-  unequal : (r : Ordering) (x : Row) → text_cmp (string_bytes x.0) name ≡ r → is_eq r ≡ false → named x ≡ false
-  unequal r x is h = texts_ties (string_bytes x.0) name ∙ ap is_eq is ∙ h
+  unequal : (r : Ordering) (x : Row) → text_cmp (string_bytes x.name) name ≡ r → is_eq r ≡ false → named x ≡ false
+  unequal r x is h = texts_ties (string_bytes x.name) name ∙ ap is_eq is ∙ h
 
-  at_missed : (i : ℕ) → IsBinarySearchResult (λ t. text_cmp (string_bytes t.0) name) rows (Err i) → (o : Option ℕ) → position named rows ≡ o → None ≡ o
+  at_missed : (i : ℕ) → IsBinarySearchResult (λ t. text_cmp (string_bytes t.name) name) rows (Err i) → (o : Option ℕ) → position named rows ≡ o → None ≡ o
   at_missed i missed None none = refl
   at_missed i missed (Some j) some =
       let within = (position-Some named rows j) in
@@ -102,6 +102,6 @@ module _ (rows : List Row) (tenants : AreTenants (tenants_shown rows)) (name : T
           ]
 
   -- the place of a search is the tenant's
-  pub searched : (place : Result ℕ ℕ) → IsSearchInRange place (length rows) → IsBinarySearchResult (λ t. text_cmp (string_bytes t.0) name) rows place → result_ok place ≡ position named rows
+  pub searched : (place : Result ℕ ℕ) → IsSearchInRange place (length rows) → IsBinarySearchResult (λ t. text_cmp (string_bytes t.name) name) rows place → result_ok place ≡ position named rows
   searched (Ok i) lt is = at_found i lt is (position named rows) refl
   searched (Err i) lt missed = at_missed i missed (position named rows) refl

@@ -37,6 +37,10 @@ name_at tenants t = option_map (λ x. x.name) (slice_get tenants t)
 abbrev pub quota_in : List Tenant → ℕ → ℕ
 quota_in tenants t = option_map_or (λ x. x.quota) (slice_get tenants t) 0
 
+-- a tenant's share of the slots: the maximum number of distinct blobs of its repositories
+abbrev pub share_in : List Tenant → ℕ → ℕ
+share_in tenants t = option_map_or (λ x. x.share) (slice_get tenants t) 0
+
 -- ---- sizes and usage
 
 -- the digest and the size of each link whose repository passes the test
@@ -63,6 +67,10 @@ used_in l t = total_size (blobs_of l t) + slice_index l.charges t
 -- all links to a digest have the same size
 abbrev pub HasOneSize : fmap.FinMap link_cmp ℕ → Type 0
 HasOneSize links = (r s d : Text) (m n : ℕ) → fmap.get links (r, d) ≡ Some m → fmap.get links (s, d) ≡ Some n → m ≡ n
+
+-- whether a digest is new to a tenant whose repositories contain as many distinct blobs as its share
+abbrev pub passes_share : Linked → ℕ → Text → Bool
+passes_share l t digest = not (fmap.contains_key (blobs_of l t) digest) && nat_le (share_in l.tenants t) (fmap.len (blobs_of l t))
 
 -- every link to this digest has this size
 abbrev pub IsSizeOf : fmap.FinMap link_cmp ℕ → Text → ℕ → Type 0

@@ -1,6 +1,5 @@
 -- The lists of tenants that a table accepts, and the errors for the others.
-use Rattle.std.specs.Prelude.{◌≡◌, ◌<◌, ◌≤◌, ◌^◌, ℕ, Bool, List, length, map, count_by, String, string_bytes}
-use Rattle.std.specs.declared.alloc.Global.{Global}
+use Rattle.std.specs.Prelude.{◌≡◌, ◌<◌, ◌≤◌, ◌^◌, ℕ, Bool, List, length, map, count_by, string_bytes}
 use Rattle.std.specs.declared.cmp.Ordering.{Ordering}
 use Rattle.std.specs.Ordering.{is_lt}
 use Rattle.std.specs.List.{All}
@@ -10,6 +9,7 @@ use Rattle.blob_digest.specs.Names.{IsComponent}
 use Rattle.blob_digest.specs.Tenants.{Tenant}
 use Rattle.blob_digest.specs.declared.refusal.Refusal.{Refusal}
 use Rattle.blob_digest.specs.declared.refusal.Refusal.TheVariants.{NameInvalid, LimitReached, Memory}
+use Rattle.link_table.specs.declared.tenants.TenantSettings.{TenantSettings}
 use Rattle.link_table.specs.Linked.{Linked, initial_links}
 
 -- each name is one component of a repository's name (OCI Distribution Specification 1.1, "Pulling manifests"), and no name occurs twice
@@ -52,22 +52,22 @@ pub record Opens (given : List Tenant) (l : Linked) : Type 0 where
   pub tenants : AreTenants l.tenants
   pub empty : l ≡ initial_links l.tenants
 
--- a name with a quota
-abbrev pub tenant_shown : String Global × ℕ → Tenant
-tenant_shown t = record { name = string_bytes t.0; quota = t.1 }
+-- a tenant's name and limits
+abbrev pub tenant_shown : TenantSettings → Tenant
+tenant_shown t = record { name = string_bytes t.name; quota = t.quota; share = t.share }
 
 -- the tenants that rows show
-abbrev pub tenants_shown : List (String Global × ℕ) → List Tenant
+abbrev pub tenants_shown : List TenantSettings → List Tenant
 tenants_shown ts = map tenant_shown ts
 
 -- the order of a tenant's name and this name
-abbrev pub tenant_name_cmp : Text → String Global × ℕ → Ordering
-tenant_name_cmp name t = text_cmp (string_bytes t.0) name
+abbrev pub tenant_name_cmp : Text → TenantSettings → Ordering
+tenant_name_cmp name t = text_cmp (string_bytes t.name) name
 
 -- the test says whether the name of x is below that of y
-abbrev pub IsNameBelow : String Global × ℕ → String Global × ℕ → Bool → Type 0
-IsNameBelow x y b = b ≡ is_lt (text_cmp (string_bytes x.0) (string_bytes y.0))
+abbrev pub IsNameBelow : TenantSettings → TenantSettings → Bool → Type 0
+IsNameBelow x y b = b ≡ is_lt (text_cmp (string_bytes x.name) (string_bytes y.name))
 
 -- both lists have the same tenants, in any order
-abbrev pub SameTenants : List (String Global × ℕ) → List (String Global × ℕ) → Type 0
+abbrev pub SameTenants : List TenantSettings → List TenantSettings → Type 0
 SameTenants xs ys = IsPermutation (tenants_shown xs) (tenants_shown ys)

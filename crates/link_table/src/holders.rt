@@ -4,7 +4,7 @@ ghost use Rattle.std.specs.Prelude.{◌≡◌, ◌+◌, ◌-◌, ◌<◌, ◌^�
 ghost use Rattle.std.specs.FinMap as fmap;
 ghost use Rattle.spec_lib.specs.Texts.{Text};
 ghost use Rattle.blob_digest.specs.declared.refusal.Refusal.TheVariants.{Memory};
-ghost use Rattle.link_table.specs.Holders.{count_in, AreEmptyMaps, CountsOneLess, CountsOneMore};
+ghost use Rattle.link_table.specs.Holders.{count_in, AreEmptyMaps, CountsOneLess, CountsOneMore, HasNoZero};
 
 use blob_digest::{Digest, Refusal};
 use std::alloc::Global;
@@ -65,6 +65,14 @@ pub fn holders_of(holders: &Holders, digest: &Digest) -> u64
     ensures { result ≡ count_in holders.now digest.now }
 {
     holders.counts.get(digest).copied().unwrap_or(0)
+}
+
+/// Returns the number of digests that at least one of a tenant's repositories contains. Constant time.
+pub fn digest_count(holders: &Holders) -> usize
+    ensures count { result ≡ fmap.len holders.now }
+    ensures no_zero { HasNoZero holders.now }
+{
+    holders.counts.len()
 }
 
 /// Counts one more repository for a digest, and returns the new count.

@@ -1,4 +1,4 @@
-//! Tenants with quotas, repositories, links, manifests, and each tenant's usage.
+//! Tenants with quotas and shares, repositories, links, manifests, and each tenant's usage.
 //!
 //! A link is the fact that a repository contains a blob. Of a blob, this crate has only the digest and the size. A
 //! tenant's usage is the size of each blob in its repositories, counted once, plus its charges. A charge never
@@ -20,4 +20,4 @@ mod usage;
 pub use blobs::Blobs;
 pub use links::Links;
 pub use manifests::Manifests;
-pub use tenants::{MAX_QUOTA, MAX_TENANTS};
+pub use tenants::{MAX_QUOTA, MAX_TENANTS, TenantSettings, UNLIMITED_SHARE};

@@ -1,6 +1,6 @@
 //! The table of tenants, repositories, links and manifests.
 
-ghost use Rattle.std.specs.Prelude.{◌≡◌, ◌+◌, ◌<◌, ◌≤◌, ◌^◌, length, replicate, true, false, slice_index, slice_get, Some, Ok, IfOk, IfErr};
+ghost use Rattle.std.specs.Prelude.{◌≡◌, ◌+◌, ◌<◌, ◌≤◌, ◌^◌, length, replicate, true, false, nat_le, slice_index, slice_get, Some, Ok, IfOk, IfErr};
 ghost use Rattle.std.specs.Option.{option_copied};
 ghost use Rattle.std.specs.FinMap as fmap;
 ghost use Rattle.spec_lib.specs.Sets as set;
@@ -9,15 +9,15 @@ ghost use Rattle.blob_digest.specs.declared.refusal.Refusal.TheVariants.{Memory}
 ghost use Rattle.link_table.specs.ManifestTable.{referrer_on, manifests_on, Fulfils};
 ghost use Rattle.link_table.specs.Manifests.{found_bytes, found_manifest};
 ghost use Rattle.link_table.specs.TenantRepos.{empty_tenant};
-ghost use Rattle.link_table.specs.Linked.{is_repo_of_tenant, known_tenant, name_at, used_in, quota_in, blobs_of, repos_of, blobs_in, first_unlinked, link, unlink, put_manifest, drop_manifest, charge, discharge, appear, vanish, IsSizeOf, HasNoLinks};
+ghost use Rattle.link_table.specs.Linked.{is_repo_of_tenant, known_tenant, name_at, used_in, quota_in, blobs_of, repos_of, blobs_in, first_unlinked, link, unlink, passes_share, share_in, put_manifest, drop_manifest, charge, discharge, appear, vanish, IsSizeOf, HasNoLinks};
 ghost use Rattle.link_table.specs.Tenancy.{Opens, AreTenants, RefusesTenants, tenants_shown};
 
 use crate::blobs::Blobs;
-use crate::holders::{Holders, decrement, holders_of, increment, no_holders};
+use crate::holders::{Holders, decrement, digest_count, holders_of, increment, no_holders};
 use crate::manifest_table::ManifestTable;
 use crate::manifests::Manifests;
 use crate::tenant_repos::TenantRepos;
-use crate::tenants::{in_order, tenant_at};
+use crate::tenants::{TenantSettings, in_order, tenant_at};
 use crate::usage::{bytes_with, bytes_without};
 use blob_digest::{Digest, Refusal, RepoName};
 use oci_manifest::Manifest;
@@ -25,7 +25,7 @@ use std::alloc::Global;
 use std::marker::Model;
 use std::sync::Arc;
 
-/// Tenants with quotas, their repositories, the links of repositories to blobs, the manifests, and each tenant's
+/// Tenants with quotas and shares, their repositories, the links of repositories to blobs, the manifests, and each tenant's
 /// charges.
 ///
 /// Contracts see these five. Each tenant's usage follows from them. Tenants are numbered from 0 in the order of their
@@ -45,7 +45,7 @@ use std::sync::Arc;
 #[derive(Drop)]
 pub struct Links {
     alloc: Global,
-    tenants: Vec<(String, u64)>,
+    tenants: Vec<TenantSettings>,
     repos: Vec<TenantRepos>,
     manifests: ManifestTable,
     holders: Vec<Holders>,
@@ -84,8 +84,7 @@ fn no_repos(alloc: Global, count: usize) -> Result<Vec<TenantRepos>, Refusal>
 }
 
 impl Links {
-    /// Returns a table of these tenants, each a name with a quota, without repositories. It numbers them in the order
-    /// of their names.
+    /// Returns a table of these tenants, without repositories. It numbers them in the order of their names.
     ///
     /// # Errors
     ///
@@ -93,7 +92,7 @@ impl Links {
     ///   "Pulling manifests"), or occurs twice.
     /// - `LimitReached`: there is no tenant, there are more than 256, or a quota exceeds 2^50 bytes.
     /// - `Memory`: out of memory.
-    pub fn new(alloc: Global, tenants: Vec<(String, u64)>) -> Result<Links, Refusal>
+    pub fn new(alloc: Global, tenants: Vec<TenantSettings>) -> Result<Links, Refusal>
         ensures opened { IfOk result (λ l. Opens (tenants_shown tenants.items) l) }
         ensures refused { IfErr result (λ e. RefusesTenants e (tenants_shown tenants.items)) }
     {
@@ -149,7 +148,7 @@ impl Links {
         requires { tenant < length self.now.tenants }
         ensures { name_at self.now.tenants tenant ≡ Some result.now }
     {
-        self.tenants[tenant as usize].0.as_str()
+        self.tenants[tenant as usize].name.as_str()
     }
 
     /// Returns a tenant's quota in bytes.
@@ -157,7 +156,15 @@ impl Links {
         requires { tenant < length self.now.tenants }
         ensures { result ≡ quota_in self.now.tenants tenant }
     {
-        self.tenants[tenant as usize].1
+        self.tenants[tenant as usize].quota
+    }
+
+    /// Returns a tenant's share of the slots: the maximum number of distinct blobs of its repositories.
+    pub fn share(&self, tenant: u16) -> u32
+        requires { tenant < length self.now.tenants }
+        ensures { result ≡ share_in self.now.tenants tenant }
+    {
+        self.tenants[tenant as usize].share
     }
 
     /// Returns a tenant's usage in bytes: the size of each blob in its repositories, counted once, plus its charges.
@@ -345,6 +352,27 @@ impl Links {
         ensures { result ≡ fmap.contains_key (blobs_of self.now tenant) digest.now }
     {
         holders_of(&self.holders[tenant as usize], digest) > 0
+    }
+
+    /// Returns whether a digest is new to a tenant whose repositories contain as many distinct blobs as its share.
+    ///
+    /// # Cost
+    ///
+    /// Logarithmic in the number of digests in the tenant's repositories.
+    pub fn passes_share(&self, tenant: u16, digest: &Digest) -> bool
+        requires { tenant < length self.now.tenants }
+        ensures { result ≡ passes_share self.now tenant digest.now }
+    {
+        !self.tenant_holds(tenant, digest) && self.has_full_share(tenant)
+    }
+
+    /// Returns whether a tenant's repositories contain as many distinct blobs as its share. Constant time.
+    fn has_full_share(&self, tenant: u16) -> bool
+        requires { tenant < length self.now.tenants }
+        ensures { result ≡ nat_le (share_in self.now.tenants tenant) (fmap.len (blobs_of self.now tenant)) }
+    {
+        let count = digest_count(&self.holders[tenant as usize]);
+        self.share(tenant) as usize <= count
     }
 
     /// Returns a tenant's repository at index `i`, in the order of their names. Constant time.

@@ -9,6 +9,20 @@ ghost use Rattle.link_table.specs.Tenancy.{AreTenants, HasNames, IsNameBelow, Is
 
 use blob_digest::{Refusal, is_component};
 
+/// A share that limits nothing: a store has at most 65,536 slots.
+pub const UNLIMITED_SHARE: u32 = u32::MAX;
+
+/// The name of a tenant, and its limits.
+#[derive(Debug, PartialEq, Eq, PartialOrd, Ord, Drop)]
+pub struct TenantSettings {
+    /// One component of a repository's name.
+    pub name: String,
+    /// The quota in bytes.
+    pub quota: u64,
+    /// The share of the slots: the maximum number of distinct blobs that the tenant's repositories contain.
+    pub share: u32,
+}
+
 /// The maximum number of tenants of a table.
 pub const MAX_TENANTS: usize = 256;
 
@@ -16,44 +30,44 @@ pub const MAX_TENANTS: usize = 256;
 pub const MAX_QUOTA: u64 = 1 << 50;
 
 /// Returns the index of a name among those of the tenants, or the index at which to insert it.
-fn place_named(tenants: &[(String, u64)], name: &str) -> Result<usize, usize>
+fn place_named(tenants: &[TenantSettings], name: &str) -> Result<usize, usize>
     ensures within { IsSearchInRange result (length tenants.now) }
     ensures place { IsBinarySearchResult (tenant_name_cmp name.now) tenants.now result }
 {
-    tenants.binary_search_by(|t| t.0.as_str().cmp(name))
+    tenants.binary_search_by(|t| t.name.as_str().cmp(name))
 }
 
 /// Returns the index of the tenant with a name. Logarithmic in the number of tenants.
-pub fn tenant_at(tenants: &[(String, u64)], name: &str) -> Option<usize>
+pub fn tenant_at(tenants: &[TenantSettings], name: &str) -> Option<usize>
     requires { AreTenants (tenants_shown tenants.now) }
-    ensures { result ≡ position (λ t. same_text (string_bytes t.0) name.now) tenants.now }
+    ensures { result ≡ position (λ t. same_text (string_bytes t.name) name.now) tenants.now }
 {
     place_named(tenants, name).ok()
 }
 
 /// Returns whether each name is one component of a repository's name.
-fn are_components(tenants: &[(String, u64)]) -> bool
-    ensures { IsTrue result ↔ All (λ t. IsComponent (string_bytes t.0)) tenants.now }
+fn are_components(tenants: &[TenantSettings]) -> bool
+    ensures { IsTrue result ↔ All (λ t. IsComponent (string_bytes t.name)) tenants.now }
 {
-    tenants.iter().all(|t| is_component(t.0.as_bytes()))
+    tenants.iter().all(|t| is_component(t.name.as_bytes()))
 }
 
 /// Returns whether each name is below the next.
-fn names_rise(tenants: &[(String, u64)]) -> bool
+fn names_rise(tenants: &[TenantSettings]) -> bool
     ensures { IsAllAdjacentAnswer IsNameBelow tenants.now result }
 {
-    tenants.is_sorted_by(|a, b| a.0.cmp(&b.0).is_lt())
+    tenants.is_sorted_by(|a, b| a.name.cmp(&b.name).is_lt())
 }
 
 /// Returns whether no quota exceeds the limit.
-fn are_quotas(tenants: &[(String, u64)]) -> bool
-    ensures { IsTrue result ↔ All (λ t. t.1 ≤ max_quota) tenants.now }
+fn are_quotas(tenants: &[TenantSettings]) -> bool
+    ensures { IsTrue result ↔ All (λ t. t.quota ≤ max_quota) tenants.now }
 {
-    tenants.iter().all(|t| t.1 <= MAX_QUOTA)
+    tenants.iter().all(|t| t.quota <= MAX_QUOTA)
 }
 
 /// Returns whether the number and the quotas of the tenants are within the limits.
-fn are_within_limits(tenants: &[(String, u64)]) -> bool
+fn are_within_limits(tenants: &[TenantSettings]) -> bool
     ensures { IsTrue result ↔ IsWithinLimits (tenants_shown tenants.now) }
 {
     if tenants.is_empty() || tenants.len() > MAX_TENANTS {
@@ -68,7 +82,7 @@ fn are_within_limits(tenants: &[(String, u64)]) -> bool
 ///
 /// - `NameInvalid`: a name is not one component of a repository's name, or occurs twice.
 /// - `LimitReached`: there is no tenant, there are more than 256, or a quota exceeds 2^50 bytes.
-pub fn in_order(mut tenants: Vec<(String, u64)>) -> Result<Vec<(String, u64)>, Refusal>
+pub fn in_order(mut tenants: Vec<TenantSettings>) -> Result<Vec<TenantSettings>, Refusal>
     ensures names { IfOk result (λ ts. HasNames (tenants_shown tenants.items)) }
     ensures limits { IfOk result (λ ts. IsWithinLimits (tenants_shown tenants.items)) }
     ensures same { IfOk result (λ ts. SameTenants tenants.items ts.items) }

@@ -18,7 +18,7 @@ use Rattle.spec_lib.specs.Texts.{Text}
 use Rattle.store_model.specs.Catalog.{SessionNumber, Chunks, CheckedIn, CheckedOutWith, Session, HandRecord, Catalog, session_number_cmp, received_length, next_number_of}
 use Rattle.store_model.specs.Invariant.{WellFormed}
 use Rattle.store_model.specs.declared.mount.Mount.{Mount}
-use Rattle.store_model.specs.Commands.{tenant, session, lacks_room_for, cannot_open, has_slot, is_full_for, is_digest_accepted, start, mount, has_source, mounted_outcome, started_outcome, abandon, put_manifest, check_all_links, has_manifest, add_manifest, is_full_of_manifests, lease, take, put_back, after_cancel, finish}
+use Rattle.store_model.specs.Commands.{tenant, session, lacks_room_for, cannot_open, check_share, has_slot, is_full_for, is_digest_accepted, passes_share, start, mount, has_source, mounted_outcome, started_outcome, abandon, put_manifest, check_all_links, has_manifest, add_manifest, is_full_of_manifests, lease, take, put_back, after_cancel, finish}
 use Rattle.store_model.proofs.Invariant.Sessions.{fresh}
 use Rattle.store_model.proofs.Commands.Hands.{home_chunks, received_length-with_chunk, taken_found, took, whole_long, IsProper}
 use Rattle.store_model.proofs.Commands.Accepted.{answer_by, left_by, session_found}
@@ -240,7 +240,8 @@ pub finish_sums : (C C' : Catalog) (h : HandRecord) (digest : Text) (n : ℕ) �
 finish_sums C C' h digest n proper full stepped =
     let a = bound_ok (session_of_hand (get C.sessions h.key) h) _ (n, C') stepped in
     let b = bound_ok (refuse (not (is_digest_accepted C digest (hand_content h))) DigestInvalid) _ (n, C') a.2 in
-    let d = bound_ok (has_slot C digest) _ (n, C') b.2 in
+    let share = bound_ok (check_share C h.key.0 digest) _ (n, C') b.2 in
+    let d = bound_ok (has_slot C digest) _ (n, C') share.2 in
     let change = gone_sums C h a.0 a.1 in
     record {
       sums = subst (λ (D : Catalog). Sums C D 0 0 0 1 h.reserved (sum_by length h.chunks)) (left_by d.2) (record { hands = change.hands; reserve = change.reserve; bytes = change.bytes; setting = refl });
@@ -251,11 +252,12 @@ finish_sums C C' h digest n proper full stepped =
 pub unknown_stays : (C D : Catalog) (h : HandRecord) (digest : Text) → D ≡ after_cancel C h → finish C h digest ≡ Err UploadUnknown → D ≡ C
 unknown_stays C D h digest left refused = by (session_of_hand (get C.sessions h.key) h) refl
   where
-    not_unknown : {A : Type 0} (a b : Bool) (x : A) → ◌≡◌ {A = Result A Refusal} (◌>>=◌ {B = A} (refuse a DigestInvalid) (λ _. ◌>>=◌ {B = A} (refuse b StoreFull) (λ _. Ok x))) (Err UploadUnknown) → ⊥
-    not_unknown true b x e = absurd cc
-    not_unknown false true x e = absurd cc
-    not_unknown false false x e = absurd cc
+    not_unknown : {A : Type 0} (a b c : Bool) (x : A) → ◌≡◌ {A = Result A Refusal} (◌>>=◌ {B = A} (refuse a DigestInvalid) (λ _. ◌>>=◌ {B = A} (refuse b LimitReached) (λ _. ◌>>=◌ {B = A} (refuse c StoreFull) (λ _. Ok x)))) (Err UploadUnknown) → ⊥
+    not_unknown true b c x e = absurd cc
+    not_unknown false true c x e = absurd cc
+    not_unknown false false true x e = absurd cc
+    not_unknown false false false x e = absurd cc
 
     by : (o : Result Session Refusal) → session_of_hand (get C.sessions h.key) h ≡ o → D ≡ C
     by (Err e) here = left ∙ (λ i. record C { sessions = with_old_chunks C.sessions h (here i) })
-    by (Ok s) here = absurd (not_unknown (not (is_digest_accepted C digest (hand_content h))) (is_full_for C digest) _ (rw here at refused))
+    by (Ok s) here = absurd (not_unknown (not (is_digest_accepted C digest (hand_content h))) (passes_share C h.key.0 digest) (is_full_for C digest) _ (rw here at refused))

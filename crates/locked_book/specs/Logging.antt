@@ -21,7 +21,7 @@ use Rattle.locked_book.specs.declared.policy.LogPolicy.TheVariants as policy
 
 -- the tenant at a position, or one without a name
 abbrev pub tenant_at : List Tenant → ℕ → Tenant
-tenant_at tenants t = get_or tenants t (record { name = []; quota = 0 })
+tenant_at tenants t = get_or tenants t (record { name = []; quota = 0; share = 0 })
 
 -- the name of the tenant at a position
 abbrev pub name_at : List Tenant → ℕ → Text

@@ -1,5 +1,5 @@
 -- The arguments of the command line.
-use Rattle.std.specs.Prelude.{⊤, ◌≡◌, ◌≢◌, ◌⊎◌, ◌%◌, ◌≤◌, ℕ, List, [], ◌∷◌, Bool, Option, Some, None, MatchOption, String, bytes_eq, codes, length, map, string_bytes}
+use Rattle.std.specs.Prelude.{⊤, ◌≡◌, ◌≢◌, ◌⊎◌, ◌%◌, ◌≤◌, ℕ, List, [], ◌∷◌, Bool, true, Option, Some, None, MatchOption, String, bytes_eq, codes, length, map, string_bytes}
 use Rattle.std.specs.declared.alloc.Global.{Global}
 use Rattle.std.specs.List.{after_first, before_first}
 use Rattle.spec_lib.specs.Texts.{Text}
@@ -32,7 +32,7 @@ pub record SpellsSettings (words : List Text) (store : Config) (given : List Tex
   pub parts : words ≡ slots ∷ max_blob ∷ rest
   pub slots_are : number_of slots ≡ Some store.slots
   pub max_blob_is : number_of max_blob ≡ Some store.max_blob
-  pub tenants : SpellTenants (before_first is_end_of_tenants rest) (tenants_shown store.tenants.items)
+  pub tenants : SpellTenants true (before_first is_end_of_tenants rest) (tenants_shown store.tenants.items)
   pub paths : given ≡ after_first is_end_of_tenants rest
   pub paired : length (after_first is_end_of_tenants rest) % 2 ≡ 0
 
@@ -58,7 +58,7 @@ pub record IsWithin (store : Config) : Type 0 where
 abbrev pub AreWrongSettings : List Text → Type 0
 AreWrongSettings (slots ∷ max_blob ∷ rest) =
     ((s m : ℕ) → number_of slots ≡ Some s → number_of max_blob ≡ Some m → IsSized s m → ⊥)
-    ⊎ HasBadTenant (before_first is_end_of_tenants rest)
+    ⊎ HasBadTenant true (before_first is_end_of_tenants rest)
     ⊎ (length (after_first is_end_of_tenants rest) % 2 ≢ 0)
 AreWrongSettings words = ⊤
 

@@ -81,7 +81,7 @@ fn read_settings(alloc: Global, words: &[String]) -> Result<(Config, &[String]),
         return Err(Stop::Usage);
     }
     let names = texts(alloc, names)?;
-    let tenants = read_tenants(alloc, names.as_slice())?;
+    let tenants = read_tenants(alloc, names.as_slice(), true)?;
     let store = Config {
         slots: slots as u32,
         max_blob,

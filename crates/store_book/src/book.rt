@@ -179,6 +179,7 @@ impl Book {
     /// # Errors
     /// - The errors of `append`, for the last chunk.
     /// - `DigestInvalid` if the digest is not that of the content, or the store has other bytes with it.
+    /// - `LimitReached` if the digest is new to the tenant, whose repositories contain as many distinct blobs as its share.
     /// - `StoreFull` if the digest is new to the store and no slot is free.
     /// - `Memory` if out of memory.
     ///
@@ -272,10 +273,11 @@ impl Book {
     /// # Errors
     /// - `UploadUnknown` if no checked-out session of this book has the hand's number and lengths. Nothing changes.
     /// - `DigestInvalid` if the digest is not that of the content, or the store has other bytes with it.
+    /// - `LimitReached` if the digest is new to the tenant, whose repositories contain as many distinct blobs as its share.
     /// - `StoreFull` if the digest is new to the store and no slot is free.
     /// - `Memory` if out of memory.
     ///
-    /// After the last three, the session is checked in as it was before `take`.
+    /// After the last four, the session is checked in as it was before `take`.
     ///
     /// # Cost
     /// No byte is copied. None is hashed, except a last chunk that `fill_last` hashed by the other algorithm.

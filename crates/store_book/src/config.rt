@@ -1,6 +1,7 @@
 ghost use Rattle.std.specs.Prelude.{◌≡◌, IfOk};
 ghost use Rattle.link_table.specs.Tenancy.{tenants_shown};
 
+use link_table::TenantSettings;
 use std::alloc::{AllocError, Global};
 
 /// The parameters of a new store. They never change later.
@@ -10,24 +11,27 @@ pub struct Config {
     pub slots: u32,
     /// The largest size of a blob in bytes: at most 2^40.
     pub max_blob: u64,
-    /// Each tenant's name, one component of a repository's name, with its quota in bytes, at most 2^50: 1 to 256
-    /// tenants in any order, no name twice.
-    pub tenants: Vec<(String, u64)>,
+    /// The tenants: 1 to 256 in any order, no name twice, with quotas of at most 2^50 bytes.
+    pub tenants: Vec<TenantSettings>,
     /// The first generation of every slot.
     pub first_generation: u32,
 }
 
-/// Copies the tenants with their quotas. Fails only if out of memory.
+/// Copies the tenants. Fails only if out of memory.
 pub(crate) fn copy_tenants(
     alloc: Global,
-    tenants: &[(String, u64)],
-) -> Result<Vec<(String, u64)>, AllocError>
+    tenants: &[TenantSettings],
+) -> Result<Vec<TenantSettings>, AllocError>
     ensures { IfOk result (λ v. tenants_shown v.items ≡ tenants_shown tenants.now) }
 {
     let mut copies = Vec::new(alloc);
     for tenant in tenants {
-        let name = tenant.0.clone()?;
-        copies.push((name, tenant.1))?;
+        let name = tenant.name.clone()?;
+        copies.push(TenantSettings {
+            name,
+            quota: tenant.quota,
+            share: tenant.share,
+        })?;
     }
     Ok(copies)
 }

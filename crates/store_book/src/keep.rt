@@ -1,12 +1,12 @@
 //! Links blobs: changes the links and the slots together.
 
-ghost use Rattle.std.specs.Prelude.{◌≡◌, ◌≢◌, ◌<◌, length, true, Some, None, IfErr, OnOk, OnErr};
+ghost use Rattle.std.specs.Prelude.{◌≡◌, ◌≢◌, ◌<◌, length, true, false, Some, None, IfErr, OnOk, OnErr};
 ghost use Rattle.blob_digest.specs.declared.refusal.Refusal.TheVariants.{Memory};
-ghost use Rattle.link_table.specs.Linked.{is_repo_of_tenant};
+ghost use Rattle.link_table.specs.Linked.{is_repo_of_tenant, passes_share};
 ghost use Rattle.slot_table.specs.Slots.{phase_at, slot_of};
 ghost use Rattle.slot_table.specs.declared.phase.Phase.TheVariants as phase;
 ghost use Rattle.store_book.specs.Pinned.{KeepsView, KeepsGenerations};
-ghost use Rattle.store_book.specs.Internal.Storing.{bytes_at, holds_bytes_at, linked_slot, CanStore, CanLinkSlot, CannotStore, LinksSlot, StoresBlob};
+ghost use Rattle.store_book.specs.Internal.Storing.{bytes_at, holds_bytes_at, linked_slot, CanStore, CanLinkSlot, IsExplained, LinksSlot, StoresBlob};
 
 use crate::pinned_slots::PinnedSlots;
 use blob_digest::{Blob, Digest, Refusal, RepoName};
@@ -88,6 +88,7 @@ pub(crate) fn link_slot(
 ///
 /// # Errors
 /// - `DigestInvalid` if the slot holds other bytes.
+/// - `LimitReached` if the digest is new to the tenant, and its share does not admit it.
 /// - `Memory` if out of memory.
 fn store_existing(
     links: &mut Links,
@@ -102,13 +103,17 @@ fn store_existing(
     requires can { CanStore links.old slots.old.slots tenant repo.now blob }
     requires there { slot_of slots.old.slots blob.0 ≡ Some slot }
     ensures ok { OnOk result (StoresBlob links.old slots.old repo.now blob links.new slots.new) }
+    ensures share { OnOk result (passes_share links.old tenant blob.0 ≡ false) }
     ensures back { IfErr result (λ e. e.1 ≡ blob) }
-    ensures refused { IfErr result (λ e. e.0 ≢ Memory → CannotStore slots.old.slots blob e.0) }
+    ensures refused { IfErr result (λ e. IsExplained links.old slots.old tenant blob e.0) }
     ensures err { OnErr result ((links.new ≡ links.old) × (slots.new ≡ slots.old)) }
     ensures quiet { KeepsGenerations slots.old slots.new }
 {
     if !holds(slots.table(), slot, blob.bytes()) {
         return Err((Refusal::DigestInvalid, blob));
+    }
+    if links.passes_share(tenant, &blob.digest()) {
+        return Err((Refusal::LimitReached, blob));
     }
     let size = blob.bytes().len() as u64;
     match links.link(tenant, repo, &blob.digest(), size) {
@@ -128,6 +133,7 @@ fn store_existing(
 /// Any error returns the blob and changes nothing.
 ///
 /// # Errors
+/// - `LimitReached` if the digest is new to the tenant, and its share does not admit it.
 /// - `StoreFull` if no slot is free.
 /// - `Memory` if out of memory.
 fn store_new(
@@ -142,15 +148,19 @@ fn store_new(
     requires can { CanStore links.old slots.old.slots tenant repo.now blob }
     requires absent { slot_of slots.old.slots blob.0 ≡ None }
     ensures ok { OnOk result (StoresBlob links.old slots.old repo.now blob links.new slots.new) }
+    ensures share { OnOk result (passes_share links.old tenant blob.0 ≡ false) }
     ensures back { IfErr result (λ e. e.1 ≡ blob) }
-    ensures refused { IfErr result (λ e. e.0 ≢ Memory → CannotStore slots.old.slots blob e.0) }
+    ensures refused { IfErr result (λ e. IsExplained links.old slots.old tenant blob e.0) }
     ensures err { OnErr result ((links.new ≡ links.old) × (slots.new ≡ slots.old)) }
     ensures quiet { KeepsGenerations slots.old slots.new }
 {
+    let digest = blob.digest();
+    if links.passes_share(tenant, &digest) {
+        return Err((Refusal::LimitReached, blob));
+    }
     if slots.table().free_count() == 0 {
         return Err((Refusal::StoreFull, blob));
     }
-    let digest = blob.digest();
     let size = blob.bytes().len() as u64;
     if let Err(refusal) = links.link(tenant, repo, &digest, size) {
         return Err((refusal, blob));
@@ -173,6 +183,7 @@ fn store_new(
 ///
 /// # Errors
 /// - `DigestInvalid` if the store has other bytes with this digest.
+/// - `LimitReached` if the digest is new to the tenant, and its share does not admit it.
 /// - `StoreFull` if the digest has no slot and none is free.
 /// - `Memory` if out of memory.
 pub(crate) fn keep(
@@ -186,8 +197,9 @@ pub(crate) fn keep(
     requires table { slots.old.table ≡ pins.now }
     requires can { CanStore links.old slots.old.slots tenant repo.now blob }
     ensures ok { OnOk result (StoresBlob links.old slots.old repo.now blob links.new slots.new) }
+    ensures share { OnOk result (passes_share links.old tenant blob.0 ≡ false) }
     ensures back { IfErr result (λ e. e.1 ≡ blob) }
-    ensures refused { IfErr result (λ e. e.0 ≢ Memory → CannotStore slots.old.slots blob e.0) }
+    ensures refused { IfErr result (λ e. IsExplained links.old slots.old tenant blob e.0) }
     ensures err { OnErr result ((links.new ≡ links.old) × (slots.new ≡ slots.old)) }
     ensures quiet { KeepsGenerations slots.old slots.new }
 {

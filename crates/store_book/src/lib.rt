@@ -11,7 +11,7 @@
 //!
 //! - Each blob's bytes have its digest, and each linked digest has a blob.
 //! - Each reference of a manifest is linked in the manifest's repository.
-//! - No tenant's use passes its quota.
+//! - No tenant's use passes its quota, and no tenant has more distinct blobs than its share.
 //! - The running counts and uses of the layers are those that the definitions count.
 #![tactic(auto)]
 
@@ -30,6 +30,6 @@ mod sweep;
 pub use book::{Book, MAX_BLOB};
 pub use config::Config;
 pub use lease::{Lease, PinsName};
-pub use link_table::{MAX_QUOTA, MAX_TENANTS};
+pub use link_table::{MAX_QUOTA, MAX_TENANTS, TenantSettings, UNLIMITED_SHARE};
 pub use slot_table::MAX_SLOTS;
 pub use store_model::{Mount, Swept, Usage};

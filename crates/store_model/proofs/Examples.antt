@@ -8,5 +8,6 @@ pub mod Isolation
 pub mod Limits
 pub mod Manifests
 pub mod Runs
+pub mod Shares
 pub mod Sweeps
 pub mod Threads

@@ -4,9 +4,11 @@ pub mod Bounds
 pub mod Chunks
 pub mod Counts
 pub mod DistinctUse
+pub mod FullStores
 pub mod Links
 pub mod Manifests
 pub mod Repos
 pub mod SessionTenants
 pub mod Sessions
+pub mod Shares
 pub mod Use

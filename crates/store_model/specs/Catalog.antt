@@ -53,6 +53,10 @@ is_repo_of C t repo = is_repo_of_tenant C.tenants t repo
 abbrev pub quota_of : Catalog → ℕ → ℕ
 quota_of C t = option_map_or (λ x. x.quota) (slice_get C.tenants t) 0
 
+-- the number of distinct blobs that a tenant's repositories may contain
+abbrev pub share_of : Catalog → ℕ → ℕ
+share_of C t = option_map_or (λ x. x.share) (slice_get C.tenants t) 0
+
 -- ---- counts and uses
 
 -- whether a repository contains a digest
@@ -86,6 +90,10 @@ used_bytes C t = sum_by (blob_share C t) (fmap.entries C.residents) + session_ch
 -- the digests that a tenant's repositories contain, each once
 abbrev pub held_digests : Catalog → ℕ → set.Set text_cmp
 held_digests C t = set.from_list (map (λ l. l.1) (filter (λ l. is_repo_of C t l.0) (set.items C.links)))
+
+-- the number of distinct blobs that a tenant's repositories contain
+abbrev pub held_count : Catalog → ℕ → ℕ
+held_count C t = length (set.items (held_digests C t))
 
 -- the number of a tenant's open sessions
 abbrev pub open_sessions : Catalog → ℕ → ℕ

@@ -15,7 +15,7 @@ use Rattle.oci_manifest.specs.Manifests.{refs_of, max_manifest}
 pub use Rattle.oci_manifest.specs.Manifests.{refers}
 pub use Rattle.store_model.specs.Sessions.{session_in, not_busy, length_after, chunk_length_check_in, after_append_in, content_in, hand_in, after_take_in, put_back_outcome_in, session_of_hand, hand_content, after_cancel_in}
 use Rattle.spec_lib.specs.Texts.{Text, same_text}
-use Rattle.store_model.specs.Catalog.{Catalog, Session, HandRecord, CheckedIn, Resident, tenant_of, is_repo_of, quota_of, holds, tenant_holds, used_bytes, received_length, next_number_of, open_sessions, repos_of, manifests_of}
+use Rattle.store_model.specs.Catalog.{Catalog, Session, HandRecord, CheckedIn, Resident, tenant_of, is_repo_of, quota_of, share_of, holds, tenant_holds, held_count, used_bytes, received_length, next_number_of, open_sessions, repos_of, manifests_of}
 use Rattle.store_model.specs.declared.mount.Mount.{Mount}
 use Rattle.store_model.specs.declared.mount.Mount.TheVariants as mounting
 
@@ -105,6 +105,14 @@ is_full_for C digest = not (fmap.contains_key C.residents digest) && nat_le C.sl
 abbrev pub has_slot : Catalog → Text → Result (Unit {0}) Refusal
 has_slot C digest = refuse (is_full_for C digest) StoreFull
 
+-- whether a digest is new to a tenant whose repositories contain as many distinct blobs as its share
+abbrev pub passes_share : Catalog → ℕ → Text → Bool
+passes_share C t digest = not (tenant_holds C t digest) && nat_le (share_of C t) (held_count C t)
+
+-- the tenant's share admits the digest, or the error is `LimitReached`
+abbrev pub check_share : Catalog → ℕ → Text → Result (Unit {0}) Refusal
+check_share C t digest = refuse (passes_share C t digest) LimitReached
+
 -- whether a blob was ever leased
 abbrev pub was_leased : Option Resident → Bool
 was_leased None = false
@@ -126,6 +134,7 @@ close_by housed C repo number digest range last = do
   _ ← check_quota C t (length last)
   let whole : Text = content_in C.sessions (t, number) last
   _ ← refuse (not (is_digest_accepted C digest whole)) DigestInvalid
+  _ ← check_share C t digest
   _ ← housed C digest
   Ok (length whole, with_stored_blob C t repo number digest whole)
 
@@ -159,6 +168,7 @@ finish C hand digest = do
   s ← session_of_hand (fmap.get C.sessions hand.key) hand
   let whole : Text = hand_content hand
   _ ← refuse (not (is_digest_accepted C digest whole)) DigestInvalid
+  _ ← check_share C hand.key.0 digest
   _ ← has_slot C digest
   Ok (length whole, with_stored_blob C hand.key.0 s.repo hand.key.1 digest whole)
 

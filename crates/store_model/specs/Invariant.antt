@@ -11,7 +11,7 @@ use Rattle.std.specs.declared.cmp.Ordering.TheVariants.{Less}
 use Rattle.blob_digest.specs.declared.refusal.Refusal.TheVariants.{Referenced}
 use Rattle.store_model.specs.Commands.{refers, delete}
 use Rattle.spec_lib.specs.Texts.{Text, text_cmp}
-use Rattle.store_model.specs.Catalog.{Link, SessionNumber, Session, Resident, Catalog, tenant_of, quota_of, link_count, blob_length, used_bytes, held_digests, session_charges_of, open_sessions, manifests_of, charged_length, Tenant, is_repo_of_tenant, tenant_repo_count, link_cmp}
+use Rattle.store_model.specs.Catalog.{Link, SessionNumber, Session, Resident, Catalog, tenant_of, quota_of, share_of, link_count, blob_length, used_bytes, held_digests, held_count, session_charges_of, open_sessions, manifests_of, charged_length, Tenant, is_repo_of_tenant, tenant_repo_count, link_cmp}
 use Rattle.store_model.specs.Sessions.{at_home}
 
 -- an open session is well-formed
@@ -88,6 +88,10 @@ pub record WellFormed (C : Catalog) : Type 0 where
 abbrev pub KeepsQuotas : Catalog → Type 0
 KeepsQuotas C = (t : ℕ) → t < length C.tenants → used_bytes C t ≤ quota_of C t
 
+-- No tenant's repositories contain more distinct blobs than its share.
+abbrev pub KeepsShares : Catalog → Type 0
+KeepsShares C = (t : ℕ) → t < length C.tenants → held_count C t ≤ share_of C t
+
 -- The stored blobs and the retired slots are at most as many as the slots, of which there are 1 to 65,536.
 pub record FitSlots (slots : ℕ) (residents : fmap.FinMap text_cmp Resident) (retired : ℕ) : Type 0 where
   pub some : 0 < slots
@@ -98,10 +102,11 @@ pub record FitSlots (slots : ℕ) (residents : fmap.FinMap text_cmp Resident) (r
 abbrev pub FitsSlots : Catalog → Type 0
 FitsSlots C = FitSlots C.slots C.residents C.retired
 
--- A catalog is sound: it is well-formed, no tenant exceeds its quota, and its blobs fit the slots.
+-- A catalog is sound: it is well-formed, no tenant exceeds its quota or its share, and its blobs fit the slots.
 pub record Sound (C : Catalog) : Type 0 where
   pub lawful : WellFormed C
   pub quotas : KeepsQuotas C
+  pub shares : KeepsShares C
   pub slots : FitsSlots C
 
 -- ---- counts and uses

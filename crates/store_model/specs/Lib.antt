@@ -15,5 +15,6 @@ pub mod Replaying
 pub mod Restarts
 pub mod Runs
 pub mod Sessions
+pub mod Shares
 pub mod Sweep
 pub mod WholeCommands

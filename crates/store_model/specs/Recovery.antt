@@ -4,7 +4,7 @@ use Rattle.std.specs.List.{AllByRecursion, enumerate_from, list_any}
 use Rattle.std.specs.FinMap as fmap
 use Rattle.spec_lib.specs.Sets as set
 use Rattle.spec_lib.specs.Texts.{Text, text_cmp}
-use Rattle.store_model.specs.Catalog.{Catalog, HandRecord, Resident, Session, SessionNumber, Tenant, charged_length, opening, quota_of, used_bytes}
+use Rattle.store_model.specs.Catalog.{Catalog, HandRecord, Resident, Session, SessionNumber, Tenant, charged_length, held_count, opening, quota_of, share_of, used_bytes}
 use Rattle.store_model.specs.Durable.{Agrees, AreReturnedAsTaken, BlobLinked, BlobStored, Change, ChunkReceived, DurableState, IsTornLog, ManifestPut, NumberSet, RepoAdded, SessionOpened, TakenChunks, after_changes, changes_of, initial_durable}
 use Rattle.store_model.specs.Histories.{CommandCall, FinishCall, LeadsTo, PutBackCall, State, Step}
 use Rattle.store_model.specs.Invariant.{Sound, WellFormed}
@@ -68,9 +68,14 @@ abbrev pub FitsQuota : DurableState → ℕ → ℕ → ℕ → Type 0
 FitsQuota D slots max_blob t =
     used_bytes (restored_catalog D slots max_blob) t ≤ quota_of (restored_catalog D slots max_blob) t
 
+-- the tenant's restored blobs are within its share
+abbrev pub FitsShare : DurableState → ℕ → ℕ → ℕ → Type 0
+FitsShare D slots max_blob t =
+    held_count (restored_catalog D slots max_blob) t ≤ share_of (restored_catalog D slots max_blob) t
+
 -- A durable state fits these tenants, slots and limit on blobs.
 pub record CanRestore (D : DurableState) (tenants : List Tenant) (slots max_blob : ℕ) : Type 0 where
-  -- the tenants have the same names; only their quotas may differ
+  -- the tenants have the same names; only their quotas and shares may differ
   pub names : map (λ t. t.name) tenants ≡ map (λ t. t.name) D.tenants
   pub quotas : AllByRecursion (λ t. t.quota ≤ 2 ^ 50) tenants
   pub some : (0 < slots) × (slots ≤ 65536)
@@ -82,6 +87,8 @@ pub record CanRestore (D : DurableState) (tenants : List Tenant) (slots max_blob
       fmap.get D.sessions key ≡ Some s → charged_length s ≤ max_blob
   -- no tenant exceeds its quota
   pub uses : (t : ℕ) → t < length tenants → FitsQuota (with_tenants D tenants) slots max_blob t
+  -- no tenant exceeds its share
+  pub shares : (t : ℕ) → t < length tenants → FitsShare (with_tenants D tenants) slots max_blob t
 
 -- the restored catalog is sound and agrees with the durable state
 abbrev pub IsSoundRestart : DurableState → ℕ → ℕ → Type 0

@@ -18,6 +18,7 @@ ghost use Rattle.store_model.specs.Recovery.{
 ghost use Rattle.store_model.specs.Replaying.{ChangesHaveReplays, LogsHaveReplays};
 ghost use Rattle.store_model.specs.Restarts.{RestartedHistoriesAreRuns, TenantsAreIsolatedFrom};
 ghost use Rattle.store_model.specs.Runs.{RunsExist, RunsStaySound};
+ghost use Rattle.store_model.specs.Shares.{FullStoresHaveOrphans, SweptStoresAreFullByLeases};
 ghost use Rattle.store_model.specs.WholeCommands.{HistoriesAreRuns};
 
 /// States what counts and uses are in every well-formed catalog.
@@ -56,6 +57,20 @@ pub fn soundness()
 pub fn isolation()
     ensures alone { TenantsAreIsolated }
     ensures same_text { TextsAreTheSame }
+{}
+
+/// States that linked blobs alone never fill the store for a tenant, if the shares of all tenants together are at most the
+/// slots.
+///
+/// - `full`: if a close or finish fails with `StoreFull` in a sound catalog, some stored blob is linked by no repository, or
+///   some slot is retired.
+/// - `swept`: directly after a sweep, leases hold some slot, or some slot is retired.
+///
+/// So other tenants can fill the store only in these two ways: they lease blobs of which they then remove each link, or they
+/// store and remove blobs until a slot's generations are used up.
+pub fn shares()
+    ensures full { FullStoresHaveOrphans }
+    ensures swept { SweptStoresAreFullByLeases }
 {}
 
 /// States that tenants are isolated from each other in histories, in which sessions are checked out between two steps.

@@ -1,24 +1,24 @@
 -- Lists of tenants that grow.
-use Rattle.std.proofs.Common.{add-one, ◌≡◌, ◌⊎◌, ◌≤◌, ◌<◌, ◌+◌, ◌∙◌, ◌++◌, ◌∷◌, ◌||◌, [], ℕ, List, Bool, true, false, ap, arith, cond, count_by, drop, drop-cons, get_or, inl, inr, length, map, refl, string_bytes, String, sym, take, zero-add, add-zero}
+use Rattle.std.proofs.Common.{add-one, ◌≡◌, ◌⊎◌, ◌≤◌, ◌<◌, ◌+◌, ◌∙◌, ◌++◌, ◌∷◌, ◌||◌, [], ℕ, List, Bool, true, false, ap, arith, cond, count_by, drop, drop-cons, get_or, inl, inr, length, map, refl, string_bytes, sym, take, zero-add, add-zero}
 use Rattle.std.proofs.lemmas.List.{map-append, take_more, take-append-drop}
 use Rattle.std.proofs.lemmas.List.Elements.{All-append, All-cons}
 use Rattle.std.proofs.lemmas.List.Sums.{sum_by-append, sum_by-cons}
 use Rattle.std.proofs.lemmas.Bool.{or_parts}
 use Rattle.std.specs.Borrow.{Bor}
-use Rattle.std.specs.declared.alloc.Global.{Global}
 use Rattle.std.specs.List.{All, list_any}
 use Rattle.spec_lib.specs.Texts.{Text, same_text}
 use Rattle.blob_digest.specs.Tenants.{Tenant}
 use Rattle.spec_lib.proofs.Texts.{text_is_same}
+use Rattle.link_table.specs.declared.tenants.TenantSettings.{TenantSettings}
 use Rattle.link_table.specs.Tenancy.{tenants_shown}
 use Rattle.tenant_args.specs.Tenants.{HasBadTenant, IsRefusedAfter, IsTenantArgument, SpellTenants}
 use Rattle.tenant_args.specs.declared.fault.TenantFault.{TenantFault}
 use Rattle.tenant_args.specs.declared.fault.TenantFault.TheVariants.{BadTenant, Memory}
 
 -- the tenants have a name if and only if their rows have it
-pub any_named : (tenants : List (String Global × ℕ)) (name : Text) → list_any (λ t. same_text t.name name) (tenants_shown tenants) ≡ list_any (λ t. same_text (string_bytes t.0) name) tenants
+pub any_named : (tenants : List TenantSettings) (name : Text) → list_any (λ t. same_text t.name name) (tenants_shown tenants) ≡ list_any (λ t. same_text (string_bytes t.name) name) tenants
 any_named [] name = refl
-any_named (t ∷ ts) name = ap (λ b. same_text (string_bytes t.0) name || b) (any_named ts name)
+any_named (t ∷ ts) name = ap (λ b. same_text (string_bytes t.name) name || b) (any_named ts name)
 
 -- a test that no element passes counts none
 none_counted : (name : Text) (ts : List Tenant) → list_any (λ t. same_text t.name name) ts ≡ false → count_by (λ t. same_text t.name name) ts ≡ 0
@@ -41,12 +41,12 @@ once_more ts t once none name =
     rw split (case (same_text t.name name) refl)
 
 -- one more argument spells one more tenant
-pub one_spelled : (words : List Text) (tenants : List Tenant) (word : Text) (tenant : Tenant) → SpellTenants words tenants → IsTenantArgument word tenant
-    → SpellTenants (words ++ word ∷ []) (tenants ++ tenant ∷ [])
-one_spelled [] [] word tenant before here = (here, tt)
-one_spelled [] (t ∷ ts) word tenant before here = absurd before
-one_spelled (w ∷ ws) [] word tenant before here = absurd before
-one_spelled (w ∷ ws) (t ∷ ts) word tenant before here = (before.0, one_spelled ws ts word tenant before.1 here)
+pub one_spelled : (shares : Bool) (words : List Text) (tenants : List Tenant) (word : Text) (tenant : Tenant) → SpellTenants shares words tenants → IsTenantArgument shares word tenant
+    → SpellTenants shares (words ++ word ∷ []) (tenants ++ tenant ∷ [])
+one_spelled shares [] [] word tenant before here = (here, tt)
+one_spelled shares [] (t ∷ ts) word tenant before here = absurd before
+one_spelled shares (w ∷ ws) [] word tenant before here = absurd before
+one_spelled shares (w ∷ ws) (t ∷ ts) word tenant before here = (before.0, one_spelled shares ws ts word tenant before.1 here)
 
 -- a property of all elements is kept by one more element
 pub all_more : {A : Type 0} (P : A → Type 0) (xs : List A) (x : A) → All P xs → P x → All P (xs ++ x ∷ [])
@@ -66,9 +66,9 @@ words_round words i d within =
     ∙ map-append (λ (w : Bor Text). w.now) (take i words) (get_or words i d ∷ drop (i + 1) words)
 
 -- arguments of which one is bad after those before it have a bad tenant
-pub bad_word : (words : List Text) (before after : List Text) (tenants : List Tenant) (word : Text) (fault : TenantFault) → words ≡ before ++ word ∷ after → SpellTenants before tenants
-    → (fault ≡ Memory) ⊎ ((fault ≡ BadTenant) × IsRefusedAfter tenants word) → (fault ≡ Memory) ⊎ ((fault ≡ BadTenant) × HasBadTenant words)
-bad_word words before after tenants word fault whole spelled why =
+pub bad_word : (shares : Bool) (words : List Text) (before after : List Text) (tenants : List Tenant) (word : Text) (fault : TenantFault) → words ≡ before ++ word ∷ after → SpellTenants shares before tenants
+    → (fault ≡ Memory) ⊎ ((fault ≡ BadTenant) × IsRefusedAfter shares tenants word) → (fault ≡ Memory) ⊎ ((fault ≡ BadTenant) × HasBadTenant shares words)
+bad_word shares words before after tenants word fault whole spelled why =
     elim why [
       | inl e ↦ inl e
       | inr b ↦ inr (b.0, inr (before, tenants, word, after, whole, spelled, b.1))

@@ -7,7 +7,7 @@ use std::alloc::{AllocError, AllocFailed};
 /// The reason why parsing the arguments fails.
 #[derive(Clone, Copy, Debug, PartialEq, Eq, Drop)]
 pub enum TenantFault {
-    /// An argument is not a name, `=` and a quota, repeats a name, or is the 257th; or there is no argument.
+    /// An argument spells no tenant, repeats a name, or is the 257th; or there is no argument.
     BadTenant,
     /// Memory allocation failed.
     Memory,

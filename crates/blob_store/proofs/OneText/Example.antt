@@ -31,7 +31,7 @@ use Rattle.blob_store.specs.Workers.{IsInterleaved, IsPlayed, zero_work}
 use Rattle.blob_store.proofs.OneText.Texts.{one_text}
 
 abbrev tenants : List Tenant
-tenants = record { name = codes "acme"; quota = 3 } ∷ record { name = codes "other"; quota = 9 } ∷ []
+tenants = record { name = codes "acme"; quota = 3; share = 4294967295 } ∷ record { name = codes "other"; quota = 9; share = 4294967295 } ∷ []
 
 abbrev row : ℕ → Text → RowView
 row lane repo = record { lane = lane; verb = verb.Start; repo = repo; key = []; digest = []; range = []; body = [] }

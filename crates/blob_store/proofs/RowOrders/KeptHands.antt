@@ -169,7 +169,7 @@ kept_whole hands s X kept (CommandCall command (Ok a)) e comes named leaves = re
       record { session = was.session; found = stays_in_hand s.catalog kept.sound.lawful q was.session was.found was.in_hand X command a leaves; in_hand = was.in_hand; pieces = was.pieces });
 }
 kept_whole hands s X kept (CommandCall command (Err e)) f comes named leaves = same_catalog hands s.catalog X kept (elim leaves [ inl x ↦ x.1 | inr x ↦ x.1 ])
-kept_whole hands s X kept (SweepCall swept) e comes named leaves = same_sessions hands s.catalog X kept (Sound-sweep s.catalog X swept leaves kept.sound.lawful kept.sound.quotas kept.sound.slots) (ap (λ (Y : Catalog). Y.sessions) leaves.rest)
+kept_whole hands s X kept (SweepCall swept) e comes named leaves = same_sessions hands s.catalog X kept (Sound-sweep s.catalog X swept leaves kept.sound.lawful kept.sound.quotas kept.sound.shares kept.sound.slots) (ap (λ (Y : Catalog). Y.sessions) leaves.rest)
 kept_whole hands s X kept (TakeCall r n g len (Ok h)) e comes named leaves = absurd (let none = (comes hands).0 in cc)
 kept_whole hands s X kept (TakeCall r n g len (Err f)) e comes named leaves = same_catalog hands s.catalog X kept leaves.1
 kept_whole hands s X kept (PutBackCall h reply) e comes named leaves = absurd (let c = comes empty in let none : None ≡ Some c.0 = sym (get-empty session_number_cmp h.key) ∙ c.1 in cc)

@@ -14,9 +14,10 @@ use Rattle.blob_digest.proofs.KeyOrders.{link_cmp_total, exact_link}
 use Rattle.slot_table.specs.declared.phase.Phase.TheVariants as phase
 use Rattle.slot_table.specs.Slots.{Slot, StoredBlob, slot_of, stored_blob_at, links_at, phase_at, with_slot, fill, on_stored_blob, link_up, mark}
 use Rattle.link_table.specs.Linked.{Linked, link, unlink}
-use Rattle.store_book.specs.Internal.Storing.{with_revived_slot, bytes_at, CanStore, IsStored, CannotStore, is_existing, is_added, differs}
+use Rattle.store_book.specs.Internal.Storing.{with_revived_slot, bytes_at, CanStore, IsStored, CannotStore, HasNoOtherBytes, is_existing, is_added, differs}
 use Rattle.store_book.proofs.Slots.Writes.{phase_live, stored_blob_at-on}
 use Rattle.slot_table.proofs.Finding.{held_of}
+use Rattle.spec_lib.proofs.Options.{some_same}
 
 -- the result of a link, and the links after it
 module _ (l l' : Linked) (repo digest : Text) (n : ℕ) (b : Bool) (made : link l repo digest n ≡ Ok (b, l')) where
@@ -49,8 +50,8 @@ not_same x y no_match same = let e : bytes_eq x y ≡ true = (bytes_decides x y)
 
 module _ (slots : List Slot) (k : ℕ) (blob : Text × Text) (found : slot_of slots blob.0 ≡ Some k) where
   -- a slot with other bytes
-  pub differs_by_test : test_at slots k blob.1 ≡ false → CannotStore slots blob DigestInvalid
-  differs_by_test test =
+  pub differs_by_test : (l : Linked) (t : ℕ) → test_at slots k blob.1 ≡ false → CannotStore l slots t blob DigestInvalid
+  differs_by_test l t test =
       let h = held_of slots blob.0 k found in
       differs k h.0 found h.1 (not_same h.0.bytes blob.1 (ap (λ o. option_map_or (λ (x : StoredBlob). bytes_eq x.bytes blob.1) o false) (sym h.1) ∙ test)) refl
 
@@ -58,6 +59,12 @@ module _ (slots : List Slot) (k : ℕ) (blob : Text × Text) (found : slot_of sl
   same_by_test test =
       let h = held_of slots blob.0 k found in
       (h.0, h.1, h.2, (bytes_decides h.0.bytes blob.1).0 (ap (λ o. option_map_or (λ (x : StoredBlob). bytes_eq x.bytes blob.1) o false) (sym h.1) ∙ test))
+
+  pub no_other_bytes : test_at slots k blob.1 ≡ true → HasNoOtherBytes slots blob
+  no_other_bytes test j x at stored =
+      let there = same_by_test test in
+      let same : j ≡ k = some_same (sym at ∙ found) in
+      ap (λ (y : StoredBlob). y.bytes) (some_same (sym stored ∙ ap (stored_blob_at slots) same ∙ there.1)) ∙ there.3
 
 -- a blob whose slot holds the same bytes
 module _ (slots : List Slot) (k : ℕ) (blob : Text × Text) (found : slot_of slots blob.0 ≡ Some k) (test : test_at slots k blob.1 ≡ true) where

@@ -1,18 +1,19 @@
 -- The slot of a blob that is linked in a repository of the book.
-use Rattle.std.proofs.Common.{◌≡◌, ℕ, Bool, true, false, Option, Some, None, is_some, refl, sym, ap, ◌∙◌}
-use Rattle.std.specs.Prelude.{◌&&◌, if◌then◌else◌}
+use Rattle.std.proofs.Common.{◌≡◌, ℕ, Bool, true, false, not, Option, Some, None, is_some, refl, sym, ap, ◌∙◌}
+use Rattle.std.specs.Prelude.{◌&&◌, nat_le, if◌then◌else◌}
 use Rattle.std.specs.FinMap.{get, contains_key}
 use Rattle.slot_table.specs.Slots.{StoredBlob, slot_of, stored_blob_at}
 use Rattle.std.proofs.lemmas.Bool.{true≢false, false_from_ne_true, and_from}
-use Rattle.link_table.specs.Linked.{is_repo_of_tenant, blobs_of}
+use Rattle.link_table.specs.Linked.{is_repo_of_tenant, blobs_of, passes_share as links_pass_share}
 use Rattle.link_table.proofs.Weights.{IsBlobs, IsBlobs-blobs}
 use Rattle.spec_lib.specs.Texts.{Text}
-use Rattle.store_model.specs.Catalog.{Resident, Catalog, is_repo_of, holds, tenant_holds}
-use Rattle.store_model.specs.Commands.{has_source}
+use Rattle.store_model.specs.Catalog.{Resident, Catalog, is_repo_of, holds, share_of, tenant_holds}
+use Rattle.store_model.specs.Commands.{has_source, passes_share}
 use Rattle.store_book.specs.Internal.Storing.{linked_slot, source_slot}
 use Rattle.store_book.specs.Layers.{Layers, lent_marks, resident_of, book_catalog, IsBook}
 use Rattle.store_book.proofs.Layers.Sums.{holds_is}
 use Rattle.store_model.proofs.Invariant.Links.{is_held}
+use Rattle.store_model.proofs.Invariant.Shares.{held_count-by_keys}
 use Rattle.store_model.proofs.Commands.Mount.{source_of}
 use Rattle.spec_lib.proofs.Options.{some_value, nothing, some_same}
 use Rattle.store_book.proofs.Slots.Changed.{resident_at}
@@ -79,6 +80,21 @@ module _ (L : Layers) (book : IsBook L) where
       let q = source_of C t d None h in
       let absent = (blobs t).none d q.0 (not_there (get (blobs_of L.links t) d) none) q.1 in
       true≢false (sym q.2 ∙ holds_linked q.0 d ∙ ap is_some absent))
+
+  -- a tenant holds the digests of its blobs in the links
+  pub tenant_blobs : (t : ℕ) (d : Text) → contains_key (blobs_of L.links t) d ≡ tenant_holds C t d
+  tenant_blobs t d = by (contains_key (blobs_of L.links t) d) refl
+    where
+      by : (b : Bool) → contains_key (blobs_of L.links t) d ≡ b → b ≡ tenant_holds C t d
+      by true held =
+          let q = holder t d held in
+          let has : holds C q.0 d ≡ true = holds_linked q.0 d ∙ q.2 in
+          sym (is_held C t q.0 d (book.sound.lawful.links (q.0, d) has).repo q.1 has)
+      by false none = sym (no_holder t d none)
+
+  -- the links and the catalog agree on whether a tenant's share admits a digest
+  pub share_is : (t : ℕ) (d : Text) → links_pass_share L.links t d ≡ passes_share C t d
+  share_is t d = λ i. not (tenant_blobs t d i) && nat_le (share_of C t) (held_count-by_keys C book.sound.lawful t (blobs_of L.links t) (λ x. tenant_blobs t x) i)
 
   -- the source contains the digest, and this is its slot
   pub source_some : (t : ℕ) (from : Option Text) (d : Text) (k : ℕ) → source_slot L.links L.slots t from d ≡ Some k → (has_source C t d from ≡ true) × (slot_of L.slots d ≡ Some k)

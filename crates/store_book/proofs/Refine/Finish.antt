@@ -5,20 +5,21 @@ use Rattle.std.specs.FinMap.{get, remove, len}
 use Rattle.std.proofs.Math.ListN.{length-set}
 use Rattle.std.proofs.lemmas.Bool.{le-leb, false_from_ne_true, not-false}
 use Rattle.blob_digest.specs.declared.refusal.Refusal.{Refusal}
-use Rattle.blob_digest.specs.declared.refusal.Refusal.TheVariants.{DigestInvalid, StoreFull, UploadUnknown}
+use Rattle.blob_digest.specs.declared.refusal.Refusal.TheVariants.{DigestInvalid, LimitReached, StoreFull, UploadUnknown}
 use Rattle.blob_digest.specs.Digests.{is_digest_of}
 use Rattle.spec_lib.specs.Sets as set
-use Rattle.spec_lib.proofs.Texts.{text_is_same}
-use Rattle.slot_table.specs.Slots.{Slot, StoredBlob}
-use Rattle.link_table.specs.Linked.{Linked, known_tenant, discharge}
+use Rattle.spec_lib.proofs.Texts.{same_itself, text_is_same}
+use Rattle.slot_table.specs.Slots.{Slot, StoredBlob, slot_of}
+use Rattle.link_table.specs.Linked.{Linked, known_tenant, discharge, passes_share as links_pass_share}
 use Rattle.store_model.specs.Sessions.{CheckedIn, Session, HandRecord, are_of_hand, with_old_chunks, charged_length, after_cancel_in, session_of_hand, hand_content, with_chunks, HasNoOpenReserve}
 use Rattle.upload_table.specs.Uploaded.{Uploaded, finish_upload, with_sessions}
-use Rattle.spec_lib.specs.Texts.{Text}
+use Rattle.spec_lib.specs.Texts.{Text, same_text}
+use Rattle.store_book.proofs.Layers.LinkedSlots.{share_is}
 use Rattle.store_model.specs.Catalog.{Catalog, session_charges_of}
 use Rattle.spec_lib.specs.Outcomes.{◌>>=◌, refuse}
-use Rattle.store_model.specs.Commands.{finish, after_cancel, has_same_bytes, is_full_for}
+use Rattle.store_model.specs.Commands.{finish, after_cancel, has_same_bytes, is_full_for, passes_share}
 use Rattle.store_book.specs.Layers.{Layers, lent_marks, book_catalog, IsBook}
-use Rattle.store_book.specs.Internal.Storing.{CanStore, IsStored, CannotStore, differs, full}
+use Rattle.store_book.specs.Internal.Storing.{CanStore, IsStored, CannotStore, HasNoOtherBytes, differs, full, past_share}
 use Rattle.store_book.proofs.Layers.Keep.{Keeps, IsStored-Keeps}
 use Rattle.store_book.proofs.Slots.LeaseMarks.{length-marks}
 use Rattle.store_book.proofs.Layers.CanKeep.{CanStore-book}
@@ -73,11 +74,26 @@ module _ (L : Layers) (h : HandRecord) (digest : Text) where
       finish_other_bytes : has_same_bytes (get C.residents digest) whole ≡ false → finish C h digest ≡ Err DigestInvalid
       finish_other_bytes other = rw (here, agrees, other) refl
 
-      finish_full : has_same_bytes (get C.residents digest) whole ≡ true → is_full_for C digest ≡ true → finish C h digest ≡ Err StoreFull
-      finish_full same is_full = rw (here, agrees, same, is_full) refl
+      finish_past_share : has_same_bytes (get C.residents digest) whole ≡ true → passes_share C h.key.0 digest ≡ true → finish C h digest ≡ Err LimitReached
+      finish_past_share same past = rw (here, agrees, same, past) refl
+
+      finish_full : has_same_bytes (get C.residents digest) whole ≡ true → passes_share C h.key.0 digest ≡ false → is_full_for C digest ≡ true → finish C h digest ≡ Err StoreFull
+      finish_full same admits is_full = rw (here, agrees, same, admits, is_full) refl
+
+      -- no stored blob of the digest has other bytes, if its slot has none
+      same_bytes : HasNoOtherBytes L.slots (digest, whole) → has_same_bytes (get C.residents digest) whole ≡ true
+      same_bytes none_other = by (slot_of L.slots digest) refl
+        where
+          by : (o : Option ℕ) → slot_of L.slots digest ≡ o → has_same_bytes (get C.residents digest) whole ≡ true
+          by None none = ap (λ o. has_same_bytes o whole) (not_resident L.slots (lent_marks L.slots) digest none)
+          by (Some k) place =
+              let held = held_of L.slots digest k place in
+              let b = slot_is_resident L.slots (lent_marks L.slots) (length-marks L.slots) book.tied.distinct k held.0 held.1 in
+              let kept : get C.residents digest ≡ Some b.0 = ap (get C.residents) (sym held.2) ∙ b.1 in
+              ap (λ o. has_same_bytes o whole) kept ∙ ap (λ (x : Text). same_text x whole) (b.2 ∙ none_other k held.0 place held.1) ∙ same_itself whole
 
       -- a blob that cannot be linked
-      pub finish_unkept : (e : Refusal) → CannotStore L.slots (digest, whole) e → finish C h digest ≡ Err e
+      pub finish_unkept : (e : Refusal) → CannotStore L.links L.slots h.key.0 (digest, whole) e → finish C h digest ≡ Err e
       finish_unkept e (differs k x place at other is) =
           let held = held_of L.slots digest k place in
           let same : held.0 ≡ x = some_same (sym held.1 ∙ at) in
@@ -87,14 +103,15 @@ module _ (L : Layers) (h : HandRecord) (digest : Text) where
           let no_match : has_same_bytes (get C.residents digest) whole ≡ false =
           ap (λ o. has_same_bytes o whole) kept ∙ false_from_ne_true (has_same_bytes (Some b.0) whole) (λ match. other (sym b.2 ∙ text_is_same b.0.bytes whole match)) in
           finish_other_bytes no_match ∙ ap Err (sym is)
-      finish_unkept e (full none no_slot is) =
+      finish_unkept e (past_share none_other past is) = finish_past_share (same_bytes none_other) (sym (share_is L book h.key.0 digest) ∙ past) ∙ ap Err (sym is)
+      finish_unkept e (full admits none no_slot is) =
           let absent = not_resident L.slots (lent_marks L.slots) digest none in
           let sum = rooms L (lent_marks L.slots) (length-marks L.slots) book.tied.distinct in
           let crowded : nat_le C.slots (len C.residents + C.retired) ≡ true = le-leb C.slots (len C.residents + C.retired) (omega arith) in
           let no_room : is_full_for C digest ≡ true = (λ i. not (is_some (absent i)) && crowded i) in
-          finish_full (ap (λ o. has_same_bytes o whole) absent) no_room ∙ ap Err (sym is)
+          finish_full (ap (λ o. has_same_bytes o whole) absent) (sym (share_is L book h.key.0 digest) ∙ admits) no_room ∙ ap Err (sym is)
 
-      module _ (l' : Linked) (slots' : List Slot) (kept : IsStored L.links L.slots s.repo (digest, whole) l' slots') where
+      module _ (l' : Linked) (slots' : List Slot) (kept : IsStored L.links L.slots s.repo (digest, whole) l' slots') (admits : links_pass_share L.links h.key.0 digest ≡ false) where
         keeps : Keeps L s.repo (digest, whole) l' slots'
         keeps = IsStored-Keeps L s.repo (digest, whole) book.tied book.sound.lawful repo_there l' slots' kept
 
@@ -107,8 +124,11 @@ module _ (L : Layers) (h : HandRecord) (digest : Text) where
         abbrev C1 : Catalog
         C1 = book_catalog (record L { links = l1; uploads = u1; slots = slots' })
 
+        admits_here : passes_share C h.key.0 digest ≡ false
+        admits_here = sym (share_is L book h.key.0 digest) ∙ admits
+
         finished_as : finish C h digest ≡ Ok (length whole, C1)
-        finished_as = rw (here, agrees, keeps.same, keeps.housed) (λ i. Ok (length whole, record (sym keeps.catalog i) { sessions = remove L.uploads.sessions h.key }))
+        finished_as = rw (here, agrees, keeps.same, admits_here, keeps.housed) (λ i. Ok (length whole, record (sym keeps.catalog i) { sessions = remove L.uploads.sessions h.key }))
 
         same_charges : l'.charges ≡ L.links.charges
         same_charges = ap (λ (x : Linked). x.charges) keeps.links

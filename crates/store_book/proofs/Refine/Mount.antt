@@ -54,6 +54,7 @@ module _ (L : Layers) (t : ℕ) (repo : Text) (book : IsBook L) (known : known_t
       sound = record {
         lawful = WellFormed-appear C t repo book.sound.lawful name short room;
         quotas = λ v lt. (let same = used_bytes-appear C t repo book.sound.lawful name v in let k = book.sound.quotas v lt in omega arith);
+        shares = book.sound.shares;
         slots = record { some = book.sound.slots.some; few = book.sound.slots.few; fit = book.sound.slots.fit };
       };
       tied = record {

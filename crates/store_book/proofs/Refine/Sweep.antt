@@ -284,7 +284,7 @@ module _ (L : Layers) (p q : Pinned) (swept : Swept) (book : IsBook (record L { 
 
   pub IsBook-sweep : IsBook (record L { slots = q.slots })
   IsBook-sweep = record {
-    sound = Sound-sweep C C' swept IsSweep-slots book.sound.lawful book.sound.quotas book.sound.slots;
+    sound = Sound-sweep C C' swept IsSweep-slots book.sound.lawful book.sound.quotas book.sound.shares book.sound.slots;
     tied = record {
       marks = length-marks q.slots;
       distinct = distinct';

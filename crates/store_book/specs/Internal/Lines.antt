@@ -44,7 +44,7 @@ book_rows l u slots = book_line ++ flat_map (tenant_rows l u slots) (enumerate_f
 
 -- the tenant with this number
 abbrev pub tenant_in : List Tenant → ℕ → Tenant
-tenant_in tenants t = option_map_or (λ x. x) (slice_get tenants t) (record { name = []; quota = 0 })
+tenant_in tenants t = option_map_or (λ x. x) (slice_get tenants t) (record { name = []; quota = 0; share = 0 })
 
 -- each tenant has a next session number, and at most 1,024 repositories
 pub record CanPrint (l : Linked) (u : Uploaded) : Type 0 where

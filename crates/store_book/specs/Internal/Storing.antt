@@ -8,11 +8,11 @@ use Rattle.blob_digest.specs.Outcomes.{Does, OutcomeIn}
 use Rattle.spec_lib.specs.Outcomes.{◌>>=◌}
 use Rattle.spec_lib.specs.Sets as set
 use Rattle.blob_digest.specs.declared.refusal.Refusal.{Refusal}
-use Rattle.blob_digest.specs.declared.refusal.Refusal.TheVariants.{DigestInvalid, StoreFull, ManifestBlobUnknown}
+use Rattle.blob_digest.specs.declared.refusal.Refusal.TheVariants.{DigestInvalid, LimitReached, Memory, StoreFull, ManifestBlobUnknown}
 use Rattle.slot_table.specs.Slots.{Slot, StoredBlob, slot_of, stored_blob_at, phase_at, free_slots, with_slot, fill, on_stored_blob, link_up, mark}
 use Rattle.slot_table.specs.declared.phase.Phase.TheVariants as phase
 use Rattle.store_book.specs.Pinned.{Pinned}
-use Rattle.link_table.specs.Linked.{Linked, HasNoLinks, is_repo_of_tenant, blobs_of, used_in, first_unlinked, appear, put_manifest}
+use Rattle.link_table.specs.Linked.{Linked, HasNoLinks, is_repo_of_tenant, blobs_of, used_in, passes_share, first_unlinked, appear, put_manifest}
 
 -- the bytes that slot k holds
 abbrev pub bytes_at : List Slot → ℕ → Text
@@ -53,10 +53,19 @@ pub data IsStored (l : Linked) (slots : List Slot) (repo : Text) (blob : Text ×
   is_existing : (k : ℕ) (h : StoredBlob) → slot_of slots blob.0 ≡ Some k → stored_blob_at slots k ≡ Some h → h.bytes ≡ blob.1 → l' ≡ with_sized_link l repo blob → slots' ≡ with_link_count l (with_revived_slot slots k) repo blob.0 k → IsStored l slots repo blob l' slots'
   is_added : (k : ℕ) → slot_of slots blob.0 ≡ None → phase_at slots k ≡ phase.Free → l' ≡ with_sized_link l repo blob → slots' ≡ with_slot (with_slot slots k (fill blob)) k (on_stored_blob link_up) → IsStored l slots repo blob l' slots'
 
--- the blob cannot be linked: its digest has a slot with other bytes, or it has none and no slot is free
-pub data CannotStore (slots : List Slot) (blob : Text × Text) (e : Refusal) : Type 0 where
-  differs : (k : ℕ) (h : StoredBlob) → slot_of slots blob.0 ≡ Some k → stored_blob_at slots k ≡ Some h → h.bytes ≢ blob.1 → e ≡ DigestInvalid → CannotStore slots blob e
-  full : slot_of slots blob.0 ≡ None → free_slots slots ≡ 0 → e ≡ StoreFull → CannotStore slots blob e
+-- if the blob's digest has a slot, it holds the blob's bytes
+abbrev pub HasNoOtherBytes : List Slot → Text × Text → Type 0
+HasNoOtherBytes slots blob = (k : ℕ) (h : StoredBlob) → slot_of slots blob.0 ≡ Some k → stored_blob_at slots k ≡ Some h → h.bytes ≡ blob.1
+
+-- the blob cannot be linked: its digest has a slot with other bytes, or the tenant's share does not admit it, or it has no slot and none is free
+pub data CannotStore (l : Linked) (slots : List Slot) (t : ℕ) (blob : Text × Text) (e : Refusal) : Type 0 where
+  differs : (k : ℕ) (h : StoredBlob) → slot_of slots blob.0 ≡ Some k → stored_blob_at slots k ≡ Some h → h.bytes ≢ blob.1 → e ≡ DigestInvalid → CannotStore l slots t blob e
+  past_share : HasNoOtherBytes slots blob → passes_share l t blob.0 ≡ true → e ≡ LimitReached → CannotStore l slots t blob e
+  full : passes_share l t blob.0 ≡ false → slot_of slots blob.0 ≡ None → free_slots slots ≡ 0 → e ≡ StoreFull → CannotStore l slots t blob e
+
+-- the error is `Memory`, or the blob cannot be linked for it
+abbrev pub IsExplained : Linked → Pinned → ℕ → Text × Text → Refusal → Type 0
+IsExplained l p t blob e = e ≢ Memory → CannotStore l p.slots t blob e
 
 -- the blob is linked in the repository, and a slot holds it
 abbrev pub StoresBlob : Linked → Pinned → Text → Text × Text → Linked → Pinned → Type 0

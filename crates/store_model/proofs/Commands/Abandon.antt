@@ -6,7 +6,7 @@ use Rattle.blob_digest.specs.declared.refusal.Refusal.TheVariants.{NameUnknown}
 use Rattle.spec_lib.specs.Texts.{Text}
 use Rattle.store_model.specs.Catalog.{Session, Catalog, charged_length, tenant_of, received_length}
 use Rattle.store_model.specs.Commands.{tenant, session, not_busy, abandon, without_session}
-use Rattle.store_model.specs.Invariant.{WellFormed, KeepsQuotas, FitsSlots, Sound}
+use Rattle.store_model.specs.Invariant.{WellFormed, KeepsQuotas, KeepsShares, FitsSlots, Sound}
 use Rattle.store_model.proofs.Invariant.Sessions.{WellFormed-gone, used_bytes-gone, used_other-gone}
 use Rattle.store_model.proofs.Commands.Hands.{home_charged, home_chunks}
 use Rattle.spec_lib.proofs.Outcomes.{bound_ok, some_of_ok}
@@ -47,4 +47,4 @@ module _ (C C' : Catalog) (repo : Text) (number n : ℕ) (stepped : abandon C re
   FitsSlots-after_abandon fits = subst (λ (D : Catalog). FitsSlots D) abandoned.left fits
 
   pub Sound-after_abandon : Sound C → Sound C'
-  Sound-after_abandon sound = record { lawful = WellFormed-after_abandon sound.lawful; quotas = KeepsQuotas-after_abandon sound.quotas; slots = FitsSlots-after_abandon sound.slots }
+  Sound-after_abandon sound = record { lawful = WellFormed-after_abandon sound.lawful; quotas = KeepsQuotas-after_abandon sound.quotas; shares = subst (λ (D : Catalog). KeepsShares D) abandoned.left sound.shares; slots = FitsSlots-after_abandon sound.slots }

@@ -25,7 +25,7 @@ not_more true n = omega arith
 not_more false n = omega arith
 
 pub tenant_there : (tenants : List Tenant) (repo : Text) (t : ℕ) → tenant_of tenants repo ≡ Some t → t < length tenants
-tenant_there tenants repo t known = let none : Tenant = record { name = []; quota = 0 } in (position-Some (λ x. same_text x.name (tenant_name repo)) tenants t none known).0
+tenant_there tenants repo t known = let none : Tenant = record { name = []; quota = 0; share = 0 } in (position-Some (λ x. same_text x.name (tenant_name repo)) tenants t none known).0
 
 pub session_found : (o : Option Session) (repo : Text) (s : Session) → session_in o repo ≡ Ok s → (o ≡ Some s) × (s.repo ≡ repo)
 session_found None repo s h = absurd cc

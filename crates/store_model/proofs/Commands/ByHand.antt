@@ -15,7 +15,7 @@ use Rattle.store_model.specs.Sessions.{after_append_in, at_home, with_old_chunks
 use Rattle.spec_lib.specs.Texts.{Text}
 use Rattle.store_model.specs.Catalog.{SessionNumber, CheckedIn, CheckedOutWith, Session, HandRecord, Catalog, session_number_cmp, received_length}
 use Rattle.spec_lib.specs.Outcomes.{◌>>=◌, refuse}
-use Rattle.store_model.specs.Commands.{Outcome, append, chunk_length_check, close, finish, after_cancel, has_slot, is_digest_accepted, put_back, with_stored_blob, take, tenant, check_quota}
+use Rattle.store_model.specs.Commands.{Outcome, append, check_share, chunk_length_check, close, finish, after_cancel, has_slot, is_digest_accepted, put_back, with_stored_blob, take, tenant, check_quota}
 use Rattle.store_model.proofs.Commands.Hands.{received_length-with_chunk, took, Checked, TookIn}
 use Rattle.spec_lib.proofs.Maps.{get-insert_at}
 use Rattle.spec_lib.proofs.Outcomes.{bound_ok, ok_err}
@@ -159,7 +159,7 @@ module _ (C C1 : Catalog) (repo : Text) (number : ℕ) (range : Option ByteRange
   closed : (digest : Text) → finish C2 (record h { last = Some b }) digest ≡ close C repo number digest range b
   closed digest =
       rw (here (Some b)) (rw (p.tenant_ok, p.check_ok, p.quota_ok)
-      (λ i. refuse (not (is_digest_accepted C digest (whole i))) DigestInvalid >>= λ _. has_slot C digest >>= λ _. Ok (length (whole i), record (with_stored_blob C p.t (p.checked.of_repo i) number digest (whole i)) { sessions = remove_inserted C.sessions key out i })))
+      (λ i. refuse (not (is_digest_accepted C digest (whole i))) DigestInvalid >>= λ _. check_share C p.t digest >>= λ _. has_slot C digest >>= λ _. Ok (length (whole i), record (with_stored_blob C p.t (p.checked.of_repo i) number digest (whole i)) { sessions = remove_inserted C.sessions key out i })))
 
   -- ---- the same for the hand and the catalog after the check-out
 

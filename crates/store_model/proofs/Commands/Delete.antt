@@ -6,9 +6,10 @@ use Rattle.spec_lib.specs.Sets as set
 use Rattle.spec_lib.specs.Texts.{Text}
 use Rattle.store_model.specs.Catalog.{Catalog, tenant_of, holds, tenant_holds}
 use Rattle.store_model.specs.Commands.{tenant, check_link, referrer, check_no_referrer, delete}
-use Rattle.store_model.specs.Invariant.{WellFormed, KeepsQuotas, FitsSlots, Sound}
+use Rattle.store_model.specs.Invariant.{WellFormed, KeepsQuotas, KeepsShares, FitsSlots, Sound}
 use Rattle.store_model.proofs.Invariant.Repos.{is_own, is_no_other}
 use Rattle.store_model.proofs.Invariant.Links.{WellFormed-unlink, used_bytes-unlink, used_other-unlink}
+use Rattle.store_model.proofs.Invariant.Shares.{held_count-unlink}
 use Rattle.spec_lib.proofs.Outcomes.{bound_ok, not_refused, some_of_ok}
 use Rattle.store_model.proofs.Commands.Accepted.{left_by, not_more}
 
@@ -47,8 +48,14 @@ module _ (C C' : Catalog) (repo digest : Text) (stepped : delete C repo digest �
         | inr other ↦ let same = used_other-unlink C repo digest deleted.has u (is_no_other C deleted.t u repo deleted.known other) in omega arith
       ])
 
+  pub KeepsShares-after_delete : KeepsShares C → KeepsShares C'
+  KeepsShares-after_delete keeps = subst (λ (D : Catalog). KeepsShares D) deleted.left (λ u there.
+      let k = keeps u there in
+      let less = held_count-unlink C u repo digest deleted.has in
+      omega arith)
+
   pub FitsSlots-after_delete : FitsSlots C → FitsSlots C'
   FitsSlots-after_delete fits = subst (λ (D : Catalog). FitsSlots D) deleted.left fits
 
   pub Sound-after_delete : Sound C → Sound C'
-  Sound-after_delete sound = record { lawful = WellFormed-after_delete sound.lawful; quotas = KeepsQuotas-after_delete sound.lawful sound.quotas; slots = FitsSlots-after_delete sound.slots }
+  Sound-after_delete sound = record { lawful = WellFormed-after_delete sound.lawful; quotas = KeepsQuotas-after_delete sound.lawful sound.quotas; shares = KeepsShares-after_delete sound.shares; slots = FitsSlots-after_delete sound.slots }

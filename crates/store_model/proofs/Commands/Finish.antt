@@ -1,5 +1,5 @@
 -- An accepted finish keeps a catalog sound: the session's bytes become the blob's, which the tenant uses once.
-use Rattle.std.proofs.Common.{◌≡◌, ◌≢◌, ℕ, ◌+◌, ◌≤◌, true, false, not, length, Option, Some, None, Ok, refl, sym, ap, ◌∙◌, subst, arith, inl, inr}
+use Rattle.std.proofs.Common.{◌≡◌, ◌≢◌, ℕ, ◌+◌, ◌<◌, ◌≤◌, Bool, true, false, cond, not, length, Option, Some, None, Ok, refl, sym, ap, ◌∙◌, subst, arith, inl, inr}
 use Rattle.std.specs.Prelude.{◌&&◌, nat_le, if◌then◌else◌}
 use Rattle.std.specs.Cmp.Lexicographic.{nat_list_cmp_total}
 use Rattle.std.specs.FinMap.{get, insert, len}
@@ -9,10 +9,10 @@ use Rattle.blob_digest.specs.declared.refusal.Refusal.TheVariants.{DigestInvalid
 use Rattle.blob_digest.specs.Digests.{is_digest_of}
 use Rattle.spec_lib.specs.Sets as set
 use Rattle.spec_lib.specs.Texts.{Text}
-use Rattle.store_model.specs.Catalog.{Session, Resident, Catalog, HandRecord, charged_length, tenant_of, tenant_holds, used_bytes, quota_of}
-use Rattle.store_model.specs.Commands.{finish, has_slot, is_full_for, is_digest_accepted, has_same_bytes, with_stored_blob, session_of_hand, was_leased, hand_content}
+use Rattle.store_model.specs.Catalog.{Session, Resident, Catalog, HandRecord, charged_length, tenant_of, tenant_holds, held_count, held_digests, used_bytes, quota_of, share_of}
+use Rattle.store_model.specs.Commands.{check_share, finish, has_slot, is_full_for, passes_share, is_digest_accepted, has_same_bytes, with_stored_blob, session_of_hand, was_leased, hand_content}
 use Rattle.spec_lib.specs.Outcomes.{refuse}
-use Rattle.store_model.specs.Invariant.{WellFormed, KeepsQuotas, FitsSlots, Sound}
+use Rattle.store_model.specs.Invariant.{WellFormed, KeepsQuotas, KeepsShares, FitsSlots, Sound}
 use Rattle.spec_lib.proofs.Texts.{text_is_same}
 use Rattle.spec_lib.proofs.Maps.{get-insert_at}
 use Rattle.store_model.proofs.Invariant.Repos.{is_own, is_no_other}
@@ -20,6 +20,8 @@ use Rattle.store_model.proofs.Invariant.Blobs.{WellFormed-put, used_bytes-put, F
 use Rattle.store_model.proofs.Invariant.Links.{WellFormed-link, used_other-link}
 use Rattle.store_model.proofs.Invariant.Sessions.{WellFormed-gone, used_bytes-gone, used_other-gone}
 use Rattle.store_model.proofs.Invariant.Use.{used_bytes-link}
+use Rattle.store_model.proofs.Invariant.DistinctUse.{contains-held_digests}
+use Rattle.store_model.proofs.Invariant.Shares.{held_count-link, held_other-link}
 use Rattle.store_model.proofs.Commands.Hands.{taken_found, whole_long, IsProper}
 use Rattle.spec_lib.proofs.Outcomes.{bound_ok, not_refused}
 use Rattle.store_model.proofs.Commands.Accepted.{left_by, answer_by}
@@ -75,6 +77,25 @@ module _ (C : Catalog) (t number : ℕ) (repo digest whole : Text) (s : Session)
     | inr other ↦ let alike = used_other-close u other in let k = keeps u in_tenants in omega arith
   ]
 
+  held_count-close : held_count after t ≡ cond (set.contains (held_digests C t) digest) (held_count C t) (held_count C t + 1)
+  held_count-close = held_count-link C t repo digest (is_own C t repo known)
+
+  -- the tenant held the digest before, or holds one more within its share
+  within_share : (b : Bool) → tenant_holds C t digest ≡ b → (not b && nat_le (share_of C t) (held_count C t)) ≡ false → held_count C t ≤ share_of C t → held_count after t ≤ share_of C t
+  within_share true has admits keeps =
+      let same : held_count after t ≡ held_count C t = held_count-close ∙ ap (λ b. cond b (held_count C t) (held_count C t + 1)) (contains-held_digests C lawful t digest ∙ has) in
+      omega arith
+  within_share false has admits keeps =
+      let room : held_count C t < share_of C t = leb-false (share_of C t) (held_count C t) admits in
+      let more : held_count after t ≡ held_count C t + 1 = held_count-close ∙ ap (λ b. cond b (held_count C t) (held_count C t + 1)) (contains-held_digests C lawful t digest ∙ has) in
+      omega arith
+
+  pub KeepsShares-close : passes_share C t digest ≡ false → KeepsShares C → KeepsShares after
+  KeepsShares-close admits keeps = λ u there. elim (cases_eq u t) [
+    | inl e ↦ rw e (within_share (tenant_holds C t digest) refl admits (subst (λ n. held_count C n ≤ share_of C n) e (keeps u there)))
+    | inr other ↦ let same : held_count after u ≡ held_count C u = held_other-link C u repo digest (is_no_other C t u repo known other) in let k = keeps u there in omega arith
+  ]
+
   pub FitsSlots-close : is_full_for C digest ≡ false → FitsSlots C → FitsSlots after
   FitsSlots-close free fits =
       let f = FitsSlots-put C digest blob fits (λ new. leb-false C.slots (len C.residents + C.retired) (sym (ap (λ b. not b && nat_le C.slots (len C.residents + C.retired)) new) ∙ free)) in
@@ -86,6 +107,7 @@ module _ (C C' : Catalog) (h : HandRecord) (digest : Text) (n : ℕ) (proper : I
     pub s : Session
     pub here : session_of_hand (get C.sessions h.key) h ≡ Ok s
     pub named : is_digest_accepted C digest (hand_content h) ≡ true
+    pub admitted : check_share C h.key.0 digest ≡ Ok tt
     pub housed_ok : has_slot C digest ≡ Ok tt
     pub answer : length (hand_content h) ≡ n
     pub left : with_stored_blob C h.key.0 s.repo h.key.1 digest (hand_content h) ≡ C'
@@ -94,8 +116,9 @@ module _ (C C' : Catalog) (h : HandRecord) (digest : Text) (n : ℕ) (proper : I
   finished =
       let a = bound_ok (session_of_hand (get C.sessions h.key) h) _ (n, C') stepped in
       let d = bound_ok (refuse (not (is_digest_accepted C digest (hand_content h))) DigestInvalid) _ (n, C') a.2 in
-      let e = bound_ok (has_slot C digest) _ (n, C') d.2 in
-      record { s = a.0; here = a.1; named = not-false _ (not_refused _ _ _ d.1); housed_ok = e.1; answer = answer_by e.2; left = left_by e.2 }
+      let share = bound_ok (check_share C h.key.0 digest) _ (n, C') d.2 in
+      let e = bound_ok (has_slot C digest) _ (n, C') share.2 in
+      record { s = a.0; here = a.1; named = not-false _ (not_refused _ _ _ d.1); admitted = share.1; housed_ok = e.1; answer = answer_by e.2; left = left_by e.2 }
 
   pub Sound-after_finish : Sound C → Sound C'
   Sound-after_finish sound =
@@ -109,5 +132,6 @@ module _ (C C' : Catalog) (h : HandRecord) (digest : Text) (n : ℕ) (proper : I
       subst (λ (D : Catalog). Sound D) p.left (record {
         lawful = WellFormed-close C h.key.0 h.key.1 p.s.repo digest (hand_content h) p.s sound.lawful known f.0 refl both.1 both.0;
         quotas = KeepsQuotas-close C h.key.0 h.key.1 p.s.repo digest (hand_content h) p.s sound.lawful known f.0 refl both.1 0 (omega arith) within sound.quotas;
+        shares = KeepsShares-close C h.key.0 h.key.1 p.s.repo digest (hand_content h) p.s sound.lawful known f.0 refl both.1 (not_refused _ _ _ p.admitted) sound.shares;
         slots = FitsSlots-close C h.key.0 h.key.1 p.s.repo digest (hand_content h) p.s sound.lawful known f.0 refl both.1 (not_refused _ _ _ p.housed_ok) sound.slots;
       })

@@ -7,7 +7,7 @@ use Rattle.spec_lib.specs.Texts.{Text}
 use Rattle.store_model.specs.Catalog.{Resident, Catalog, holds}
 use Rattle.store_model.specs.Commands.{tenant, check_link, linked_blob, with_leased, lease}
 use Rattle.spec_lib.specs.Outcomes.{refuse}
-use Rattle.store_model.specs.Invariant.{WellFormed, KeepsQuotas, FitsSlots, Sound}
+use Rattle.store_model.specs.Invariant.{WellFormed, KeepsQuotas, KeepsShares, FitsSlots, Sound}
 use Rattle.store_model.proofs.Invariant.Blobs.{WellFormed-put, used_bytes-put, FitsSlots-put}
 use Rattle.spec_lib.proofs.Options.{some_same}
 use Rattle.spec_lib.proofs.Outcomes.{bound_ok, not_refused, some_of_ok}
@@ -47,4 +47,4 @@ module _ (C C' : Catalog) (crowded : Bool) (repo digest bytes : Text) (stepped :
   FitsSlots-after_lease fits = subst (λ (D : Catalog). FitsSlots D) leased.left (FitsSlots-put C digest marked fits (λ none. absurd (true≢false (sym (ap is_some leased.found) ∙ none))))
 
   pub Sound-after_lease : Sound C → Sound C'
-  Sound-after_lease sound = record { lawful = WellFormed-after_lease sound.lawful; quotas = KeepsQuotas-after_lease sound.lawful sound.quotas; slots = FitsSlots-after_lease sound.slots }
+  Sound-after_lease sound = record { lawful = WellFormed-after_lease sound.lawful; quotas = KeepsQuotas-after_lease sound.lawful sound.quotas; shares = subst (λ (D : Catalog). KeepsShares D) leased.left sound.shares; slots = FitsSlots-after_lease sound.slots }

@@ -15,7 +15,7 @@ use Rattle.spec_lib.specs.Texts.{Text}
 use Rattle.store_model.specs.Catalog.{Catalog, tenant_of, holds, used_bytes, manifests_of}
 use Rattle.store_model.specs.Commands.{tenant, check_all_links, has_manifest, is_full_of_manifests, add_manifest, put_manifest, manifest, delete_manifest, lacks_room_for}
 use Rattle.spec_lib.specs.Outcomes.{refuse}
-use Rattle.store_model.specs.Invariant.{WellFormed, KeepsQuotas, FitsSlots, Sound}
+use Rattle.store_model.specs.Invariant.{WellFormed, KeepsQuotas, KeepsShares, FitsSlots, Sound}
 use Rattle.spec_lib.proofs.Sets.{now}
 use Rattle.spec_lib.proofs.Options.{no_value}
 use Rattle.store_model.proofs.Invariant.Repos.{WellFormed-appear, used_bytes-appear}
@@ -40,6 +40,7 @@ module _ (C C' : Catalog) (repo bytes name : Text) (stepped : put_manifest C rep
     lawful_after : WellFormed C'
     use_alike : (u : ℕ) → used_bytes C' u ≡ used_bytes C u
     keeps_after : KeepsQuotas C → KeepsQuotas C'
+    shares_after : KeepsShares C → KeepsShares C'
     fits_after : FitsSlots C → FitsSlots C'
 
   by_new : (t : ℕ) → tenant_of C.tenants repo ≡ Some t → length bytes ≤ max_manifest → (refs : List Text) → refs_of bytes ≡ Some refs → AllByRecursion (λ d. holds C repo d ≡ true) refs →
@@ -57,6 +58,7 @@ module _ (C C' : Catalog) (repo bytes name : Text) (stepped : put_manifest C rep
         lawful_after = subst (λ (D : Catalog). WellFormed D) is made;
         use_alike = λ u. ap (λ D. used_bytes D u) (sym is) ∙ used_bytes-appear C t repo lawful known u;
         keeps_after = λ keeps. subst (λ (D : Catalog). KeepsQuotas D) is (λ u there. let same = used_bytes-appear C t repo lawful known u in let k = keeps u there in omega arith);
+        shares_after = λ shares. subst (λ (D : Catalog). KeepsShares D) is shares;
         fits_after = λ fits. subst (λ (D : Catalog). FitsSlots D) is fits;
       }
 
@@ -65,6 +67,7 @@ module _ (C C' : Catalog) (repo bytes name : Text) (stepped : put_manifest C rep
     lawful_after = subst (λ (D : Catalog). WellFormed D) is lawful;
     use_alike = λ u. ap (λ D. used_bytes D u) (sym is);
     keeps_after = λ keeps. subst (λ (D : Catalog). KeepsQuotas D) is keeps;
+    shares_after = λ shares. subst (λ (D : Catalog). KeepsShares D) is shares;
     fits_after = λ fits. subst (λ (D : Catalog). FitsSlots D) is fits;
   }
 
@@ -87,6 +90,9 @@ module _ (C C' : Catalog) (repo bytes name : Text) (stepped : put_manifest C rep
   pub KeepsQuotas-after_put_manifest : KeepsQuotas C → KeepsQuotas C'
   KeepsQuotas-after_put_manifest = put.keeps_after
 
+  pub KeepsShares-after_put_manifest : KeepsShares C → KeepsShares C'
+  KeepsShares-after_put_manifest = put.shares_after
+
   pub FitsSlots-after_put_manifest : FitsSlots C → FitsSlots C'
   FitsSlots-after_put_manifest = put.fits_after
 
@@ -94,6 +100,7 @@ pub Sound-after_put_manifest : (C C' : Catalog) (repo bytes name : Text) → put
 Sound-after_put_manifest C C' repo bytes name stepped short sound = record {
   lawful = WellFormed-after_put_manifest C C' repo bytes name stepped short sound.lawful;
   quotas = KeepsQuotas-after_put_manifest C C' repo bytes name stepped short sound.lawful sound.quotas;
+  shares = KeepsShares-after_put_manifest C C' repo bytes name stepped short sound.lawful sound.shares;
   slots = FitsSlots-after_put_manifest C C' repo bytes name stepped short sound.lawful sound.slots;
 }
 
@@ -114,4 +121,4 @@ module _ (C C' : Catalog) (repo name : Text) (stepped : delete_manifest C repo n
   FitsSlots-after_delete_manifest fits = subst (λ (D : Catalog). FitsSlots D) gone fits
 
   pub Sound-after_delete_manifest : Sound C → Sound C'
-  Sound-after_delete_manifest sound = record { lawful = WellFormed-after_delete_manifest sound.lawful; quotas = KeepsQuotas-after_delete_manifest sound.quotas; slots = FitsSlots-after_delete_manifest sound.slots }
+  Sound-after_delete_manifest sound = record { lawful = WellFormed-after_delete_manifest sound.lawful; quotas = KeepsQuotas-after_delete_manifest sound.quotas; shares = subst (λ (D : Catalog). KeepsShares D) gone sound.shares; slots = FitsSlots-after_delete_manifest sound.slots }

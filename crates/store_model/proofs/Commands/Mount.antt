@@ -8,17 +8,19 @@ use Rattle.std.proofs.lemmas.Map.Lookups.{exact_bytes}
 use Rattle.blob_digest.specs.declared.refusal.Refusal.TheVariants.{NameUnknown, LimitReached}
 use Rattle.spec_lib.specs.Sets as set
 use Rattle.spec_lib.specs.Texts.{Text}
-use Rattle.store_model.specs.Catalog.{Resident, Catalog, tenant_of, is_repo_of, holds, tenant_holds, used_bytes}
+use Rattle.store_model.specs.Catalog.{Resident, Catalog, tenant_of, is_repo_of, holds, tenant_holds, held_count, held_digests, used_bytes}
 use Rattle.store_model.specs.Commands.{tenant, start, mount, has_source, mounted_outcome, started_outcome, lacks_room_for}
 use Rattle.spec_lib.specs.Outcomes.{refuse}
 use Rattle.store_model.specs.declared.mount.Mount.{Mount}
-use Rattle.store_model.specs.Invariant.{WellFormed, KeepsQuotas, FitsSlots, Sound}
+use Rattle.store_model.specs.Invariant.{WellFormed, KeepsQuotas, KeepsShares, FitsSlots, Sound}
 use Rattle.spec_lib.proofs.Lists.{witness}
 use Rattle.spec_lib.proofs.Sets.{now}
 use Rattle.store_model.proofs.Invariant.Repos.{is_own, is_no_other, WellFormed-appear, used_bytes-appear}
 use Rattle.store_model.proofs.Invariant.Links.{is_held, WellFormed-link, used_other-link}
-use Rattle.store_model.proofs.Commands.Start.{WellFormed-after_start, used_bytes-after_start, KeepsQuotas-after_start, FitsSlots-after_start}
+use Rattle.store_model.proofs.Commands.Start.{WellFormed-after_start, used_bytes-after_start, KeepsQuotas-after_start, KeepsShares-after_start, FitsSlots-after_start}
 use Rattle.store_model.proofs.Invariant.Use.{used_bytes-link}
+use Rattle.store_model.proofs.Invariant.DistinctUse.{contains-held_digests}
+use Rattle.store_model.proofs.Invariant.Shares.{held_count-link, held_other-link}
 use Rattle.spec_lib.proofs.Outcomes.{bound_ok, not_refused, some_of_ok}
 use Rattle.store_model.proofs.Commands.Accepted.{left_by}
 
@@ -56,6 +58,15 @@ module _ (C : Catalog) (t : ℕ) (repo digest from : Text) (lawful : WellFormed 
         | inr other ↦ used_other-link with_repo repo digest u (is_no_other C t u repo known other) ∙ a
       ]
 
+  -- the tenant held the digest before
+  pub held_count-mounted : (u : ℕ) → held_count after u ≡ held_count C u
+  held_count-mounted u = elim (cases_eq u t) [
+    | inl e ↦
+        let held : set.contains (held_digests C t) digest ≡ true = contains-held_digests C lawful t digest ∙ is_held C t from digest (lawful.links (from, digest) has).repo own has in
+        ap (held_count after) e ∙ held_count-link with_repo t repo digest (is_own C t repo known) ∙ ap (λ b. cond b (held_count C t) (held_count C t + 1)) held ∙ sym (ap (held_count C) e)
+    | inr other ↦ held_other-link with_repo u repo digest (is_no_other C t u repo known other)
+  ]
+
 -- a repository of the tenant that contains the mounted blob: the named one, or any if none was named
 pub source_of : (C : Catalog) (t : ℕ) (digest : Text) (from : Option Text) → has_source C t digest from ≡ true → (q : Text) × (is_repo_of C t q ≡ true) × (holds C q digest ≡ true)
 source_of C t digest None has = let w = witness (λ r. is_repo_of C t r && holds C r digest) (set.items C.repos) has in let both = and_parts (is_repo_of C t w.0) (holds C w.0 digest) w.1 in (w.0, both.0, both.1)
@@ -66,6 +77,7 @@ module _ (C C' : Catalog) (repo digest : Text) (from : Option Text) (answer : Mo
     lawful_after : WellFormed C'
     use_alike : (u : ℕ) → used_bytes C' u ≡ used_bytes C u
     keeps_after : KeepsQuotas C → KeepsQuotas C'
+    shares_after : KeepsShares C → KeepsShares C'
     fits_after : FitsSlots C → FitsSlots C'
 
   by_link : (t : ℕ) (q : Text) → tenant_of C.tenants repo ≡ Some t → is_repo_of C t q ≡ true → holds C q digest ≡ true → mounted_outcome C t repo digest ≡ Ok (answer, C') → Mounted
@@ -80,6 +92,10 @@ module _ (C C' : Catalog) (repo digest : Text) (from : Option Text) (answer : Mo
             let same = used_bytes-mounted C t repo digest q lawful known own has short room u in
             let k = keeps u there in
             omega arith);
+        shares_after = λ shares. subst (λ (D : Catalog). KeepsShares D) is (λ u there.
+            let same = held_count-mounted C t repo digest q lawful known own has short room u in
+            let k = shares u there in
+            omega arith);
         fits_after = λ fits. subst (λ (D : Catalog). FitsSlots D) is fits;
       }
 
@@ -90,6 +106,7 @@ module _ (C C' : Catalog) (repo digest : Text) (from : Option Text) (answer : Mo
         lawful_after = WellFormed-after_start C C' repo n to short lawful;
         use_alike = used_bytes-after_start C C' repo n to short lawful;
         keeps_after = KeepsQuotas-after_start C C' repo n to short lawful;
+        shares_after = KeepsShares-after_start C C' repo n to;
         fits_after = FitsSlots-after_start C C' repo n to;
       }
 
@@ -108,6 +125,9 @@ module _ (C C' : Catalog) (repo digest : Text) (from : Option Text) (answer : Mo
   pub KeepsQuotas-after_mount : KeepsQuotas C → KeepsQuotas C'
   KeepsQuotas-after_mount = mounted.keeps_after
 
+  pub KeepsShares-after_mount : KeepsShares C → KeepsShares C'
+  KeepsShares-after_mount = mounted.shares_after
+
   pub FitsSlots-after_mount : FitsSlots C → FitsSlots C'
   FitsSlots-after_mount = mounted.fits_after
 
@@ -115,5 +135,6 @@ pub Sound-after_mount : (C C' : Catalog) (repo digest : Text) (from : Option Tex
 Sound-after_mount C C' repo digest from answer stepped short sound = record {
   lawful = WellFormed-after_mount C C' repo digest from answer stepped short sound.lawful;
   quotas = KeepsQuotas-after_mount C C' repo digest from answer stepped short sound.lawful sound.quotas;
+  shares = KeepsShares-after_mount C C' repo digest from answer stepped short sound.lawful sound.shares;
   slots = FitsSlots-after_mount C C' repo digest from answer stepped short sound.lawful sound.slots;
 }

@@ -1,14 +1,15 @@
 -- A new catalog is well-formed, so the premises can be met.
-use Rattle.std.proofs.Common.{◌≡◌, ℕ, ◌^◌, ◌<◌, ◌≤◌, List, [], ◌∷◌, length, map, get_or, arith}
+use Rattle.std.proofs.Common.{◌≡◌, ℕ, ◌^◌, ◌<◌, ◌≤◌, List, [], ◌∷◌, length, map, get_or, ap, arith}
 use Prim.Native.Nat.{zero, suc}
 use Rattle.std.specs.List.{AllByRecursion}
 use Rattle.std.specs.List.Sorted.{IsStrictlySortedBy}
 use Rattle.std.specs.FinMap.{empty, get-empty, len-empty, len}
 use Rattle.std.proofs.lemmas.List.{length-map}
 use Rattle.spec_lib.specs.Texts.{Text, text_cmp}
-use Rattle.store_model.specs.Catalog.{Tenant, Session, Resident, Catalog, link_cmp, session_number_cmp, next_number_of, opening}
+use Rattle.store_model.specs.Catalog.{Link, Tenant, Session, Resident, Catalog, link_cmp, session_number_cmp, next_number_of, opening}
 use Rattle.store_model.specs.Invariant.{WellFormed, Sound}
 use Rattle.spec_lib.proofs.Rows.{entries-empty}
+use Rattle.store_model.proofs.Invariant.Shares.{held_count-none}
 use Rattle.spec_lib.proofs.Options.{nothing, no_member}
 
 one_each : (tenants : List Tenant) (t : ℕ) → t < length tenants → 0 < get_or (map {B = ℕ} (λ _. 1) tenants) t 0
@@ -55,5 +56,6 @@ module _ (tenants : List Tenant) (slots max_blob : ℕ) where
   Sound-opening some few rise small quotas any at_most = record {
     lawful = WellFormed-opening some few rise small quotas;
     quotas = λ t there. rw (entries-empty text_cmp Resident, entries-empty session_number_cmp Session) (omega arith);
+    shares = λ t there. (let none = held_count-none C t (ap (map {B = Link} (λ (e : Link × Unit {0}). e.0)) (entries-empty link_cmp (Unit {0}))) in omega arith);
     slots = record { some = any; few = at_most; fit = let none : len (empty {X = Resident} {R = text_cmp}) ≡ 0 = len-empty text_cmp Resident in omega arith };
   }

@@ -44,7 +44,7 @@ Sound-case C C' command (Err e) short case sound = subst (λ (D : Catalog). Soun
 
 pub Sound-event : (C C' : Catalog) (e : Event) → HasShortName e → Happens C e C' → Sound C → Sound C'
 Sound-event C C' (CommandEvent command reply) short happens sound = Sound-case C C' command reply short happens sound
-Sound-event C C' (SweepEvent swept) short happens sound = Sound-sweep C C' swept happens sound.lawful sound.quotas sound.slots
+Sound-event C C' (SweepEvent swept) short happens sound = Sound-sweep C C' swept happens sound.lawful sound.quotas sound.shares sound.slots
 
 pub Sound-run : RunsStaySound
 Sound-run C C' [] short run sound = subst (λ (D : Catalog). Sound D) (sym run) sound

@@ -5,7 +5,7 @@ use Rattle.spec_lib.specs.Texts.{Text}
 use Rattle.store_model.specs.Catalog.{Catalog, tenant_of, used_bytes}
 use Rattle.store_model.specs.Commands.{tenant, start, with_new_session, lacks_room_for, cannot_open}
 use Rattle.spec_lib.specs.Outcomes.{refuse}
-use Rattle.store_model.specs.Invariant.{WellFormed, KeepsQuotas, FitsSlots, Sound}
+use Rattle.store_model.specs.Invariant.{WellFormed, KeepsQuotas, KeepsShares, FitsSlots, Sound}
 use Rattle.spec_lib.proofs.Outcomes.{bound_ok, not_refused, some_of_ok}
 use Rattle.store_model.proofs.Commands.Accepted.{left_by, tenant_there}
 use Rattle.spec_lib.specs.Sets as set
@@ -55,6 +55,9 @@ module _ (C C' : Catalog) (r : Text) (n : ℕ) (stepped : start C r ≡ Ok (n, C
       let k = keeps u there in
       omega arith)
 
+  pub KeepsShares-after_start : KeepsShares C → KeepsShares C'
+  KeepsShares-after_start keeps = subst (λ (D : Catalog). KeepsShares D) passed.4 keeps
+
   pub FitsSlots-after_start : FitsSlots C → FitsSlots C'
   FitsSlots-after_start fits = subst (λ (D : Catalog). FitsSlots D) passed.4 fits
 
@@ -62,5 +65,6 @@ module _ (C C' : Catalog) (r : Text) (n : ℕ) (stepped : start C r ≡ Ok (n, C
   Sound-after_start short sound = record {
     lawful = WellFormed-after_start short sound.lawful;
     quotas = KeepsQuotas-after_start short sound.lawful sound.quotas;
+    shares = KeepsShares-after_start sound.shares;
     slots = FitsSlots-after_start sound.slots;
   }

@@ -10,7 +10,7 @@ use Rattle.blob_digest.specs.Digests.{is_digest_of}
 use Rattle.spec_lib.specs.Sets as set
 use Rattle.spec_lib.specs.Texts.{Text}
 use Rattle.store_model.specs.Catalog.{Link, Resident, Catalog, tenant_holds, link_count, blob_share, used_bytes}
-use Rattle.store_model.specs.Invariant.{WellFormed, KeepsQuotas, FitsSlots, Sound}
+use Rattle.store_model.specs.Invariant.{WellFormed, KeepsQuotas, KeepsShares, FitsSlots, Sound}
 use Rattle.store_model.specs.declared.swept.Swept.{Swept}
 use Rattle.store_model.specs.Sweep.{is_orphan, IsAfterSweep, IsSweep}
 use Rattle.store_model.proofs.Commands.SomeSweep.{left_bytes}
@@ -115,5 +115,5 @@ module _ (C C' : Catalog) (swept : Swept) (sweep : IsSweep C swept C') (lawful :
     fit = let fit = fits.fit in let parts = len-sweep in omega arith;
   })
 
-  pub Sound-sweep : KeepsQuotas C → FitsSlots C → Sound C'
-  Sound-sweep keeps fits = record { lawful = WellFormed-sweep; quotas = KeepsQuotas-sweep keeps; slots = FitsSlots-sweep fits }
+  pub Sound-sweep : KeepsQuotas C → KeepsShares C → FitsSlots C → Sound C'
+  Sound-sweep keeps shares fits = record { lawful = WellFormed-sweep; quotas = KeepsQuotas-sweep keeps; shares = subst (λ (D : Catalog). KeepsShares D) (sym sweep.rest) shares; slots = FitsSlots-sweep fits }

@@ -89,7 +89,7 @@ module _ (taken : TakenChunks) (D : DurableState) (C : Catalog) (a : Agrees take
 pub step_sound : (taken : TakenChunks) (D : DurableState) (s : State) (step : Step) (X : Catalog) → Agrees taken D s.catalog → MayLeadTo s step X → IsReturnedAsTaken taken step → IsWellFormedStep step → Sound s.catalog → Sound X
 step_sound taken D s (CommandCall command (Ok x)) X a leaves returned right sound = Sound-case s.catalog X command (Ok x) right leaves sound
 step_sound taken D s (CommandCall command (Err e)) X a leaves returned right sound = subst (λ (Y : Catalog). Sound Y) (sym (⊎_elim (λ y. y.1) (λ y. y.1) leaves)) sound
-step_sound taken D s (SweepCall swept) X a leaves returned right sound = Sound-sweep s.catalog X swept leaves sound.lawful sound.quotas sound.slots
+step_sound taken D s (SweepCall swept) X a leaves returned right sound = Sound-sweep s.catalog X swept leaves sound.lawful sound.quotas sound.shares sound.slots
 step_sound taken D s (TakeCall r n g len (Ok h)) X a leaves returned right sound = Sound-after_take s.catalog X r n len g h leaves sound
 step_sound taken D s (TakeCall r n g len (Err e)) X a leaves returned right sound = subst (λ (Y : Catalog). Sound Y) (sym leaves.1) sound
 step_sound taken D s (PutBackCall h (Ok n)) X a leaves returned right sound = sound_put_back taken D s.catalog a sound h returned right n X leaves

@@ -16,7 +16,7 @@ use Rattle.spec_lib.proofs.Maps.{get-insert_at, get-insert_other}
 use Rattle.spec_lib.proofs.Options.{no_member}
 use Rattle.spec_lib.proofs.Outcomes.{bound_ok, ok_pair}
 use Rattle.store_model.specs.Catalog.{Catalog, CheckedIn, CheckedOutWith, Chunks, HandRecord, Resident, Session, SessionNumber, Tenant, link_cmp, opening, received_length, session_number_cmp}
-use Rattle.store_model.specs.Commands.{after_cancel, finish, has_slot, is_digest_accepted, put_back, take, was_leased, with_stored_blob}
+use Rattle.store_model.specs.Commands.{check_share, after_cancel, finish, has_slot, is_digest_accepted, put_back, take, was_leased, with_stored_blob}
 use Rattle.store_model.specs.Durable.{Agrees, AgreesOnChunks, AgreesOnSession, AreReturnedAsTaken, Change, DurableState, IsReturnedAsTaken, LogsAgree, LogsExtend, ManifestPut, SessionSealed, TakenChunks, after_change, after_changes, after_seal, change_of, changes_of, chunk_change, filled_chunk, initial_durable, taken_after_step, taken_after_steps}
 use Rattle.store_model.specs.Histories.{AreSteps, CommandCall, FinishCall, MayLeadTo, PutBackCall, State, Step, SweepCall, TakeCall, initial_state}
 use Rattle.store_model.specs.Sessions.{chunks_of, hand_content, put_back_outcome_in, session_of_hand, with_chunk, with_chunks, with_old_chunks}
@@ -82,7 +82,8 @@ module _ (taken : TakenChunks) (D : DurableState) (C : Catalog) (a : Agrees take
   finishes d n X is =
       let b = bound_ok (session_of_hand (get C.sessions h.key) h) _ (n, X) is in
       let c = bound_ok (refuse (not (is_digest_accepted C d (hand_content h))) DigestInvalid) _ (n, X) b.2 in
-      let e = bound_ok (has_slot C d) _ (n, X) c.2 in
+      let share = bound_ok (check_share C h.key.0 d) _ (n, X) c.2 in
+      let e = bound_ok (has_slot C d) _ (n, X) share.2 in
       let left : with_stored_blob C h.key.0 b.0.repo h.key.1 d (hand_content h) ≡ X = left_by e.2 in
       let has = durable_hand b.0 b.1 in
       let blob : Resident = record { bytes = hand_content h; condemned = false; lent = was_leased (get C.residents d) } in

@@ -18,7 +18,7 @@ use Rattle.spec_lib.proofs.Maps.{get-remove_other, term}
 use Rattle.spec_lib.proofs.Options.{nothing, some_none, some_same}
 use Rattle.spec_lib.proofs.Outcomes.{bound_ok, not_refused, some_of_ok}
 use Rattle.store_model.specs.Catalog.{Catalog, CheckedIn, HandRecord, Resident, SessionNumber, Tenant, holds, link_count, opening, tenant_of}
-use Rattle.store_model.specs.Commands.{check_quota, chunk_length_check, close, finish, has_same_bytes, has_slot, is_digest_accepted, is_full_for, mount, session_of_hand, start, tenant}
+use Rattle.store_model.specs.Commands.{check_share, check_quota, chunk_length_check, close, finish, has_same_bytes, has_slot, is_digest_accepted, is_full_for, mount, session_of_hand, start, tenant}
 use Rattle.store_model.specs.Durable.{Agrees, AreReturnedAsTaken, Change, DurableState, IsReturnedAsTaken, SessionSealed, TakenChunks, after_change, change_of, changes_of, chunk_change, command_change, filled_chunk, initial_durable, mount_change, session_key, taken_after_step}
 use Rattle.store_model.specs.Histories.{AreSteps, CommandCall, FinishCall, MayLeadTo, PutBackCall, State, Step, SweepCall, TakeCall, initial_state}
 use Rattle.store_model.specs.Invariant.{Sound}
@@ -137,7 +137,8 @@ module _ (taken : TakenChunks) (D : DurableState) (s : State) (a : Agrees taken 
       let c = bound_ok (chunk_length_check C t.0 r n g (length bytes)) _ (m, X) t.2 in
       let q = bound_ok (check_quota C t.0 (length bytes)) _ (m, X) c.2 in
       let e = bound_ok (refuse (not (is_digest_accepted C d (content_in C.sessions (t.0, n) bytes))) DigestInvalid) _ (m, X) q.2 in
-      let f = bound_ok (has_slot C d) _ (m, X) e.2 in
+      let share = bound_ok (check_share C t.0 d) _ (m, X) e.2 in
+      let f = bound_ok (has_slot C d) _ (m, X) share.2 in
       let known = some_of_ok (tenant_of C.tenants r) NameUnknown t.0 t.1 in
       let k = checked_home C t.0 n r g (length bytes) c.0 c.1 in
       let kept_is = durable_checked_in taken D C a t.0 n r (length bytes) k in
@@ -152,7 +153,8 @@ module _ (taken : TakenChunks) (D : DurableState) (s : State) (a : Agrees taken 
   finish_room h returned d n X is =
       let c = bound_ok (session_of_hand (get C.sessions h.key) h) _ (n, X) is in
       let e = bound_ok (refuse (not (is_digest_accepted C d (hand_content h))) DigestInvalid) _ (n, X) c.2 in
-      let f = bound_ok (has_slot C d) _ (n, X) e.2 in
+      let share = bound_ok (check_share C h.key.0 d) _ (n, X) e.2 in
+      let f = bound_ok (has_slot C d) _ (n, X) share.2 in
       let kept_is = durable_hand taken D C a h returned c.0 c.1 in
       let same = (and_parts (is_digest_of d (hand_content h)) (has_same_bytes (get C.residents d) (hand_content h)) (not-false _ (not_refused _ _ _ e.1))).1 in
       sealed_room h.key c.0.repo h.chunks d (filled_chunk h) kept_is.1 f.1 same
@@ -244,7 +246,7 @@ steps_replayed tenants (step ∷ steps) taken D s s' a known sound run returned 
     by (Some change) is rest =
         let records : change_of D.tenants step ≡ Some change = ap (λ ts. change_of ts step) known ∙ is in
         let clean : Agrees empty D (after R) = sweeps empty D R (after R) (swept R) alike.agrees (some_sweep R) in
-        let clean_sound : Sound (after R) = Sound-sweep R (after R) (swept R) (some_sweep R) alike.sound.lawful alike.sound.quotas alike.sound.slots in
+        let clean_sound : Sound (after R) = Sound-sweep R (after R) (swept R) (some_sweep R) alike.sound.lawful alike.sound.quotas alike.sound.shares alike.sound.slots in
         let free = step_room taken D s a sound R alike.agrees alike.slots alike.retired step mid.catalog run.1.leaves returned.0 change records in
         let one : HasReplay D (after R) change = changes_have_replays taken D s step mid.catalog change
         (record { agrees = a; sound = sound; leaves = run.1.leaves; returned = returned.0; well_formed = right.0; records = records }) (after R) clean clean_sound alike.limit free in

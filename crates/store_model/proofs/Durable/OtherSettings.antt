@@ -118,6 +118,7 @@ module _ (taken : TakenChunks) (D : DurableState) (C : Catalog) (a : Agrees take
   is_sound = record {
     lawful = subst (λ X. WellFormed X) is_restored is_lawful;
     quotas = can.uses;
+    shares = can.shares;
     slots = (let fit = can.fit in record { some = can.some.0; few = can.some.1; fit = omega arith });
   }
 

@@ -19,7 +19,7 @@ use Rattle.spec_lib.proofs.Outcomes.{bound_ok, not_refused, some_of_ok}
 use Rattle.spec_lib.proofs.Texts.{same_itself}
 use Rattle.store_model.specs.Catalog.{Catalog, CheckedIn, HandRecord, Resident, Session, SessionNumber, charged_length, next_number_of, open_sessions, quota_of, received_length, tenant_holds, tenant_of, used_bytes}
 use Rattle.store_model.specs.Commands
-use Rattle.store_model.specs.Commands.{add_manifest, after_append_in, append, cannot_open, check_all_links, check_link, check_no_referrer, check_quota, chunk_length_check, close, content_in, delete, finish, has_manifest, has_same_bytes, has_slot, has_source, is_digest_accepted, is_full_of_manifests, lacks_room_for, manifest, mounted_outcome, not_busy, put_back, put_back_outcome_in, referrer, session, session_in, session_of_hand, start, started_outcome, tenant, with_link, with_manifest, with_new_session, with_stored_blob, without_session}
+use Rattle.store_model.specs.Commands.{check_share, add_manifest, after_append_in, append, cannot_open, check_all_links, check_link, check_no_referrer, check_quota, chunk_length_check, close, content_in, delete, finish, has_manifest, has_same_bytes, has_slot, has_source, is_digest_accepted, is_full_of_manifests, lacks_room_for, manifest, mounted_outcome, not_busy, put_back, put_back_outcome_in, referrer, session, session_in, session_of_hand, start, started_outcome, tenant, with_link, with_manifest, with_new_session, with_stored_blob, without_session}
 use Rattle.store_model.specs.Durable.{Agrees, BlobLinked, BlobUnlinked, Change, DurableState, IsReturnedAsTaken, ManifestDeleted, ManifestPut, SessionDropped, SessionOpened, SessionSealed, TakenChunks, change_of, chunk_change, command_change, filled_chunk, mount_change, session_key}
 use Rattle.store_model.specs.Histories.{CommandCall, FinishCall, MayLeadTo, PutBackCall, State, Step, SweepCall, TakeCall}
 use Rattle.store_model.specs.Invariant.{Sound}
@@ -151,8 +151,8 @@ module _ (D : DurableState) (R : Catalog) (b : Agrees empty D R) (sound : Sound 
       chunk_replayed change is = done change (runs.Append repo key.1 None bytes) (runs.Number (received_length s + length bytes)) (record R { sessions = after_append_in R.sessions key bytes }) (chunk_names bytes change is)
           (ap (map_outcome runs.Number) append_ok) (ap (λ k. chunk_change k bytes) key_is ∙ is) short
 
-      seal_replayed : (digest : Text) → is_digest_of digest (content_in D.sessions key bytes) ≡ true → HasRoomFor D R (SessionSealed key digest bytes) → HasReplay D R (SessionSealed key digest bytes)
-      seal_replayed digest named room = done (SessionSealed key digest bytes) (runs.Close repo key.1 digest None bytes) (runs.Number (length whole)) (with_stored_blob R key.0 repo key.1 digest whole)
+      seal_replayed : (digest : Text) → is_digest_of digest (content_in D.sessions key bytes) ≡ true → check_share R key.0 digest ≡ Ok tt → HasRoomFor D R (SessionSealed key digest bytes) → HasReplay D R (SessionSealed key digest bytes)
+      seal_replayed digest named admits room = done (SessionSealed key digest bytes) (runs.Close repo key.1 digest None bytes) (runs.Number (length whole)) (with_stored_blob R key.0 repo key.1 digest whole)
           (ap (option_map (λ x. runs.Close x.repo key.1 digest None bytes)) found) (ap (map_outcome runs.Number) accepted) (ap (λ k. Some (SessionSealed k digest bytes)) key_is) short
         where
           whole : Text
@@ -165,7 +165,7 @@ module _ (D : DurableState) (R : Catalog) (b : Agrees empty D R) (sound : Sound 
           digest_ok = and_from (is_digest_of digest whole) (has_same_bytes (get R.residents digest) whole) (ap (is_digest_of digest) (sym same) ∙ named) (ap (has_same_bytes (get R.residents digest)) (sym same) ∙ room.1)
 
           accepted : close R repo key.1 digest None bytes ≡ Ok (length whole, with_stored_blob R key.0 repo key.1 digest whole)
-          accepted = rw (tenant_ok, check_ok, quota_ok, digest_ok, room.0) refl
+          accepted = rw (tenant_ok, check_ok, quota_ok, digest_ok, admits, room.0) refl
 
     -- ---- a chunk that is accepted in one store is accepted in the other
 
@@ -176,8 +176,8 @@ module _ (D : DurableState) (R : Catalog) (b : Agrees empty D R) (sound : Sound 
       pub chunk_accepted : (change : Change) → chunk_change key bytes ≡ Some change → HasReplay D R change
       chunk_accepted change is = chunk_replayed bytes has_room.0 has_room.1 change is
 
-      pub seal_accepted : (digest : Text) → is_digest_of digest (concat chunks ++ bytes) ≡ true → HasRoomFor D R (SessionSealed key digest bytes) → HasReplay D R (SessionSealed key digest bytes)
-      seal_accepted digest named free = seal_replayed bytes has_room.0 has_room.1 digest (ap (λ o. is_digest_of digest (concat (option_map_or (λ x. at_home x.chunks) o []) ++ bytes)) found ∙ named) free
+      pub seal_accepted : (digest : Text) → is_digest_of digest (concat chunks ++ bytes) ≡ true → check_share R key.0 digest ≡ Ok tt → HasRoomFor D R (SessionSealed key digest bytes) → HasReplay D R (SessionSealed key digest bytes)
+      seal_accepted digest named admits free = seal_replayed bytes has_room.0 has_room.1 digest (ap (λ o. is_digest_of digest (concat (option_map_or (λ x. at_home x.chunks) o []) ++ bytes)) found ∙ named) admits free
 
 -- ---- repositories, links and manifests
 
@@ -336,6 +336,10 @@ module _ (taken : TakenChunks) (D : DurableState) (s : State) (a : Agrees taken 
   key_there : (r : Text) (t n : ℕ) → tenant_of C.tenants r ≡ Some t → session_key D.tenants r n ≡ (t, n)
   key_there r t n known = ap (λ o. (option_map_or (λ x. x) o 0, n)) (ap (λ ts. tenant_of ts r) a.tenants ∙ known)
 
+  -- a share admits the same digests in both stores
+  share_there : (t : ℕ) (d : Text) → check_share C t d ≡ check_share R t d
+  share_there t d = λ i. check_share (record C { tenants = (sym a.tenants ∙ b.tenants) i; repos = (sym a.repos ∙ b.repos) i; links = (sym a.links ∙ b.links) i }) t d
+
   appended : (r : Text) (n : ℕ) (g : Option ByteRange) (bytes : Text) (m : ℕ) (X : Catalog) → append C r n g bytes ≡ Ok (m, X) → length r ≤ 255 → (change : Change) → chunk_change (session_key D.tenants r n) bytes ≡ Some change → HasReplay D R change
   appended r n g bytes m X is short_name change records =
       let t = bound_ok (tenant C r) _ (m, X) is in
@@ -357,6 +361,7 @@ module _ (taken : TakenChunks) (D : DurableState) (s : State) (a : Agrees taken 
       let c = bound_ok (chunk_length_check C t.0 r n g (length bytes)) _ (m, X) t.2 in
       let q = bound_ok (check_quota C t.0 (length bytes)) _ (m, X) c.2 in
       let e = bound_ok (refuse (not (is_digest_accepted C d (content_in C.sessions (t.0, n) bytes))) DigestInvalid) _ (m, X) q.2 in
+      let share = bound_ok (check_share C t.0 d) _ (m, X) e.2 in
       let known = some_of_ok (tenant_of C.tenants r) NameUnknown t.0 t.1 in
       let k = checked_home C t.0 n r g (length bytes) c.0 c.1 in
       let kept = durable_checked_in taken D C a t.0 n r (length bytes) k in
@@ -368,7 +373,7 @@ module _ (taken : TakenChunks) (D : DurableState) (s : State) (a : Agrees taken 
       let whole : content_in C.sessions (t.0, n) bytes ≡ concat k.chunks ++ bytes = ap (λ o. concat (option_map_or (λ x. at_home x.chunks) o []) ++ bytes) k.found ∙ ap (λ x. concat (at_home x) ++ bytes) k.home in
       subst (λ key. HasReplay D R (SessionSealed key d bytes)) (sym (key_there r t.0 n known))
       (seal_accepted D R b sound_here (t.0, n) k.s.repo k.chunks kept.0 taken X2 bytes kept.1 there (Sound-case C X2 (runs.Append r n g bytes) (Ok (runs.Number c.0)) short_name accepted sound) (sym limit) d
-      (ap (is_digest_of d) (sym whole) ∙ named) (subst (λ key. HasRoomFor D R (SessionSealed key d bytes)) (key_there r t.0 n known) free))
+      (ap (is_digest_of d) (sym whole) ∙ named) (sym (share_there t.0 d) ∙ share.1) (subst (λ key. HasRoomFor D R (SessionSealed key d bytes)) (key_there r t.0 n known) free))
     where
       append_is : (t after : ℕ) (r : Text) (n : ℕ) (g : Option ByteRange) (bytes : Text) → tenant C r ≡ Ok t → chunk_length_check C t r n g (length bytes) ≡ Ok after → check_quota C t (length bytes) ≡ Ok tt →
           append C r n g bytes ≡ Ok (after, record C { sessions = after_append_in C.sessions (t, n) bytes })
@@ -397,12 +402,13 @@ module _ (taken : TakenChunks) (D : DurableState) (s : State) (a : Agrees taken 
     finished d n X is free =
         let c = bound_ok (session_of_hand (get C.sessions h.key) h) _ (n, X) is in
         let e = bound_ok (refuse (not (is_digest_accepted C d (hand_content h))) DigestInvalid) _ (n, X) c.2 in
+        let share = bound_ok (check_share C h.key.0 d) _ (n, X) e.2 in
         let kept = durable_hand taken D C a h returned c.0 c.1 in
         let X2 : Catalog = record C { sessions = with_chunks C.sessions h.key c.0 (CheckedIn (chunks_of h)) } in
         let back : put_back C h ≡ Ok (sum_by length (chunks_of h), X2) = back_is c.0 c.1 in
         let named = (and_parts (is_digest_of d (hand_content h)) (has_same_bytes (get C.residents d) (hand_content h)) (not-false _ (not_refused _ _ _ e.1))).0 in
         seal_accepted D R b sound_here h.key c.0.repo h.chunks kept.1 taken X2 (filled_chunk h) kept.2 (puts_back taken D C a h returned (sum_by length (chunks_of h)) X2 back)
-        (sound_put_back taken D C a sound h returned fills (sum_by length (chunks_of h)) X2 back) (sym limit) d named free
+        (sound_put_back taken D C a sound h returned fills (sum_by length (chunks_of h)) X2 back) (sym limit) d named (sym (share_there h.key.0 d) ∙ share.1) free
       where
         back_is : (x : Session) → session_of_hand (get C.sessions h.key) h ≡ Ok x → put_back C h ≡ Ok (sum_by length (chunks_of h), record C { sessions = with_chunks C.sessions h.key x (CheckedIn (chunks_of h)) })
         back_is x here = rw here refl

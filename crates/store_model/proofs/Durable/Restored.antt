@@ -155,6 +155,7 @@ module _ (taken : TakenChunks) (D : DurableState) (C : Catalog) (a : Agrees take
       is_sound = record {
         lawful = is_lawful;
         quotas = λ t there. let less = used_less t in let keeps = sound.quotas t there in omega arith;
+        shares = sound.shares;
         slots = (let less = len_less in let fit = sound.slots.fit in let some = sound.slots.some in record { some = omega arith; few = few_slots; fit = omega arith });
       }
 

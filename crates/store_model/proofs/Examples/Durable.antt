@@ -16,7 +16,7 @@ use Rattle.store_model.proofs.Examples.Histories.{closed, first_hand, legal, rep
 use Rattle.store_model.proofs.Durable.Histories.{logs_agree}
 
 abbrev tenants : List Tenant
-tenants = record { name = codes "acme"; quota = 9 } ∷ []
+tenants = record { name = codes "acme"; quota = 9; share = 4294967295 } ∷ []
 
 -- three of the six steps change the durable state
 records : changes_of tenants steps ≡ SessionOpened repo (0, 1) ∷ ChunkReceived (0, 1) abc_bytes ∷ SessionSealed (0, 1) abc [] ∷ []

@@ -19,7 +19,7 @@ one = codes "acme/one"
 
 -- a tenant with a quota of 5 bytes: session 1 has two bytes, and session 2 none
 abbrev book : Catalog
-book = record (opening (record { name = codes "acme"; quota = 5 } ∷ []) 64 10) {
+book = record (opening (record { name = codes "acme"; quota = 5; share = 4294967295 } ∷ []) 64 10) {
   repos = set.insert set.empty_set one;
   sessions = insert (insert empty (0, 1) (record { repo = one; chunks = CheckedIn (codes "ab" ∷ []) })) (0, 2) (record { repo = one; chunks = CheckedIn [] });
   next = 3 ∷ [];

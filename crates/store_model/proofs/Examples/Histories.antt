@@ -19,7 +19,7 @@ abbrev pub repo : Text
 repo = codes "acme/one"
 
 abbrev pub empty_store : Catalog
-empty_store = opening (record { name = codes "acme"; quota = 9 } ∷ []) 1 10
+empty_store = opening (record { name = codes "acme"; quota = 9; share = 4294967295 } ∷ []) 1 10
 
 abbrev opened : Catalog
 opened = with_new_session empty_store 0 repo
@@ -59,7 +59,7 @@ took_to_close : take appended repo 1 None 0 ≡ Ok (second_hand, taken_again)
 took_to_close = simp (get-insert {X = Session} number_cmp_total, get-empty, entries-insert {X = Session} number_cmp_total, entries-empty) refl
 
 finished : finish taken_again (record second_hand { last = Some [] }) abc ≡ Ok (3, closed)
-finished = simp (len-entries, get-insert {X = Session} number_cmp_total, get-empty, entries-empty) (rw abc_named refl)
+finished = simp (entries-insert {X = Unit {0}} nat_list_cmp_total, len-entries, get-insert {X = Session} number_cmp_total, get-empty, entries-empty) (rw abc_named refl)
 
 -- the blob is linked, and stays
 abbrev blob : Resident

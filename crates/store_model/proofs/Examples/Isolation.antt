@@ -24,7 +24,7 @@ use Rattle.spec_lib.proofs.Options.{nothing}
 use Rattle.store_model.proofs.Examples.Digests.{abc, abc_bytes, abc_named, obj, obj_bytes, obj_named}
 
 abbrev tenants : List Tenant
-tenants = record { name = codes "acme"; quota = 3 } ∷ record { name = codes "other"; quota = 9 } ∷ []
+tenants = record { name = codes "acme"; quota = 3; share = 4294967295 } ∷ record { name = codes "other"; quota = 9; share = 4294967295 } ∷ []
 
 abbrev one : Text
 one = codes "acme/one"
@@ -57,7 +57,7 @@ opens_alone : isolated_outcome empty_book (Mount one abc None) ≡ Ok (Mounting 
 opens_alone = simp (get-empty, entries-empty) refl
 
 stores_alone : isolated_outcome alone_open (Close one 1 abc None abc_bytes) ≡ Ok (Number 3, alone_stored)
-stores_alone = simp (get-insert {X = Session} number_cmp_total, entries-insert {X = Session} number_cmp_total, get-empty, entries-empty) (rw abc_named refl)
+stores_alone = simp (entries-insert {X = Unit {0}} nat_list_cmp_total, get-insert {X = Session} number_cmp_total, entries-insert {X = Session} number_cmp_total, get-empty, entries-empty) (rw abc_named refl)
 
 mounts_alone : isolated_outcome alone_stored (Mount two abc None) ≡ Ok (Mounting mounting.Mounted, alone_mounted)
 mounts_alone = simp (entries-insert {X = Unit {0}} nat_list_cmp_total, get-insert {X = Unit {0}} nat_list_cmp_total, get-insert {X = Unit {0}} link_cmp_total, get-empty, entries-empty) refl
@@ -121,14 +121,14 @@ second_opens_again : outcome false other_stored (Start x) ≡ Ok (Number 2, othe
 second_opens_again = simp (entries-remove {X = Session} number_cmp_total exact_number, entries-insert {X = Session} number_cmp_total, entries-insert {X = Unit {0}} nat_list_cmp_total, get-insert {X = Unit {0}} nat_list_cmp_total, get-empty, entries-empty) refl
 
 second_stores_another : outcome false other_again (Close x 2 obj None obj_bytes) ≡ Ok (Number 2, other_both)
-second_stores_another = simp (len-entries, entries-remove {X = Session} number_cmp_total exact_number, entries-insert {X = Session} number_cmp_total, get-insert {X = Session} number_cmp_total, entries-insert {X = Unit {0}} nat_list_cmp_total, get-insert {X = Unit {0}} link_cmp_total, entries-insert {X = Resident} nat_list_cmp_total, get-insert {X = Resident} nat_list_cmp_total, get-empty, entries-empty) (rw obj_named refl)
+second_stores_another = simp (entries-insert {X = Unit {0}} link_cmp_total, len-entries, entries-remove {X = Session} number_cmp_total exact_number, entries-insert {X = Session} number_cmp_total, get-insert {X = Session} number_cmp_total, entries-insert {X = Unit {0}} nat_list_cmp_total, get-insert {X = Unit {0}} link_cmp_total, entries-insert {X = Resident} nat_list_cmp_total, get-insert {X = Resident} nat_list_cmp_total, get-empty, entries-empty) (rw obj_named refl)
 
 -- the second one's blob is no source
 first_opens : outcome false other_both (Mount one abc None) ≡ Ok (Mounting (mounting.Session 1), both_open)
 first_opens = simp (entries-remove {X = Session} number_cmp_total exact_number, entries-insert {X = Session} number_cmp_total, entries-insert {X = Unit {0}} nat_list_cmp_total, get-insert {X = Unit {0}} nat_list_cmp_total, get-insert {X = Unit {0}} link_cmp_total, get-insert {X = Resident} nat_list_cmp_total, get-empty, entries-empty) refl
 
 first_stores : outcome false both_open (Close one 1 abc None abc_bytes) ≡ Ok (Number 3, both_stored)
-first_stores = simp (len-entries, entries-remove {X = Session} number_cmp_total exact_number, entries-insert {X = Session} number_cmp_total, get-insert {X = Session} number_cmp_total, entries-insert {X = Unit {0}} nat_list_cmp_total, get-insert {X = Unit {0}} link_cmp_total, entries-insert {X = Resident} nat_list_cmp_total, get-insert {X = Resident} nat_list_cmp_total, get-empty, entries-empty) (rw abc_named refl)
+first_stores = simp (entries-insert {X = Unit {0}} link_cmp_total, len-entries, entries-remove {X = Session} number_cmp_total exact_number, entries-insert {X = Session} number_cmp_total, get-insert {X = Session} number_cmp_total, entries-insert {X = Unit {0}} nat_list_cmp_total, get-insert {X = Unit {0}} link_cmp_total, entries-insert {X = Resident} nat_list_cmp_total, get-insert {X = Resident} nat_list_cmp_total, get-empty, entries-empty) (rw abc_named refl)
 
 second_deletes : outcome false both_stored (Delete x abc) ≡ Ok (Done, one_deleted)
 second_deletes = simp (get-insert {X = Unit {0}} link_cmp_total, entries-empty) refl

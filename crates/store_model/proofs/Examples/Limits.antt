@@ -47,7 +47,7 @@ module _ (C : Catalog) (t : ℕ) (repo : Text) (known : tenant_of C.tenants repo
 -- ---- the premises can be met: a tenant that has given its last number and has no session open
 
 abbrev acme : List Tenant
-acme = record { name = codes "acme"; quota = 3 } ∷ []
+acme = record { name = codes "acme"; quota = 3; share = 4294967295 } ∷ []
 
 abbrev one : Text
 one = codes "acme/one"

@@ -35,7 +35,7 @@ fresh = codes "acme/new"
 
 -- a tenant of 1,000 bytes
 abbrev empty_book : Catalog
-empty_book = opening (record { name = codes "acme"; quota = 1000 } ∷ []) 64 10
+empty_book = opening (record { name = codes "acme"; quota = 1000; share = 4294967295 } ∷ []) 64 10
 
 abbrev one_linked : Catalog
 one_linked = record empty_book {

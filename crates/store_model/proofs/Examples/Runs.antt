@@ -12,7 +12,7 @@ use Rattle.blob_digest.proofs.KeyOrders.{number_cmp_total}
 use Rattle.spec_lib.proofs.Rows.{entries-empty}
 
 abbrev two : List Tenant
-two = record { name = codes "acme"; quota = 3 } ∷ record { name = codes "other"; quota = 9 } ∷ []
+two = record { name = codes "acme"; quota = 3; share = 4294967295 } ∷ record { name = codes "other"; quota = 9; share = 4294967295 } ∷ []
 
 abbrev empty_book : Catalog
 empty_book = opening two 64 10

@@ -6,7 +6,8 @@ use Rattle.std.specs.Cmp.Lexicographic.{nat_list_cmp_total}
 use Rattle.std.proofs.lemmas.Map.Lookups.{exact_bytes}
 use Rattle.blob_digest.specs.declared.refusal.Refusal.TheVariants.{StoreFull, TooManyReaders}
 use Rattle.spec_lib.specs.Sets as set
-use Rattle.blob_digest.proofs.KeyOrders.{number_cmp_total, link_cmp_total}
+use Rattle.blob_digest.proofs.KeyOrders.{number_cmp_total, link_cmp_total, exact_link}
+use Rattle.spec_lib.proofs.Sums.{entries-remove}
 use Rattle.spec_lib.proofs.Rows.{entries-empty}
 use Rattle.store_model.specs.Sessions.{Session}
 use Rattle.spec_lib.specs.Texts.{Text, text_cmp}
@@ -31,7 +32,7 @@ abbrev with_blob : Bool → Bool → FinMap text_cmp Resident
 with_blob condemned lent = insert empty abc (record { bytes = abc_bytes; condemned = condemned; lent = lent })
 
 abbrev kept : Catalog
-kept = record (opening (record { name = codes "acme"; quota = 1000 } ∷ []) 1 10) {
+kept = record (opening (record { name = codes "acme"; quota = 1000; share = 4294967295 } ∷ []) 1 10) {
   repos = set.insert set.empty_set one;
   links = set.insert set.empty_set (one, abc);
   residents = with_blob false false;
@@ -176,7 +177,7 @@ uploading C bytes = record C { sessions = insert empty (0, 2) (record { repo = o
 -- a condemned blob that is uploaded again is live again, and is still marked as leased
 revived : close (uploading (unlinked true true) abc_bytes) one 2 abc None [] ≡ Ok (3, with_stored_blob (uploading (unlinked true true) abc_bytes) 0 one 2 abc abc_bytes)
 revived =
-    simp (get-insert {X = Session} number_cmp_total, entries-insert {X = Session} number_cmp_total, entries-insert {X = Resident} nat_list_cmp_total, entries-insert {X = Unit {0}} nat_list_cmp_total, get-remove {X = Unit {0}} link_cmp_total, get-insert {X = Unit {0}} link_cmp_total, get-insert {X = Resident} nat_list_cmp_total, entries-empty)
+    simp (entries-insert {X = Unit {0}} link_cmp_total, entries-remove {X = Unit {0}} link_cmp_total exact_link, get-insert {X = Session} number_cmp_total, entries-insert {X = Session} number_cmp_total, entries-insert {X = Resident} nat_list_cmp_total, entries-insert {X = Unit {0}} nat_list_cmp_total, get-remove {X = Unit {0}} link_cmp_total, get-insert {X = Unit {0}} link_cmp_total, get-insert {X = Resident} nat_list_cmp_total, entries-empty)
     (rw abc_named refl)
 
 revived_blob : get (with_stored_blob (uploading (unlinked true true) abc_bytes) 0 one 2 abc abc_bytes).residents abc ≡ Some (blob false true)
@@ -185,20 +186,20 @@ revived_blob = simp (get-insert {X = Resident} nat_list_cmp_total) refl
 -- the only slot is used or retired, so there is no room for another blob
 full_while_linked : close (uploading kept obj_bytes) one 2 obj None [] ≡ Err StoreFull
 full_while_linked =
-    simp (len-entries, get-insert {X = Session} number_cmp_total, entries-insert {X = Session} number_cmp_total, entries-insert {X = Resident} nat_list_cmp_total, entries-insert {X = Unit {0}} nat_list_cmp_total, get-insert {X = Unit {0}} link_cmp_total, get-insert {X = Resident} nat_list_cmp_total, get-empty, entries-empty)
+    simp (entries-insert {X = Unit {0}} link_cmp_total, len-entries, get-insert {X = Session} number_cmp_total, entries-insert {X = Session} number_cmp_total, entries-insert {X = Resident} nat_list_cmp_total, entries-insert {X = Unit {0}} nat_list_cmp_total, get-insert {X = Unit {0}} link_cmp_total, get-insert {X = Resident} nat_list_cmp_total, get-empty, entries-empty)
     (rw obj_named refl)
 
 full_while_unlinked : close (uploading (unlinked false false) obj_bytes) one 2 obj None [] ≡ Err StoreFull
 full_while_unlinked =
-    simp (len-entries, get-insert {X = Session} number_cmp_total, entries-insert {X = Session} number_cmp_total, entries-insert {X = Resident} nat_list_cmp_total, entries-insert {X = Unit {0}} nat_list_cmp_total, get-remove {X = Unit {0}} link_cmp_total, get-insert {X = Unit {0}} link_cmp_total, get-insert {X = Resident} nat_list_cmp_total, get-empty, entries-empty)
+    simp (entries-insert {X = Unit {0}} link_cmp_total, entries-remove {X = Unit {0}} link_cmp_total exact_link, len-entries, get-insert {X = Session} number_cmp_total, entries-insert {X = Session} number_cmp_total, entries-insert {X = Resident} nat_list_cmp_total, entries-insert {X = Unit {0}} nat_list_cmp_total, get-remove {X = Unit {0}} link_cmp_total, get-insert {X = Unit {0}} link_cmp_total, get-insert {X = Resident} nat_list_cmp_total, get-empty, entries-empty)
     (rw obj_named refl)
 
 full_once_retired : close (uploading (emptied 1) obj_bytes) one 2 obj None [] ≡ Err StoreFull
 full_once_retired =
-    simp (len-entries, get-insert {X = Session} number_cmp_total, entries-insert {X = Session} number_cmp_total, entries-insert {X = Unit {0}} nat_list_cmp_total, get-remove {X = Unit {0}} link_cmp_total, get-empty, entries-empty)
+    simp (get-insert {X = Unit {0}} link_cmp_total, entries-insert {X = Unit {0}} link_cmp_total, entries-remove {X = Unit {0}} link_cmp_total exact_link, len-entries, get-insert {X = Session} number_cmp_total, entries-insert {X = Session} number_cmp_total, entries-insert {X = Unit {0}} nat_list_cmp_total, get-remove {X = Unit {0}} link_cmp_total, get-empty, entries-empty)
     (rw obj_named refl)
 
 room_once_freed : close (uploading (emptied 0) obj_bytes) one 2 obj None [] ≡ Ok (2, with_stored_blob (uploading (emptied 0) obj_bytes) 0 one 2 obj obj_bytes)
 room_once_freed =
-    simp (len-entries, get-insert {X = Session} number_cmp_total, entries-insert {X = Session} number_cmp_total, entries-insert {X = Unit {0}} nat_list_cmp_total, get-remove {X = Unit {0}} link_cmp_total, get-empty, entries-empty)
+    simp (get-insert {X = Unit {0}} link_cmp_total, entries-insert {X = Unit {0}} link_cmp_total, entries-remove {X = Unit {0}} link_cmp_total exact_link, len-entries, get-insert {X = Session} number_cmp_total, entries-insert {X = Session} number_cmp_total, entries-insert {X = Unit {0}} nat_list_cmp_total, get-remove {X = Unit {0}} link_cmp_total, get-empty, entries-empty)
     (rw obj_named refl)

@@ -22,7 +22,7 @@ use Rattle.store_model.proofs.Noninterference.Histories.{alone_in_histories}
 use Rattle.store_model.proofs.WholeCommands.Histories.{histories_are_runs}
 
 abbrev tenants : List Tenant
-tenants = record { name = codes "acme"; quota = 3 } ∷ record { name = codes "other"; quota = 9 } ∷ []
+tenants = record { name = codes "acme"; quota = 3; share = 4294967295 } ∷ record { name = codes "other"; quota = 9; share = 4294967295 } ∷ []
 
 abbrev one : Text
 one = codes "acme/one"

@@ -34,7 +34,7 @@ quota_small C lawful t = at (slice_get C.tenants t) refl
     at (Some x) e = each_at (λ (y : Tenant). y.quota ≤ 2 ^ 50) C.tenants t x lawful.limits.quotas e
 
 -- an element that passes one of two tests is counted by one of them
-count_by-or : {A : Type 0} (p q r : A → Bool) → ((x : A) → p x ≡ true → (q x || r x) ≡ true) → (xs : List A) → count_by p xs ≤ count_by q xs + count_by r xs
+pub count_by-or : {A : Type 0} (p q r : A → Bool) → ((x : A) → p x ≡ true → (q x || r x) ≡ true) → (xs : List A) → count_by p xs ≤ count_by q xs + count_by r xs
 count_by-or p q r either [] = omega arith
 count_by-or p q r either (x ∷ xs) =
     let a : count_by p (x ∷ xs) ≡ cond (p x) 1 0 + count_by p xs = sum_by-cons (λ y. cond (p y) 1 0) x xs in
@@ -51,7 +51,7 @@ count_by-or p q r either (x ∷ xs) =
     at true false false h = absurd (let f : false ≡ true = h refl in cc)
 
 -- elements that pass a test, and those that fail it
-count_by-split : {A : Type 0} (p : A → Bool) (xs : List A) → count_by p xs + count_by (λ x. not (p x)) xs ≡ length xs
+pub count_by-split : {A : Type 0} (p : A → Bool) (xs : List A) → count_by p xs + count_by (λ x. not (p x)) xs ≡ length xs
 count_by-split p [] = refl
 count_by-split p (x ∷ xs) =
     let a : count_by p (x ∷ xs) ≡ cond (p x) 1 0 + count_by p xs = sum_by-cons (λ y. cond (p y) 1 0) x xs in

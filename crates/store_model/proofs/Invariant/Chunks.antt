@@ -77,5 +77,6 @@ module _ (C : Catalog) (key : SessionNumber) (s : Session) (chunks : Chunks) (fo
         | inl e ↦ rw e (let change = used_bytes-chunks in let less = within (subst (λ n. n < length C.tenants) e there) in omega arith)
         | inr other ↦ let same = used_other-chunks u other in let k = sound.quotas u there in omega arith
       ];
+      shares = sound.shares;
       slots = record { some = sound.slots.some; few = sound.slots.few; fit = sound.slots.fit };
     }

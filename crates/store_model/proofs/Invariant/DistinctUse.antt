@@ -37,7 +37,7 @@ module _ (C : Catalog) (lawful : WellFormed C) (t : ℕ) (sizes : FinMap text_cm
 
 -- ---- the set of a tenant's digests
 
-same_truth : (a b : Bool) → (a ≡ true → b ≡ true) → (b ≡ true → a ≡ true) → a ≡ b
+pub same_truth : (a b : Bool) → (a ≡ true → b ≡ true) → (b ≡ true → a ≡ true) → a ≡ b
 same_truth true b to from = sym (to refl)
 same_truth false true to from = from refl
 same_truth false false to from = refl
@@ -77,6 +77,12 @@ any_of_filtered p q (l ∷ ls) = elim (p l) as (λ b. list_any q (map (λ l. l.1
   | false ↦ any_of_filtered p q ls
 ]
 
+-- the digests of the links of the tenant's repositories
+pub held_digests-by_links : (C : Catalog) (t : ℕ) (d : Text) → set.contains (held_digests C t) d ≡ list_any (λ l. is_repo_of C t l.0 && eq_by_cmp text_cmp d l.1) (set.items C.links)
+held_digests-by_links C t d =
+    contains-from_list nat_list_cmp_total exact_bytes (map (λ l. l.1) (filter (λ l. is_repo_of C t l.0) (set.items C.links))) d
+    ∙ any_of_filtered (λ l. is_repo_of C t l.0) (eq_by_cmp text_cmp d) (set.items C.links)
+
 module _ (C : Catalog) (lawful : WellFormed C) (t : ℕ) where
   -- some link of one of the tenant's repositories
   pub tenant_holds-by_links : (d : Text) → list_any (λ l. is_repo_of C t l.0 && eq_by_cmp text_cmp d l.1) (set.items C.links) ≡ tenant_holds C t d
@@ -99,10 +105,7 @@ module _ (C : Catalog) (lawful : WellFormed C) (t : ℕ) where
           any_member link_cmp_total exact_link C.links p (r.0, d) both.1 (and_from _ _ both.0 (ap is_eq (tied_itself nat_list_cmp_total d)))
 
   pub contains-held_digests : (d : Text) → set.contains (held_digests C t) d ≡ tenant_holds C t d
-  contains-held_digests d =
-      contains-from_list nat_list_cmp_total exact_bytes (map (λ l. l.1) (filter (λ l. is_repo_of C t l.0) (set.items C.links))) d
-      ∙ any_of_filtered (λ l. is_repo_of C t l.0) (eq_by_cmp text_cmp d) (set.items C.links)
-      ∙ tenant_holds-by_links d
+  contains-held_digests d = held_digests-by_links C t d ∙ tenant_holds-by_links d
 
   -- A tenant's use is the total length of its distinct linked digests plus its sessions' bytes.
   pub used_by_digests : used_bytes C t ≡ sum_by (blob_length C) (set.items (held_digests C t)) + session_charges_of C t

@@ -4,7 +4,7 @@ use Rattle.std.specs.Prelude.{◌==◌, ◌&&◌, nat_eq, nat_le}
 use Rattle.std.specs.Option.{option_map_or, option_eq}
 use Rattle.std.specs.List.{sum_by}
 use Rattle.std.specs.FinMap.{contains_key, get, insert, len, remove}
-use Rattle.std.proofs.lemmas.Bool.{and_parts, leb-true, not-false}
+use Rattle.std.proofs.lemmas.Bool.{and_parts, eqb-true, leb-true, not-false}
 use Rattle.blob_digest.specs.declared.range.ByteRange.{ByteRange}
 use Rattle.blob_digest.specs.declared.refusal.Refusal.{Refusal}
 use Rattle.blob_digest.specs.declared.refusal.Refusal.TheVariants.{DigestInvalid, StoreFull}
@@ -17,14 +17,14 @@ use Rattle.spec_lib.proofs.Agreement.{agree_insert, agree_remove, unseen_insert,
 use Rattle.spec_lib.proofs.Maps.{got-insert, got-remove}
 use Rattle.spec_lib.proofs.Outcomes.{not_refused}
 use Rattle.store_model.specs.Catalog.{Catalog, Chunks, CheckedIn, CheckedOutWith, SessionNumber, Session, HandRecord, is_repo_of, received_length, tenant_of}
-use Rattle.store_model.specs.Commands.{Outcome, OutcomeIn, after_cancel, chunk_length_check, finish, has_slot, is_digest_accepted, is_full_for, put_back, has_same_bytes, with_stored_blob, take, check_quota}
+use Rattle.store_model.specs.Commands.{Outcome, OutcomeIn, after_cancel, chunk_length_check, finish, has_slot, is_digest_accepted, is_full_for, put_back, has_same_bytes, with_stored_blob, take, check_quota, check_share}
 use Rattle.store_model.specs.HistoryIsolation.{with_slot}
 use Rattle.store_model.specs.Noninterference.{uploaded_pair}
 use Rattle.store_model.specs.Sessions.{Sessions, at_home, with_old_chunks, chunks_of, after_take_in, session_of_hand, hand_content, with_chunks}
 use Rattle.store_model.proofs.Commands.Hands.{taken_found}
 use Rattle.store_model.proofs.Noninterference.Consistency as consistency
 use Rattle.store_model.proofs.Noninterference.LocalRespect.{Leaves, alike_itself, apart, of_tenant, past}
-use Rattle.store_model.proofs.Noninterference.SameFor.{Alike, Consistent, check_same, session_found, visible, with_links, with_sessions}
+use Rattle.store_model.proofs.Noninterference.SameFor.{Alike, Consistent, check_same, session_found, share_check_same, visible, with_links, with_sessions}
 use Rattle.store_model.proofs.Noninterference.StepConsistency.{Fits, Matches, agree_changed, fits_named, names_alone, quota_alike, same_check, with_tenant}
 
 -- ---- the catalog after each step
@@ -63,8 +63,8 @@ module _ (P : Catalog → Type 0) (C : Catalog) where
     pub finish_leaves : (d : Text) →
         ((s : Session) → get C.sessions h.key ≡ Some s → is_digest_accepted C d (hand_content h) ≡ true → P (with_stored_blob C h.key.0 s.repo h.key.1 d (hand_content h))) → Leaves P (finish C h d)
     finish_leaves d new =
-        past P (session_of_hand (get C.sessions h.key) h) _ (λ s is. past P (refuse (not (is_digest_accepted C d (hand_content h))) DigestInvalid) _ (λ u accepted. past P (has_slot C d) _ (λ _ _.
-        new s (found s is) (not-false (is_digest_accepted C d (hand_content h)) (not_refused _ _ _ accepted)))))
+        past P (session_of_hand (get C.sessions h.key) h) _ (λ s is. past P (refuse (not (is_digest_accepted C d (hand_content h))) DigestInvalid) _ (λ u accepted. past P (check_share C h.key.0 d) _ (λ _ _. past P (has_slot C d) _ (λ _ _.
+        new s (found s is) (not-false (is_digest_accepted C d (hand_content h)) (not_refused _ _ _ accepted))))))
 
     pub cancel_leaves : P C → ((s : Session) → get C.sessions h.key ≡ Some s → P (record C { sessions = with_chunks C.sessions h.key s (CheckedIn h.chunks) })) → P (after_cancel C h)
     cancel_leaves same new = at (session_of_hand (get C.sessions h.key) h) refl
@@ -200,7 +200,8 @@ module _ (content : Text → Text) (t : ℕ) (C D : Catalog) (alike : Alike t C 
     own_finish d fits = same_check t _ _ here _ _ (λ s _.
         same_check t (refuse (not (is_digest_accepted C d (hand_content h))) DigestInvalid) (refuse (not (is_digest_accepted D d (hand_content h))) DigestInvalid)
         (ap (λ x. refuse (not x) DigestInvalid) (names_alone content C d (hand_content h) consistent_C brings ∙ sym (names_alone content D d (hand_content h) consistent_D brings))) _ _ (λ _ _.
-        subst (λ y. Matches t (ending C s (has_slot C d)) (ending (with_slot D) s y)) (sym (finds_slot D d)) (full s (is_full_for C d))))
+        same_check t (check_share C h.key.0 d) (check_share D h.key.0 d) (subst (λ k. check_share C k d ≡ check_share D k d) (sym (eqb-true h.key.0 t own)) (share_check_same t C D alike d)) _ _ (λ _ _.
+        subst (λ y. Matches t (ending C s (has_slot C d)) (ending (with_slot D) s y)) (sym (finds_slot D d)) (full s (is_full_for C d)))))
       where
         brings : is_digest_of d (hand_content h) ≡ true → content d ≡ hand_content h
         brings = fits_named content d (hand_content h) fits

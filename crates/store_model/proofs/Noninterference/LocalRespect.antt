@@ -17,7 +17,7 @@ use Rattle.spec_lib.specs.Texts.{Text}
 use Rattle.store_model.specs.Catalog.{SessionNumber, CheckedIn, Session, Resident, Catalog, session_number_cmp, tenant_of, is_repo_of, next_number_of}
 use Rattle.store_model.specs.Commands
 use Rattle.spec_lib.specs.Outcomes.{◌>>=◌, refuse}
-use Rattle.store_model.specs.Commands.{Outcome, tenant, session_in, not_busy, length_after, with_new_session, after_append_in, content_in, is_digest_accepted, has_same_bytes, with_stored_blob, has_source, with_link, with_manifest, with_leased, check_link, linked_blob, lacks_room_for, cannot_open, has_manifest, is_full_of_manifests, check_all_links, check_no_referrer, check_quota, has_slot}
+use Rattle.store_model.specs.Commands.{Outcome, tenant, session_in, not_busy, length_after, with_new_session, after_append_in, content_in, is_digest_accepted, has_same_bytes, with_stored_blob, has_source, with_link, with_manifest, with_leased, check_link, linked_blob, lacks_room_for, cannot_open, has_manifest, is_full_of_manifests, check_all_links, check_no_referrer, check_quota, check_share, has_slot}
 use Rattle.store_model.specs.declared.mount.Mount.TheVariants as mounting
 use Rattle.store_model.specs.Runs as runs
 use Rattle.store_model.specs.Runs.{Command, Answer, map_outcome, reading_outcome, outcome, repo_of}
@@ -71,7 +71,7 @@ module _ (P : Catalog → Type 0) where
         ((t after : ℕ) → tenant_of C.tenants r ≡ Some t → Commands.chunk_length_check C t r n g (length b) ≡ Ok after → is_digest_accepted C d (content_in C.sessions (t, n) b) ≡ true → P (with_stored_blob C t r n d (content_in C.sessions (t, n) b))) →
         Leaves P (Commands.close_by housed C r n d g b)
     close_leaves housed n d g b new =
-        of_tenant _ (λ t k. past (Commands.chunk_length_check C t r n g (length b)) _ (λ after checked. past (check_quota C t (length b)) _ (λ _ _. past (refuse (not (is_digest_accepted C d (content_in C.sessions (t, n) b))) DigestInvalid) _ (λ u h. past (housed C d) _ (λ _ _. new t after k checked (not-false (is_digest_accepted C d (content_in C.sessions (t, n) b)) (not_refused _ _ _ h)))))))
+        of_tenant _ (λ t k. past (Commands.chunk_length_check C t r n g (length b)) _ (λ after checked. past (check_quota C t (length b)) _ (λ _ _. past (refuse (not (is_digest_accepted C d (content_in C.sessions (t, n) b))) DigestInvalid) _ (λ u h. past (check_share C t d) _ (λ _ _. past (housed C d) _ (λ _ _. new t after k checked (not-false (is_digest_accepted C d (content_in C.sessions (t, n) b)) (not_refused _ _ _ h))))))))
 
     pub abandon_leaves : (n : ℕ) → ((t : ℕ) → tenant_of C.tenants r ≡ Some t → P (record C { sessions = remove C.sessions (t, n) })) → Leaves P (Commands.abandon C r n)
     abandon_leaves n new = of_tenant _ (λ t k. past (Commands.session C t r n) _ (λ s _. past (not_busy s.chunks) _ (λ _ _. new t k)))

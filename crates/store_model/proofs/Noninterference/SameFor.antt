@@ -3,7 +3,8 @@ use Rattle.std.proofs.Common.{T, ◌≡◌, ℕ, ◌+◌, Bool, true, false, con
 use Rattle.std.specs.Prelude.{◌==◌, ◌&&◌, nat_le, slice_get, slice_index}
 use Rattle.std.specs.Option.{option_map, option_map_or}
 use Rattle.std.specs.Cmp.Lexicographic.{nat_list_cmp_total, same_text as text_is}
-use Rattle.std.specs.List.{sum_by, filter, concat}
+use Rattle.std.specs.Ordering.{eq_by_cmp}
+use Rattle.std.specs.List.{sum_by, filter, concat, list_any}
 use Rattle.std.specs.FinMap.{FinMap, entries, get, get-entries, entries_sorted}
 use Rattle.std.specs.FinMap.Entries.{where_key, is_sorted, is_sorted-where_key, find-where_key, same_entries, find as find_key}
 use Rattle.std.proofs.lemmas.Bool.{true≢false, false≢true, eq-eqb, and_left, and_parts}
@@ -12,12 +13,15 @@ use Rattle.std.proofs.lemmas.Map.Lookups.{exact_bytes}
 use Rattle.blob_digest.specs.declared.range.ByteRange.{ByteRange}
 use Rattle.spec_lib.specs.Sets as set
 use Rattle.spec_lib.specs.Texts.{Text, text_cmp, same_text}
-use Rattle.store_model.specs.Catalog.{Link, SessionNumber, Session, Resident, Catalog, tenant_of, is_repo_of_tenant, is_repo_of, quota_of, holds, tenant_holds, session_charge, session_charges_of, blob_share, used_bytes, open_sessions, repos_of, manifests_of, received_length, Tenant, link_cmp, session_number_cmp}
+use Rattle.store_model.specs.Catalog.{Link, SessionNumber, Session, Resident, Catalog, tenant_of, is_repo_of_tenant, is_repo_of, quota_of, share_of, holds, tenant_holds, held_digests, session_charge, session_charges_of, blob_share, used_bytes, open_sessions, repos_of, manifests_of, received_length, Tenant, link_cmp, session_number_cmp}
 use Rattle.store_model.specs.Sessions.{at_home}
-use Rattle.spec_lib.specs.Outcomes.{◌>>=◌}
-use Rattle.store_model.specs.Commands.{content_in, session, session_in, not_busy, chunk_length_check, length_after, lacks_room_for, referrer, refers}
+use Rattle.spec_lib.specs.Outcomes.{◌>>=◌, refuse}
+use Rattle.store_model.specs.Commands.{check_share, content_in, session, session_in, not_busy, chunk_length_check, length_after, lacks_room_for, referrer, refers}
 use Rattle.store_model.specs.Noninterference.{blobs_of}
 use Rattle.blob_digest.proofs.KeyOrders.{number_cmp_total, exact_number, link_cmp_total, exact_link}
+use Rattle.blob_digest.specs.declared.refusal.Refusal.TheVariants.{LimitReached}
+use Rattle.store_model.proofs.Invariant.DistinctUse.{held_digests-by_links}
+use Rattle.store_model.proofs.Invariant.Shares.{same_set}
 use Rattle.spec_lib.proofs.Lists.{list_any_same, witness}
 use Rattle.spec_lib.proofs.Mapped.{find-over, sorted-over, map_none}
 use Rattle.spec_lib.proofs.Agreement.{AgreeOn, sum_agree, find_agree, any_agree, count_agree}
@@ -165,6 +169,19 @@ module _ (t : ℕ) (C D : Catalog) (alike : Alike t C D) where
 
   pub quota_same : quota_of C t ≡ quota_of D t
   quota_same = ap (λ ts. option_map_or (λ x. x.quota) (slice_get ts t) 0) alike.tenants
+
+  share_same : share_of C t ≡ share_of D t
+  share_same = ap (λ ts. option_map_or (λ x. x.share) (slice_get ts t) 0) alike.tenants
+
+  digests_same : held_digests C t ≡ held_digests D t
+  digests_same = same_set nat_list_cmp_total exact_bytes (held_digests C t) (held_digests D t) (λ d.
+      held_digests-by_links C t d
+      ∙ any_agree link_cmp_total exact_link (λ l. is_repo_of C t l.0) (λ l. is_repo_of C t l.0 && eq_by_cmp text_cmp d l.1) C.links D.links alike.links (λ l off. and_left (is_repo_of C t l.0) (eq_by_cmp text_cmp d l.1) off)
+      ∙ ap (λ ts. list_any (λ l. is_repo_of_tenant ts t l.0 && eq_by_cmp text_cmp d l.1) (set.items D.links)) alike.tenants
+      ∙ sym (held_digests-by_links D t d))
+
+  pub share_check_same : (d : Text) → check_share C t d ≡ check_share D t d
+  share_check_same d = λ i. refuse (not (tenant_holds_same d i) && nat_le (share_same i) (length (set.items (digests_same i)))) LimitReached
 
   other_repo : (r q : Text) → is_repo_of C t r ≡ true → (b : Bool) → same_text q r ≡ b → is_repo_of C t q ≡ false → b ≡ false
   other_repo r q own true is off = absurd (true≢false (sym own ∙ ap (is_repo_of C t) (sym (text_is q r (sym is))) ∙ off))

@@ -18,7 +18,7 @@ use Rattle.spec_lib.specs.Texts.{Text, same_text}
 use Rattle.store_model.specs.Catalog.{SessionNumber, CheckedIn, Session, Resident, Catalog, session_number_cmp, tenant_of, is_repo_of, holds, next_number_of, received_length}
 use Rattle.store_model.specs.Commands
 use Rattle.spec_lib.specs.Outcomes.{◌>>=◌, refuse}
-use Rattle.store_model.specs.Commands.{Outcome, tenant, session_in, not_busy, length_after, with_new_session, content_in, has_same_bytes, is_digest_accepted, is_full_for, with_stored_blob, check_all_links, has_source, with_link, with_manifest, with_leased, linked_blob, check_no_referrer, is_full_of_manifests, check_quota, lacks_room_for, cannot_open}
+use Rattle.store_model.specs.Commands.{Outcome, tenant, session_in, not_busy, length_after, with_new_session, content_in, has_same_bytes, is_digest_accepted, is_full_for, with_stored_blob, check_all_links, has_source, with_link, with_manifest, with_leased, linked_blob, check_no_referrer, is_full_of_manifests, check_quota, check_share, lacks_room_for, cannot_open}
 use Rattle.store_model.specs.Sessions.{at_home, with_chunk}
 use Rattle.store_model.specs.declared.mount.Mount.TheVariants as mounting
 use Rattle.store_model.specs.Runs as runs
@@ -29,7 +29,7 @@ use Rattle.spec_lib.proofs.Texts.{same_itself}
 use Rattle.spec_lib.proofs.Options.{option_eq_some}
 use Rattle.spec_lib.proofs.Outcomes.{bound_ok}
 use Rattle.spec_lib.proofs.Agreement.{AgreeOn, agree_insert, agree_remove}
-use Rattle.store_model.proofs.Noninterference.SameFor.{Alike, visible, with_repos, with_links, with_manifests, with_sessions, Consistent, of_same, holds_same, own_holds_same, tenant_holds_same, room_same, open_same, session_found, session_same, check_same, whole_same, quota_same, manifests_same, referrer_same, used_same}
+use Rattle.store_model.proofs.Noninterference.SameFor.{Alike, visible, with_repos, with_links, with_manifests, with_sessions, Consistent, of_same, holds_same, own_holds_same, tenant_holds_same, room_same, open_same, session_found, session_same, check_same, whole_same, quota_same, share_check_same, manifests_same, referrer_same, used_same}
 
 -- Two outcomes agree: equal results with equivalent catalogs, equal errors, or `StoreFull` with other tenants present.
 abbrev pub Matches : {A : Type 0} → ℕ → Outcome A → Outcome A → Type 0
@@ -277,7 +277,8 @@ module _ (content : Text → Text) (t : ℕ) (C D : Catalog) (alike : Alike t C 
       names_alone content C d (content_in C.sessions (t, n) b) consistent_C here
       ∙ ap (is_digest_of d) (whole_same t C D alike n b)
       ∙ sym (names_alone content D d (content_in D.sessions (t, n) b) consistent_D (λ is. here (ap (is_digest_of d) (whole_same t C D alike n b) ∙ is) ∙ whole_same t C D alike n b)))) _ _ (λ _ _.
-      full (is_full_for C d)))))
+      same_check t (check_share C t d) (check_share D t d) (share_check_same t C D alike d) _ _ (λ _ _.
+      full (is_full_for C d))))))
     where
       full : (x : Bool) → Matches t (refuse x StoreFull >>= λ _. Ok (length (content_in C.sessions (t, n) b), with_stored_blob C t r n d (content_in C.sessions (t, n) b)))
           (Ok (length (content_in D.sessions (t, n) b), with_stored_blob D t r n d (content_in D.sessions (t, n) b)))

@@ -15,7 +15,7 @@ use Rattle.spec_lib.specs.Texts.{Text, same_text}
 use Rattle.spec_lib.proofs.Outcomes.{bound_ok}
 use Rattle.store_model.specs.Catalog.{Catalog, CheckedIn, SessionNumber, holds, Session, next_number_of, quota_of, received_length, used_bytes}
 use Rattle.store_model.specs.Commands
-use Rattle.store_model.specs.Commands.{Outcome, check_all_links, cannot_open, chunk_length_check, has_manifest, has_slot, has_source, is_digest_accepted, is_full_of_manifests, lacks_room_for, check_link, linked_blob, with_new_session, not_busy, referrer, session, session_in, with_stored_blob, tenant, check_no_referrer, content_in, with_leased, with_link, with_manifest, check_quota}
+use Rattle.store_model.specs.Commands.{Outcome, check_all_links, cannot_open, chunk_length_check, has_manifest, has_slot, has_source, is_digest_accepted, is_full_of_manifests, lacks_room_for, check_link, linked_blob, with_new_session, not_busy, referrer, session, session_in, with_stored_blob, tenant, check_no_referrer, content_in, with_leased, with_link, with_manifest, check_quota, check_share}
 use Rattle.store_model.specs.Invariant.{WellFormed}
 use Rattle.store_model.specs.Runs as runs
 use Rattle.store_model.specs.Runs.{Answer, Command, map_outcome, outcome, reading_outcome}
@@ -184,10 +184,10 @@ module _ (hands : CheckedOutSessions) where
         line (check_quota C t (length b)) (check_quota D t (length b)) (quota_same t (length b)) _ _ (λ _ _.
         let f = found_checked t r n g (length b) after checked in
         subst (λ w. SameAtHome hands (ending t (content_in C.sessions (t, n) b) C) (ending t w D)) (ap (λ o. concat (option_map_or (λ s. sessions.at_home s.chunks) o []) ++ b) (f.1 ∙ sym f.3))
-        (same (refuse (not (is_digest_accepted C d (content_in C.sessions (t, n) b))) DigestInvalid) _ _ (λ _ _. same (has_slot C d) _ _ (λ _ _. (remove m (t, n), refl, remove_home hands C m at_home (t, n) f.2)))))))
+        (same (refuse (not (is_digest_accepted C d (content_in C.sessions (t, n) b))) DigestInvalid) _ _ (λ _ _. same (check_share C t d) _ _ (λ _ _. same (has_slot C d) _ _ (λ _ _. (remove m (t, n), refl, remove_home hands C m at_home (t, n) f.2))))))))
       where
         ending : ℕ → Text → Catalog → Outcome ℕ
-        ending t w X = refuse (not (is_digest_accepted X d w)) DigestInvalid >>= λ _. has_slot X d >>= λ _. Ok (length w, with_stored_blob X t r n d w)
+        ending t w X = refuse (not (is_digest_accepted X d w)) DigestInvalid >>= λ _. check_share X t d >>= λ _. has_slot X d >>= λ _. Ok (length w, with_stored_blob X t r n d w)
 
     abandon_same : (r : Text) (n : ℕ) → SameAtHome hands (Commands.abandon C r n) (Commands.abandon D r n)
     abandon_same r n = same (tenant C r) _ _ (λ t _.

@@ -75,7 +75,7 @@ by_sweep hands C m home sound swept X sweep = record {
   home = m;
   run = λ rest last r. (record X { sessions = m }, record { orphans = sweep.orphans; no_others = sweep.no_others; rest = ap (λ (Y : Catalog). record Y { sessions = m }) sweep.rest; condemned = sweep.condemned; gone = sweep.gone; held = sweep.held }, r);
   at_home = subst (λ (Y : Catalog). AtHome hands Y m) (sym sweep.rest) home;
-  sound = Sound-sweep C X swept sweep sound.lawful sound.quotas sound.slots;
+  sound = Sound-sweep C X swept sweep sound.lawful sound.quotas sound.shares sound.slots;
 }
 
 -- ---- check-outs

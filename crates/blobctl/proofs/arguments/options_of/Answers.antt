@@ -1,4 +1,4 @@
-use Rattle.std.proofs.Common.{◌≡◌, List, codes, map, refl, ap, ◌∙◌, subst, inl, inr}
+use Rattle.std.proofs.Common.{false, ◌≡◌, List, codes, map, refl, ap, ◌∙◌, subst, inl, inr}
 use Rattle.std.proofs.lemmas.Result.{err_from_is_err_and}
 use Rattle.clap.specs.Matches.{found_of}
 use Rattle.clap.specs.Walk.{rows_of}
@@ -17,7 +17,7 @@ returns-in_err-tenants-clause-refused c =
     let p = err_from_is_err_and c.from_residual.result c.from_residual.ensures.1 in
     rw (p.1, p.2) (elim c.in_err-tenants.ensures.refused [
       | inl memory ↦ rw memory tt
-      | inr bad ↦ rw bad.0 (subst HasBadTenant words bad.1)
+      | inr bad ↦ rw bad.0 (subst (HasBadTenant false) words bad.1)
     ])
 
 pub returns-clause-found : goal.returns-clause-found
@@ -26,7 +26,7 @@ returns-clause-found c =
     let words : map (λ x. x.now) c.unwrap_or-words.result.now ≡ tenant_args (rows_of f) = ap (λ w. map (λ x. x.now) w.now) c.unwrap_or-words.ensures ∙ words_taken _ _ _ refl (c.get_strs.ensures ∙ raw_values-rows f (codes "tenants")) in
     record {
       numbers = c.in-Some.ensures;
-      tenants = subst (λ (ws : List Text). SpellTenants ws (tenants_shown c.in_ok-tenants.tenants.items)) words c.in_ok-tenants.ensures.spelled;
+      tenants = subst (λ (ws : List Text). SpellTenants false ws (tenants_shown c.in_ok-tenants.tenants.items)) words c.in_ok-tenants.ensures.spelled;
       first = refl;
       workers = c.in-Some-worker_count.ensures;
     }

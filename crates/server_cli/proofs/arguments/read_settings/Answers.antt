@@ -1,4 +1,4 @@
-use Rattle.std.proofs.Common.{◌∙◌, ◌%◌, List, ap, inl, inr, length, map, string_bytes, subst, sym}
+use Rattle.std.proofs.Common.{true, ◌∙◌, ◌%◌, List, ap, inl, inr, length, map, string_bytes, subst, sym}
 use Rattle.std.proofs.lemmas.List.{length-map}
 use Rattle.std.proofs.lemmas.Result.{err_from_is_err_and}
 use Rattle.spec_lib.specs.Texts.{Text}
@@ -15,7 +15,7 @@ returns-in_err-tenants-clause-refused c =
     let p = err_from_is_err_and c.from_residual-in_err-tenants.result c.from_residual-in_err-tenants.ensures.1 in
     rw (p.1, p.2) (elim c.in_err-tenants.ensures.refused [
       | inl memory ↦ rw memory tt
-      | inr bad ↦ rw bad.0 (subst AreWrongSettings (sym words) (inr (inl (subst HasBadTenant names bad.1))))
+      | inr bad ↦ rw bad.0 (subst AreWrongSettings (sym words) (inr (inl (subst (HasBadTenant true) names bad.1))))
     ])
 
 pub returns-clause-spelled : goal.returns-clause-spelled
@@ -30,7 +30,7 @@ returns-clause-spelled c =
       parts = words;
       slots_are = rw c.as_str.ensures.value at c.in-Some.ensures.0;
       max_blob_is = rw c.as_str-2.ensures.value at c.in-Some-number.ensures.0;
-      tenants = subst (λ (ws : List Text). SpellTenants ws (tenants_shown c.in_ok-tenants.tenants.items)) names c.in_ok-tenants.ensures.spelled;
+      tenants = subst (λ (ws : List Text). SpellTenants true ws (tenants_shown c.in_ok-tenants.tenants.items)) names c.in_ok-tenants.ensures.spelled;
       paths = paths;
       paired = ap (λ (ws : List Text). length ws % 2) (sym paths) ∙ ap (λ n. n % 2) (length-map c.split_at_end.result.1.now string_bytes) ∙ c.if-paths-ne0.false;
     }

@@ -1,9 +1,18 @@
-use Rattle.std.proofs.Common.{◌∙◌, ap, refl, length}
+use Rattle.std.proofs.Common.{◌∙◌, ap, refl, sym, length}
 use Rattle.slot_table.specs.Slots.{on_stored_blob, link_up}
+use Rattle.spec_lib.proofs.Options.{nothing}
+use Rattle.store_book.specs.Internal.Storing.{past_share}
 use Rattle.store_book.specs.Pinned.{Pinned}
 use Rattle.store_book.proofs.Slots.Pinned.{KeepsGenerations-placed, KeepsGenerations-with_changed_slot}
 use Rattle.store_book.proofs.Layers.KeepCalls.{unlink-link, kept_anew}
 use Rattle.store_book.proofs.keep.store_new.Goals as goal
+
+pub returns-then-passes_share-clause-refused : goal.returns-then-passes_share-clause-refused
+returns-then-passes_share-clause-refused c = λ _.
+    past_share (λ k h at stored. nothing c.requires.absent at) (rw c.digest-digest.ensures.value at (sym c.passes_share.ensures ∙ c.if-passes_share.true)) refl
+
+pub returns-in-Ok-clause-share : goal.returns-in-Ok-clause-share
+returns-in-Ok-clause-share c = rw c.digest-digest.ensures.value at (sym c.passes_share.ensures ∙ c.if-passes_share.false)
 
 pub returns-in-Ok-clause-ok : goal.returns-in-Ok-clause-ok
 returns-in-Ok-clause-ok c =

@@ -19,7 +19,7 @@ returns-in_err-add_tenant-clause-refused c =
     let i = c.loop-word.word-index in
     let words = c.args.words.now in
     let whole = words_round words i nothing c.loop-word-test.true in
-    rw (p.1, p.2) (bad_word (map (λ (w : Bor Text). w.now) words) (map (λ (w : Bor Text). w.now) (take i words)) (map (λ (w : Bor Text). w.now) (drop (i + 1) words))
+    rw (p.1, p.2) (bad_word c.args.shares (map (λ (w : Bor Text). w.now) words) (map (λ (w : Bor Text). w.now) (take i words)) (map (λ (w : Bor Text). w.now) (drop (i + 1) words))
     (tenants_shown c.loop-word.tenants.items) (get_or words i nothing).now c.in_err-add_tenant.field-0.0 whole c.loop-word.invariant.spelled c.in_err-add_tenant.ensures.refused)
 
 pub loop-word-preserved : goal.loop-word-preserved
@@ -34,7 +34,7 @@ loop-word-preserved c =
     let count : length c.add_tenant.new.tenants.items ≡ length c.loop-word.tenants.items + 1 =
     sym (length-map c.add_tenant.new.tenants.items tenant_shown) ∙ ap length added.4 ∙ length-append old (added.0 ∷ []) ∙ ap (λ n. n + 1) (length-map c.loop-word.tenants.items tenant_shown) in
     record {
-      spelled = rw (words_more words i nothing c.loop-word-test.true, added.4) (one_spelled (map (λ (w : Bor Text). w.now) (take i words)) old word added.0 inv.spelled added.1);
+      spelled = rw (words_more words i nothing c.loop-word-test.true, added.4) (one_spelled c.args.shares (map (λ (w : Bor Text). w.now) (take i words)) old word added.0 inv.spelled added.1);
       few = omega (arith, count, added.3);
       count = omega (arith, count, inv.count);
       components = rw added.4 (all_more (λ (t : Tenant). IsComponent t.name) old added.0 inv.components added.1.component);

@@ -9,7 +9,7 @@ use Rattle.tenant_args.proofs.tenants.read_tenants.Given as goal
 -- the arguments so far spell the tenants so far, which a store accepts
 abbrev pub invariant-loop-word : goal.invariant-loop-word
 invariant-loop-word l = record {
-  spelled : SpellTenants (map (λ w. w.now) (take l.word-index l.words)) (tenants_shown l.tenants.items);
+  spelled : SpellTenants l.shares (map (λ w. w.now) (take l.word-index l.words)) (tenants_shown l.tenants.items);
   few : length l.tenants.items ≤ max_tenants;
   count : length l.tenants.items ≡ l.word-index;
   components : All (λ t. IsComponent t.name) (tenants_shown l.tenants.items);

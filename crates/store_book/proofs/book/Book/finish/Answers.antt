@@ -1,5 +1,6 @@
-use Rattle.std.proofs.Common.{◌≡◌, [], Option, is_ok, length, ap, ◌∙◌, arith, subst}
+use Rattle.std.proofs.Common.{◌≡◌, [], false, Option, is_ok, length, ap, ◌∙◌, arith, subst}
 use Rattle.std.specs.Option.{option_map_or}
+use Rattle.link_table.specs.Linked.{passes_share}
 use Rattle.std.specs.FinMap.{remove}
 use Rattle.spec_lib.specs.Texts.{Text}
 use Rattle.store_model.specs.Sessions.{Session}
@@ -42,8 +43,9 @@ discharge-requires-in-Ok-keep-clause-there c =
     let p = layer_finished c.self.inside.uploads c.args.hand c.args.digest.now c.in-Ok.both.0 c.finish.new.self c.in-Ok.ensures.does in
     let at = found (layers c.self.inside) c.args.hand c.args.digest.now c.self.invariant (record { pieces = c.reserved-reserved.ensures.pieces; last = c.reserved-reserved.ensures.last }) c.requires.full p.0 p.1 in
     let repo : c.repo_of-repo.result.now ≡ p.0.repo = c.repo_of-repo.ensures ∙ (λ i. repo_at (p.4 i) (c.in-Ok.ensures.key i)) ∙ ap (λ (o : Option Session). option_map_or (λ (s : Session). s.repo) o []) at in
+    let admits = rw c.tenant-tenant.ensures at (subst (λ (b : Text × Text). passes_share c.self.inside.links c.tenant-tenant.result b.0 ≡ false) p.3 c.in-Ok-keep.ensures.share) in
     let kept = subst (λ (b : Text × Text). IsStored c.self.inside.links c.self.inside.slots.slots p.0.repo b c.keep.new.links c.keep.new.slots.slots) p.3 (subst (λ (r : Text). IsStored c.self.inside.links c.self.inside.slots.slots r c.in-Ok.both.0 c.keep.new.links c.keep.new.slots.slots) repo c.in-Ok-keep.ensures.ok) in
-    let tenants = same_tenants (layers c.self.inside) c.args.hand c.args.digest.now c.self.invariant (record { pieces = c.reserved-reserved.ensures.pieces; last = c.reserved-reserved.ensures.last }) c.requires.full p.0 p.1 p.2 c.keep.new.links c.keep.new.slots.slots kept in
+    let tenants = same_tenants (layers c.self.inside) c.args.hand c.args.digest.now c.self.invariant (record { pieces = c.reserved-reserved.ensures.pieces; last = c.reserved-reserved.ensures.last }) c.requires.full p.0 p.1 p.2 c.keep.new.links c.keep.new.slots.slots kept admits in
     let there = here_tenant (layers c.self.inside) c.args.hand c.self.invariant (record { pieces = c.reserved-reserved.ensures.pieces; last = c.reserved-reserved.ensures.last }) p.0 p.1 in
     rw c.tenant-tenant.ensures (omega (arith, tenants, there))
 
@@ -52,20 +54,22 @@ discharge-requires-in-Ok-keep-clause-charged c =
     let p = layer_finished c.self.inside.uploads c.args.hand c.args.digest.now c.in-Ok.both.0 c.finish.new.self c.in-Ok.ensures.does in
     let at = found (layers c.self.inside) c.args.hand c.args.digest.now c.self.invariant (record { pieces = c.reserved-reserved.ensures.pieces; last = c.reserved-reserved.ensures.last }) c.requires.full p.0 p.1 in
     let repo : c.repo_of-repo.result.now ≡ p.0.repo = c.repo_of-repo.ensures ∙ (λ i. repo_at (p.4 i) (c.in-Ok.ensures.key i)) ∙ ap (λ (o : Option Session). option_map_or (λ (s : Session). s.repo) o []) at in
+    let admits = rw c.tenant-tenant.ensures at (subst (λ (b : Text × Text). passes_share c.self.inside.links c.tenant-tenant.result b.0 ≡ false) p.3 c.in-Ok-keep.ensures.share) in
     let kept = subst (λ (b : Text × Text). IsStored c.self.inside.links c.self.inside.slots.slots p.0.repo b c.keep.new.links c.keep.new.slots.slots) p.3 (subst (λ (r : Text). IsStored c.self.inside.links c.self.inside.slots.slots r c.in-Ok.both.0 c.keep.new.links c.keep.new.slots.slots) repo c.in-Ok-keep.ensures.ok) in
     let size = ap length (c.bytes.ensures.value ∙ ap (λ (b : Text × Text). b.1) p.3) in
-    rw (c.tenant-tenant.ensures, size) (finish_charged (layers c.self.inside) c.args.hand c.args.digest.now c.self.invariant (record { pieces = c.reserved-reserved.ensures.pieces; last = c.reserved-reserved.ensures.last }) c.requires.full p.0 p.1 p.2 c.keep.new.links c.keep.new.slots.slots kept)
+    rw (c.tenant-tenant.ensures, size) (finish_charged (layers c.self.inside) c.args.hand c.args.digest.now c.self.invariant (record { pieces = c.reserved-reserved.ensures.pieces; last = c.reserved-reserved.ensures.last }) c.requires.full p.0 p.1 p.2 c.keep.new.links c.keep.new.slots.slots kept admits)
 
 pub invariant_of-self-in-Ok-keep : goal.invariant_of-self-in-Ok-keep
 invariant_of-self-in-Ok-keep c =
     let p = layer_finished c.self.inside.uploads c.args.hand c.args.digest.now c.in-Ok.both.0 c.finish.new.self c.in-Ok.ensures.does in
     let at = found (layers c.self.inside) c.args.hand c.args.digest.now c.self.invariant (record { pieces = c.reserved-reserved.ensures.pieces; last = c.reserved-reserved.ensures.last }) c.requires.full p.0 p.1 in
     let repo : c.repo_of-repo.result.now ≡ p.0.repo = c.repo_of-repo.ensures ∙ (λ i. repo_at (p.4 i) (c.in-Ok.ensures.key i)) ∙ ap (λ (o : Option Session). option_map_or (λ (s : Session). s.repo) o []) at in
+    let admits = rw c.tenant-tenant.ensures at (subst (λ (b : Text × Text). passes_share c.self.inside.links c.tenant-tenant.result b.0 ≡ false) p.3 c.in-Ok-keep.ensures.share) in
     let kept = subst (λ (b : Text × Text). IsStored c.self.inside.links c.self.inside.slots.slots p.0.repo b c.keep.new.links c.keep.new.slots.slots) p.3 (subst (λ (r : Text). IsStored c.self.inside.links c.self.inside.slots.slots r c.in-Ok.both.0 c.keep.new.links c.keep.new.slots.slots) repo c.in-Ok-keep.ensures.ok) in
     let size = ap length (c.bytes.ensures.value ∙ ap (λ (b : Text × Text). b.1) p.3) in
     let links = rw (c.tenant-tenant.ensures, size) at c.discharge-in-Ok-keep.ensures in
     let uploads = c.forget.ensures ∙ (λ i. with_sessions (p.4 i) (remove (p.4 i).sessions (c.in-Ok.ensures.key i))) in
-    IsBook-finish (layers c.self.inside) c.args.hand c.args.digest.now c.self.invariant (record { pieces = c.reserved-reserved.ensures.pieces; last = c.reserved-reserved.ensures.last }) c.requires.full p.0 p.1 p.2 c.keep.new.links c.keep.new.slots.slots kept c.discharge-in-Ok-keep.new.self c.forget.new.self links uploads
+    IsBook-finish (layers c.self.inside) c.args.hand c.args.digest.now c.self.invariant (record { pieces = c.reserved-reserved.ensures.pieces; last = c.reserved-reserved.ensures.last }) c.requires.full p.0 p.1 p.2 c.keep.new.links c.keep.new.slots.slots kept admits c.discharge-in-Ok-keep.new.self c.forget.new.self links uploads
 
 pub discharge-requires-in-Err-keep-clause-there : goal.discharge-requires-in-Err-keep-clause-there
 discharge-requires-in-Err-keep-clause-there c =
@@ -89,11 +93,12 @@ returns-in-Ok-keep-clause-does c =
     let p = layer_finished c.self.inside.uploads c.args.hand c.args.digest.now c.in-Ok.both.0 c.finish.new.self c.in-Ok.ensures.does in
     let at = found (layers c.self.inside) c.args.hand c.args.digest.now c.self.invariant (record { pieces = c.reserved-reserved.ensures.pieces; last = c.reserved-reserved.ensures.last }) c.requires.full p.0 p.1 in
     let repo : c.repo_of-repo.result.now ≡ p.0.repo = c.repo_of-repo.ensures ∙ (λ i. repo_at (p.4 i) (c.in-Ok.ensures.key i)) ∙ ap (λ (o : Option Session). option_map_or (λ (s : Session). s.repo) o []) at in
+    let admits = rw c.tenant-tenant.ensures at (subst (λ (b : Text × Text). passes_share c.self.inside.links c.tenant-tenant.result b.0 ≡ false) p.3 c.in-Ok-keep.ensures.share) in
     let kept = subst (λ (b : Text × Text). IsStored c.self.inside.links c.self.inside.slots.slots p.0.repo b c.keep.new.links c.keep.new.slots.slots) p.3 (subst (λ (r : Text). IsStored c.self.inside.links c.self.inside.slots.slots r c.in-Ok.both.0 c.keep.new.links c.keep.new.slots.slots) repo c.in-Ok-keep.ensures.ok) in
     let size = ap length (c.bytes.ensures.value ∙ ap (λ (b : Text × Text). b.1) p.3) in
     let links = rw (c.tenant-tenant.ensures, size) at c.discharge-in-Ok-keep.ensures in
     let uploads = c.forget.ensures ∙ (λ i. with_sessions (p.4 i) (remove (p.4 i).sessions (c.in-Ok.ensures.key i))) in
-    rw (← c.self.view_is, size) (finish_ok (layers c.self.inside) c.args.hand c.args.digest.now c.self.invariant (record { pieces = c.reserved-reserved.ensures.pieces; last = c.reserved-reserved.ensures.last }) c.requires.full p.0 p.1 p.2 c.keep.new.links c.keep.new.slots.slots kept c.discharge-in-Ok-keep.new.self c.forget.new.self links uploads)
+    rw (← c.self.view_is, size) (finish_ok (layers c.self.inside) c.args.hand c.args.digest.now c.self.invariant (record { pieces = c.reserved-reserved.ensures.pieces; last = c.reserved-reserved.ensures.last }) c.requires.full p.0 p.1 p.2 c.keep.new.links c.keep.new.slots.slots kept admits c.discharge-in-Ok-keep.new.self c.forget.new.self links uploads)
 
 pub returns-in-Ok-keep-clause-slots : goal.returns-in-Ok-keep-clause-slots
 returns-in-Ok-keep-clause-slots c = rw (← c.self.view_is) (KeepsGenerations-slot_views_of c.self.inside.slots c.keep.new.slots c.in-Ok-keep.ensures.quiet)
@@ -103,7 +108,7 @@ returns-in-Err-keep-clause-does c =
     let p = layer_finished c.self.inside.uploads c.args.hand c.args.digest.now c.in-Ok.both.0 c.finish.new.self c.in-Ok.ensures.does in
     let links = rw (c.tenant-tenant.ensures, c.in-Err-keep.ensures.err.0, c.reserved-reserved.ensures.value) at c.discharge-in-Err-keep.ensures in
     let uploads = c.reopen.ensures ∙ ap (λ (b : Text × Text). reopened_table c.finish.new.self c.in-Ok.both.1 b.1) c.in-Err-keep.ensures.back ∙ c.in-Ok.ensures.restores.1 in (
-      (λ other. rw (← c.self.view_is) (finish_unkept (layers c.self.inside) c.args.hand c.args.digest.now c.self.invariant (record { pieces = c.reserved-reserved.ensures.pieces; last = c.reserved-reserved.ensures.last }) c.requires.full p.0 p.1 p.2 c.in-Err-keep.refusal (subst (λ (b : Text × Text). CannotStore c.self.inside.slots.slots b c.in-Err-keep.refusal) p.3 (c.in-Err-keep.ensures.refused other)))),
+      (λ other. rw (← c.self.view_is) (finish_unkept (layers c.self.inside) c.args.hand c.args.digest.now c.self.invariant (record { pieces = c.reserved-reserved.ensures.pieces; last = c.reserved-reserved.ensures.last }) c.requires.full p.0 p.1 p.2 c.in-Err-keep.refusal (subst (λ (b : Text × Text). CannotStore c.self.inside.links c.self.inside.slots.slots c.args.hand.key.0 b c.in-Err-keep.refusal) p.3 (rw c.tenant-tenant.ensures at (c.in-Err-keep.ensures.refused other))))),
       ap (λ s. book_catalog (record (layers c.self.inside) { links = c.discharge-in-Err-keep.new.self; uploads = c.reopen.new.self; slots = s })) (ap (λ (p : Pinned). p.slots) c.in-Err-keep.ensures.err.1) ∙ after_cancel_is (layers c.self.inside) c.args.hand c.args.digest.now c.discharge-in-Err-keep.new.self c.reopen.new.self c.args.hand.reserved links uploads ∙ ap (λ (s : BookState). after_cancel s.catalog c.args.hand) c.self.view_is,
     )
 
