@@ -44,6 +44,7 @@ struct blobd_reply {
      *   mount   the session that was opened, or 0
      *   sweep   the number of slots freed; the number of unlinked slots that readers held
      *   usage   the bytes that the tenant uses; its quota
+     *   slots   the number of the tenant's distinct blobs; its share of the slots
      *   others  a session, a length or a size */
     uint64_t first, second;
     char digest[BLOBD_MAX_DIGEST + 1];   /* of a manifest, or of the blob that it lacks */

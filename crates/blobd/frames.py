@@ -13,6 +13,10 @@ GREETING = b"blobd\0\1\0"
 START, STATUS, APPEND, CLOSE, ABANDON, MOUNT, DELETE, PUT_MANIFEST, GET_MANIFEST, DELETE_MANIFEST = range(1, 11)
 LEASE, READ, GIVE_BACK, SWEEP = range(11, 15)
 STAT, STAT_MANIFEST, FREE_SLOTS, USAGE, FETCH = range(17, 22)
+SLOT_USE, REPO_COUNT, SYNC_COUNT = range(23, 26)
+
+# The share of a tenant without one.
+UNLIMITED = 2**32 - 1
 
 # The numbers of the refusals, and two more status codes.
 NAME_INVALID, DIGEST_INVALID, NAME_UNKNOWN, UPLOAD_UNKNOWN, SIZE_INVALID, RANGE_INVALID, BLOB_UNKNOWN = range(1, 8)
@@ -104,6 +108,11 @@ CALLS = [
     (request(FREE_SLOTS), reply(first=14)),
     (request(USAGE, ONE), reply(first=5, second=100)),
     (request(USAGE, "nobody"), reply(NAME_UNKNOWN)),
+    (request(SLOT_USE, ONE), reply(first=2, second=UNLIMITED)),
+    (request(SLOT_USE, "nobody"), reply(NAME_UNKNOWN)),
+    (request(REPO_COUNT, ONE), reply(first=1)),
+    (request(REPO_COUNT, "nobody"), reply(NAME_UNKNOWN)),
+    (request(SYNC_COUNT), reply()),
     (request(DELETE_MANIFEST, ONE, sha256(MANIFEST)), reply()),
     # mounts, which succeed only within a tenant
     (request(MOUNT, TWO, ABC, ONE), reply()),

@@ -1,14 +1,14 @@
 //! Queries of a store that are not commands.
 
 ghost use Rattle.std.specs.Prelude.{◌≡◌};
-ghost use Rattle.store_model.specs.Queries.{stat, stat_manifest, usage, free_slots};
+ghost use Rattle.store_model.specs.Queries.{stat, stat_manifest, usage, slot_use, repo_count, free_slots};
 ghost use Rattle.blob_store.specs.StoreCalls.{InSomeCatalog};
 
 use crate::store::Store;
 use blob_digest::{Digest, Refusal, RepoName};
 use locked_book::Naming;
 use std::sync::Wait;
-use store_book::Usage;
+use store_book::{SlotUse, Usage};
 
 /// Queries: they use no desk, are no steps of the history and are counted nowhere. Each takes the lock for one look-up,
 /// changes nothing, copies nothing and allocates nothing. Its result is that of some book of this store: of the one
@@ -53,6 +53,34 @@ impl<S: Naming> Store<S> {
         ensures { InSomeCatalog S.names (λ c. result ≡ usage c repo.now) }
     {
         self.locked(rt).book().usage(repo)
+    }
+
+    /// Returns the number of the distinct blobs of a repository's tenant, and its share of the slots.
+    ///
+    /// # Errors
+    ///
+    /// Those of `store_book::Book::slot_use`.
+    pub fn slot_use(&self, rt: &impl Wait, repo: &RepoName) -> Result<SlotUse, Refusal>
+        ensures { InSomeCatalog S.names (λ c. result ≡ slot_use c repo.now) }
+    {
+        self.locked(rt).book().slot_use(repo)
+    }
+
+    /// Returns the number of the repositories of a repository's tenant.
+    ///
+    /// # Errors
+    ///
+    /// Those of `store_book::Book::repo_count`.
+    pub fn repo_count(&self, rt: &impl Wait, repo: &RepoName) -> Result<u64, Refusal>
+        ensures { InSomeCatalog S.names (λ c. result ≡ repo_count c repo.now) }
+    {
+        self.locked(rt).book().repo_count(repo)
+    }
+
+    /// Returns how often the log of the store was synced since the store was made. It is 0 for a store in memory. No contract
+    /// describes this number.
+    pub fn sync_count(&self, rt: &impl Wait) -> u64 {
+        self.locked(rt).sync_count()
     }
 
     /// Returns how many slots are free: neither in use, by a live or a condemned blob, nor retired.

@@ -9,7 +9,7 @@ use oci_manifest::Manifest;
 use std::alloc::Global;
 use std::sync::{Arc, Wait};
 use store_api::{Backend, Piece, Queries};
-use store_book::{Mount, Swept, Usage};
+use store_book::{Mount, SlotUse, Swept, Usage};
 
 /// A store with a worker's desk, on which rows are played. Each request is the store's call of its name. Contracts see
 /// how the desk's amounts grow, and the steps that the desk makes.
@@ -145,6 +145,18 @@ impl<'s, W: Wait, S: Naming> Queries for StoreBackend<'s, W, S> {
 
     fn usage(&self, repo: &RepoName) -> Result<Usage, Refusal> {
         self.store.usage(self.rt, repo)
+    }
+
+    fn slot_use(&self, repo: &RepoName) -> Result<SlotUse, Refusal> {
+        self.store.slot_use(self.rt, repo)
+    }
+
+    fn repo_count(&self, repo: &RepoName) -> Result<u64, Refusal> {
+        self.store.repo_count(self.rt, repo)
+    }
+
+    fn sync_count(&self) -> u64 {
+        self.store.sync_count(self.rt)
     }
 
     fn free_slots(&self) -> u32 {

@@ -8,7 +8,7 @@ import time
 
 from data_folder import Ended
 from frames import ABANDON, APPEND, BLOB_UNKNOWN, CLOSE, DELETE, DELETE_MANIFEST, DIGEST_INVALID, FETCH, GET_MANIFEST, GIVE_BACK, LEASE
-from frames import MANIFEST_UNKNOWN, MOUNT, PUT_MANIFEST, READ, REFERENCED, START, STATUS, SWEEP, UPLOAD_UNKNOWN, USAGE, reply, request
+from frames import MANIFEST_UNKNOWN, MOUNT, PUT_MANIFEST, READ, REFERENCED, SLOT_USE, START, STATUS, SWEEP, UNLIMITED, UPLOAD_UNKNOWN, USAGE, reply, request
 from frames import sha256
 
 MIB = 1 << 20
@@ -149,9 +149,13 @@ class State:
     def counts_use(self):
         return Step(request(USAGE, f"{self.tenant}/one"), reply(first=self.use(), second=QUOTA), self, READS)
 
+    def counts_blobs(self):
+        blobs = len({digest for _, digest in self.links})
+        return Step(request(SLOT_USE, f"{self.tenant}/one"), reply(first=blobs, second=UNLIMITED), self, READS)
+
     def observed(self, names):
-        """Returns all steps that read what has these names, and the use."""
-        return [self.counts_use()] + [step for name in sorted(names, key=str) for step in self.finds(name)]
+        """Returns all steps that read what has these names, the use and the number of blobs."""
+        return [self.counts_use(), self.counts_blobs()] + [step for name in sorted(names, key=str) for step in self.finds(name)]
 
 
 def some_bytes(rng):

@@ -25,6 +25,8 @@ pub struct Backlog<E, N: Naming<E>> {
     pub(crate) pending: Pending,
     /// The number of bytes of the history that are durable.
     pub(crate) synced: u64,
+    /// The number of syncs of the device.
+    pub(crate) syncs: u64,
     /// What is known to be durable.
     pub(crate) durable_marks: SharedLog<HistoryMark<E>>,
     /// What the device took over.
@@ -66,6 +68,7 @@ impl<E, N: Naming<E>> Backlog<E, N> {
             history,
             pending: Pending::new(alloc),
             synced: 0,
+            syncs: 0,
             durable_marks,
             taken_marks,
             of: PhantomData,
@@ -107,6 +110,11 @@ impl<E, N: Naming<E>> Backlog<E, N> {
         ensures { result ≡ length self.now.pending.segments.bytes }
     {
         self.pending.len()
+    }
+
+    /// Returns how often the device has made known that what it took over is durable. No contract describes this number.
+    pub fn sync_count(&self) -> u64 {
+        self.syncs
     }
 
     /// Makes room for a record of this number of bytes, if the log records.

@@ -229,6 +229,7 @@ impl<E, N: Naming<E>, D: Disk> LogDevice<E, N, D> {
         backlog.taken_marks.catch_up(&mut self.taker);
         mark_last(&mut backlog.durable_marks, &mut self.marker, &self.taker);
         backlog.synced = self.given;
+        backlog.syncs = backlog.syncs.wrapping_add(1);
     }
 
     /// Makes known that all that the device took over is durable: to the backlog, and to a writer that has seen no more.

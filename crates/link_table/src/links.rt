@@ -9,7 +9,7 @@ ghost use Rattle.blob_digest.specs.declared.refusal.Refusal.TheVariants.{Memory}
 ghost use Rattle.link_table.specs.ManifestTable.{referrer_on, manifests_on, Fulfils};
 ghost use Rattle.link_table.specs.Manifests.{found_bytes, found_manifest};
 ghost use Rattle.link_table.specs.TenantRepos.{empty_tenant};
-ghost use Rattle.link_table.specs.Linked.{is_repo_of_tenant, known_tenant, name_at, used_in, quota_in, blobs_of, repos_of, blobs_in, first_unlinked, link, unlink, passes_share, share_in, put_manifest, drop_manifest, charge, discharge, appear, vanish, IsSizeOf, HasNoLinks};
+ghost use Rattle.link_table.specs.Linked.{is_repo_of_tenant, known_tenant, name_at, used_in, quota_in, blobs_of, repos_of, blobs_in, tenant_repo_count, first_unlinked, link, unlink, passes_share, share_in, put_manifest, drop_manifest, charge, discharge, appear, vanish, IsSizeOf, HasNoLinks};
 ghost use Rattle.link_table.specs.Tenancy.{Opens, AreTenants, RefusesTenants, tenants_shown};
 
 use crate::blobs::Blobs;
@@ -371,8 +371,23 @@ impl Links {
         requires { tenant < length self.now.tenants }
         ensures { result ≡ nat_le (share_in self.now.tenants tenant) (fmap.len (blobs_of self.now tenant)) }
     {
-        let count = digest_count(&self.holders[tenant as usize]);
-        self.share(tenant) as usize <= count
+        u64::from(self.share(tenant)) <= self.blob_count(tenant)
+    }
+
+    /// Returns the number of distinct blobs that a tenant's repositories contain. Constant time.
+    pub fn blob_count(&self, tenant: u16) -> u64
+        requires { tenant < length self.now.tenants }
+        ensures { result ≡ fmap.len (blobs_of self.now tenant) }
+    {
+        digest_count(&self.holders[tenant as usize]) as u64
+    }
+
+    /// Returns the number of a tenant's repositories. Constant time.
+    pub fn repo_count(&self, tenant: u16) -> u64
+        requires { tenant < length self.now.tenants }
+        ensures { result ≡ tenant_repo_count self.now.tenants self.now.repos tenant }
+    {
+        self.repos[tenant as usize].count() as u64
     }
 
     /// Returns a tenant's repository at index `i`, in the order of their names. Constant time.

@@ -141,6 +141,13 @@ impl TenantRepos {
         }
     }
 
+    /// Returns the number of repositories.
+    pub fn count(&self) -> usize
+        ensures { result ≡ repo_count self.now }
+    {
+        self.repos.as_slice().len()
+    }
+
     /// Returns the repository at index `i`, in the order of their names.
     pub fn repo_at(&self, i: usize) -> Option<&RepoName>
         ensures { option_copied result ≡ slice_get (set.items self.now.repos) i }

@@ -147,6 +147,11 @@ impl<S: Naming> LockedBook<S> {
         self.history.backlog.pending_len()
     }
 
+    /// Returns how often the log was synced by a commit. No contract describes this number.
+    pub fn sync_count(&self) -> u64 {
+        self.history.backlog.sync_count()
+    }
+
     /// Ends the recording, after the disk has failed. No step is durable after it that is not durable yet.
     pub fn close_log(&mut self)
         ensures same { self.new ≡ self.old }

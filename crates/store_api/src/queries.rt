@@ -1,10 +1,10 @@
 //! The queries of a backend.
 ghost use Rattle.store_model.specs.Catalog.{Catalog};
 ghost use Rattle.store_api.specs.Queries.{IsQueryResult};
-ghost use Rattle.store_model.specs.Queries.{free_slots, stat, stat_manifest, usage};
+ghost use Rattle.store_model.specs.Queries.{free_slots, repo_count, slot_use, stat, stat_manifest, usage};
 
 use blob_digest::{Digest, Refusal, RepoName};
-use store_model::Usage;
+use store_model::{SlotUse, Usage};
 
 /// The queries of a backend, which change nothing.
 ///
@@ -25,6 +25,17 @@ pub trait Queries {
     /// Returns the usage and the quota of a repository's tenant.
     fn usage(&self, repo: &RepoName) -> Result<Usage, Refusal>
         ensures { IsQueryResult finds self.now (λ c. usage c repo.now) result };
+
+    /// Returns the number of the distinct blobs of a repository's tenant, and its share of the slots.
+    fn slot_use(&self, repo: &RepoName) -> Result<SlotUse, Refusal>
+        ensures { IsQueryResult finds self.now (λ c. slot_use c repo.now) result };
+
+    /// Returns the number of the repositories of a repository's tenant.
+    fn repo_count(&self, repo: &RepoName) -> Result<u64, Refusal>
+        ensures { IsQueryResult finds self.now (λ c. repo_count c repo.now) result };
+
+    /// Returns how often the log was synced, for those who watch the store. No contract describes this number.
+    fn sync_count(&self) -> u64;
 
     /// Returns the number of free slots.
     fn free_slots(&self) -> u32

@@ -13,4 +13,10 @@ pub enum Query {
     FreeSlots,
     /// Reads the usage and the quota of a repository's tenant.
     Usage { repo: RepoName },
+    /// Reads the number of the distinct blobs of a repository's tenant, and its share of the slots.
+    SlotUse { repo: RepoName },
+    /// Reads the number of the repositories of a repository's tenant.
+    RepoCount { repo: RepoName },
+    /// Reads how often the log was synced.
+    SyncCount,
 }

@@ -32,4 +32,4 @@ pub use config::Config;
 pub use lease::{Lease, PinsName};
 pub use link_table::{MAX_QUOTA, MAX_TENANTS, TenantSettings, UNLIMITED_SHARE};
 pub use slot_table::MAX_SLOTS;
-pub use store_model::{Mount, Swept, Usage};
+pub use store_model::{Mount, SlotUse, Swept, Usage};

@@ -1,14 +1,14 @@
-//! Queries of a book: the sizes of blobs and manifests, a tenant's use, and the number of free slots. They allocate
+//! Queries of a book: the sizes of blobs and manifests, what a tenant uses, and the number of free slots. They allocate
 //! no memory, and no total counts them.
 
 ghost use Rattle.std.specs.Prelude.{◌≡◌, count_by};
 ghost use Rattle.store_book.specs.FreeSlots.{is_free};
-ghost use Rattle.store_model.specs.Queries.{stat, stat_manifest, usage, free_slots};
+ghost use Rattle.store_model.specs.Queries.{stat, stat_manifest, usage, slot_use, repo_count, free_slots};
 
 use crate::book::Book;
 use crate::keep::{find_linked, held_len};
 use blob_digest::{Digest, Refusal, RepoName};
-use store_model::Usage;
+use store_model::{SlotUse, Usage};
 
 impl Book {
     /// Returns the size in bytes of a blob that is linked in a repository (OCI Distribution Specification 1.1,
@@ -69,6 +69,37 @@ impl Book {
             used: self.links.used(tenant),
             quota: self.links.quota(tenant),
         })
+    }
+
+    /// Returns the number of the distinct blobs of a repository's tenant, and its share.
+    ///
+    /// # Errors
+    /// - `NameUnknown` if the tenant does not exist.
+    ///
+    /// # Cost
+    /// As `usage`.
+    pub fn slot_use(&self, repo: &RepoName) -> Result<SlotUse, Refusal>
+        ensures { result ≡ slot_use self.now.catalog repo.now }
+    {
+        let tenant = self.links.tenant(repo)?;
+        Ok(SlotUse {
+            blobs: self.links.blob_count(tenant),
+            share: self.links.share(tenant),
+        })
+    }
+
+    /// Returns the number of the repositories of a repository's tenant.
+    ///
+    /// # Errors
+    /// - `NameUnknown` if the tenant does not exist.
+    ///
+    /// # Cost
+    /// As `usage`.
+    pub fn repo_count(&self, repo: &RepoName) -> Result<u64, Refusal>
+        ensures { result ≡ repo_count self.now.catalog repo.now }
+    {
+        let tenant = self.links.tenant(repo)?;
+        Ok(self.links.repo_count(tenant))
     }
 
     /// Returns how many slots are free: before the next sweep, that many blobs with new digests can be closed.

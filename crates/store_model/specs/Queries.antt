@@ -3,8 +3,9 @@ use Rattle.std.specs.Prelude.{ℕ, ◌+◌, ◌-◌, Result, Ok, length}
 use Rattle.std.specs.FinMap as fmap
 use Rattle.blob_digest.specs.declared.refusal.Refusal.{Refusal}
 use Rattle.spec_lib.specs.Texts.{Text}
-use Rattle.store_model.specs.Catalog.{Catalog, quota_of, used_bytes}
+use Rattle.store_model.specs.Catalog.{Catalog, held_count, quota_of, share_of, tenant_repo_count, used_bytes}
 use Rattle.store_model.specs.Commands.{◌>>=◌, tenant, linked_blob, get_manifest}
+use Rattle.store_model.specs.declared.slot_use.SlotUse.{SlotUse}
 use Rattle.store_model.specs.declared.usage.Usage.{Usage}
 
 -- the size of a blob that a repository contains (OCI Distribution Specification 1.1, "Checking if content exists in the registry")
@@ -25,6 +26,18 @@ abbrev pub usage : Catalog → Text → Result Usage Refusal
 usage C repo = do
   t ← tenant C repo
   Ok (record { used = used_bytes C t; quota = quota_of C t })
+
+-- the number of the distinct blobs of a repository's tenant, and its share
+abbrev pub slot_use : Catalog → Text → Result SlotUse Refusal
+slot_use C repo = do
+  t ← tenant C repo
+  Ok (record { blobs = held_count C t; share = share_of C t })
+
+-- the number of the repositories of a repository's tenant
+abbrev pub repo_count : Catalog → Text → Result ℕ Refusal
+repo_count C repo = do
+  t ← tenant C repo
+  Ok (tenant_repo_count C.tenants C.repos t)
 
 -- the number of slots that are neither used nor retired
 abbrev pub free_slots : Catalog → ℕ

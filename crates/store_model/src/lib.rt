@@ -10,9 +10,11 @@
 
 pub mod laws;
 mod mount;
+mod slot_use;
 mod swept;
 mod usage;
 
 pub use mount::Mount;
+pub use slot_use::SlotUse;
 pub use swept::Swept;
 pub use usage::Usage;

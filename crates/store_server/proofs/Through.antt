@@ -10,11 +10,12 @@ use Rattle.store_api.specs.Answers.{Answer, Bytes, Refused, Swept}
 use Rattle.store_api.specs.Commands.{Calls, Command, StoreRequest, Sweeps}
 use Rattle.store_api.specs.Steps.{StepOf}
 use Rattle.store_api.specs.declared.query.Query.{Query}
+use Rattle.store_api.specs.declared.query.Query.TheVariants as asked
 use Rattle.store_api.specs.declared.verb.Verb.{Verb}
 use Rattle.store_api.specs.declared.verb.Verb.TheVariants as verb
 use Rattle.wire_server.specs.LeaseEvents.{TableEvent, LeaseKept, LeaseNotKept, PieceRead, PieceNotRead, LeaseGivenBack, LeaseNotGivenBack}
 use Rattle.wire_server.specs.Outcomes.{RequestResult, Answered, NewLease, Fetched, QueryNumbers, NoCommand}
-use Rattle.wire_server.specs.Queries.{QueryStep}
+use Rattle.wire_server.specs.Queries.{IsQueryOutcome, QueryStep}
 use Rattle.wire_server.specs.Requests.{ends_of, request_command}
 use Rattle.wire_server.specs.Connections.{Frame, ServesConnection, ServesRequests, ServesFrames}
 use Rattle.wire_server.specs.Steps.{CommandStep, FetchesPiece, FetchStep, GiveBackStep, LeaseStep, LeasesBlob, NoVerbStep, ReadStep, RequestStep, VerbStep}
@@ -91,8 +92,17 @@ module _ {S T U V : Type 0} (shown : S → U) (lent : T → V)
   give_back_through number old new outcome (inl h) = inl (h.0, lends old (LeaseGivenBack number) new h.1)
   give_back_through number old new outcome (inr h) = inr (h.0, lends old (LeaseNotGivenBack number) new h.1)
 
+  found_through : (query : Query) (store : S) (outcome : RequestResult) → IsQueryOutcome finds store query outcome → IsQueryOutcome to_find (shown store) query outcome
+  found_through (asked.Stat repo digest) store outcome h = (h.0, shows store h.0 h.1, h.2)
+  found_through (asked.StatManifest repo digest) store outcome h = (h.0, shows store h.0 h.1, h.2)
+  found_through asked.FreeSlots store outcome h = (h.0, shows store h.0 h.1, h.2)
+  found_through (asked.Usage repo) store outcome h = (h.0, shows store h.0 h.1, h.2)
+  found_through (asked.SlotUse repo) store outcome h = (h.0, shows store h.0 h.1, h.2)
+  found_through (asked.RepoCount repo) store outcome h = (h.0, shows store h.0 h.1, h.2)
+  found_through asked.SyncCount store outcome h = h
+
   query_through : (store : S) (spelled : Result (Option Query) Refusal) (outcome : RequestResult) → QueryStep finds store spelled outcome → QueryStep to_find (shown store) spelled outcome
-  query_through store (Ok (Some query)) outcome h = (h.0, shows store h.0 h.1, h.2)
+  query_through store (Ok (Some query)) outcome h = found_through query store outcome h
   query_through store (Ok None) outcome h = h
   query_through store (Err refusal) outcome h = h
 

@@ -8,9 +8,10 @@ use Rattle.spec_lib.specs.Texts.{Text}
 use Rattle.store_api.specs.Answers.{Refused}
 use Rattle.store_api.specs.Commands.{digest_in, repo_in}
 use Rattle.store_api.specs.declared.query.Query.{Query}
-use Rattle.store_api.specs.declared.query.Query.TheVariants.{Stat, StatManifest, FreeSlots, Usage}
+use Rattle.store_api.specs.declared.query.Query.TheVariants.{Stat, StatManifest, FreeSlots, SyncCount, Usage, SlotUse, RepoCount}
 use Rattle.store_model.specs.Catalog.{Catalog}
 use Rattle.store_model.specs.Queries as queries
+use Rattle.store_model.specs.declared.slot_use.SlotUse.{SlotUse as SlotUseView}
 use Rattle.store_model.specs.declared.usage.Usage.{Usage as UsageView}
 use Rattle.wire_server.specs.Outcomes.{RequestResult, Answered, QueryNumbers, NoCommand}
 
@@ -34,6 +35,9 @@ request_query h payload =
     else if h.command == 18 then blob_query StatManifest (repo_in (repo_of h payload)) (digest_in (digest_of h payload))
     else if h.command == 19 then Ok (Some FreeSlots)
     else if h.command == 20 then repo_query Usage (repo_in (repo_of h payload))
+    else if h.command == 23 then repo_query SlotUse (repo_in (repo_of h payload))
+    else if h.command == 24 then repo_query RepoCount (repo_in (repo_of h payload))
+    else if h.command == 25 then Ok (Some SyncCount)
     else Ok None
 
 -- the query that a request frame spells
@@ -42,32 +46,40 @@ query_in request = request_query request.head request.payload.now
 
 -- whether the number is that of a query with a field to spell
 abbrev pub query_has_fields : ℕ → Bool
-query_has_fields n = if n == 17 then true else if n == 18 then true else n == 20
+query_has_fields n = if n == 17 then true else if n == 18 then true else if n == 20 then true else if n == 23 then true else n == 24
 
 -- ---- the result of a query
 
--- the outcome that reports a size
-abbrev pub size_outcome : Result ℕ Refusal → RequestResult
-size_outcome (Ok size) = QueryNumbers size 0
-size_outcome (Err refusal) = Answered (Refused refusal)
+-- the outcome that reports one number
+abbrev pub number_outcome : Result ℕ Refusal → RequestResult
+number_outcome (Ok number) = QueryNumbers number 0
+number_outcome (Err refusal) = Answered (Refused refusal)
 
 -- the outcome that reports a tenant's use and quota
 abbrev pub usage_outcome : Result UsageView Refusal → RequestResult
 usage_outcome (Ok usage) = QueryNumbers usage.used usage.quota
 usage_outcome (Err refusal) = Answered (Refused refusal)
 
--- the outcome of a query that a catalog determines
-abbrev pub query_outcome : Catalog → Query → RequestResult
-query_outcome C (Stat repo digest) = size_outcome (queries.stat C repo digest)
-query_outcome C (StatManifest repo digest) = size_outcome (queries.stat_manifest C repo digest)
-query_outcome C FreeSlots = QueryNumbers (queries.free_slots C) 0
-query_outcome C (Usage repo) = usage_outcome (queries.usage C repo)
+-- the outcome that reports a tenant's blobs and share
+abbrev pub slot_use_outcome : Result SlotUseView Refusal → RequestResult
+slot_use_outcome (Ok slot_use) = QueryNumbers slot_use.blobs slot_use.share
+slot_use_outcome (Err refusal) = Answered (Refused refusal)
 
 -- ---- steps
 
--- the outcome is that of the query in a catalog that the store finds
+-- the outcome is this one of a catalog that the store finds
+abbrev pub IsOutcomeFound : {S : Type 0} → (S → Catalog → Type 0) → S → (Catalog → RequestResult) → RequestResult → Type 0
+IsOutcomeFound finds store of outcome = (catalog : Catalog) × finds store catalog × (outcome ≡ of catalog)
+
+-- the outcome is that of the query in a catalog that the store finds; no catalog determines the number of syncs
 abbrev pub IsQueryOutcome : {S : Type 0} → (S → Catalog → Type 0) → S → Query → RequestResult → Type 0
-IsQueryOutcome finds store query outcome = (catalog : Catalog) × finds store catalog × (outcome ≡ query_outcome catalog query)
+IsQueryOutcome finds store (Stat repo digest) outcome = IsOutcomeFound finds store (λ C. number_outcome (queries.stat C repo digest)) outcome
+IsQueryOutcome finds store (StatManifest repo digest) outcome = IsOutcomeFound finds store (λ C. number_outcome (queries.stat_manifest C repo digest)) outcome
+IsQueryOutcome finds store FreeSlots outcome = IsOutcomeFound finds store (λ C. QueryNumbers (queries.free_slots C) 0) outcome
+IsQueryOutcome finds store (Usage repo) outcome = IsOutcomeFound finds store (λ C. usage_outcome (queries.usage C repo)) outcome
+IsQueryOutcome finds store (SlotUse repo) outcome = IsOutcomeFound finds store (λ C. slot_use_outcome (queries.slot_use C repo)) outcome
+IsQueryOutcome finds store (RepoCount repo) outcome = IsOutcomeFound finds store (λ C. number_outcome (queries.repo_count C repo)) outcome
+IsQueryOutcome finds store SyncCount outcome = (syncs : ℕ) × (outcome ≡ QueryNumbers syncs 0)
 
 -- the outcome is that of the spelled query, of a refused field, or of a request without a command
 abbrev pub QueryStep : {S : Type 0} → (S → Catalog → Type 0) → S → Result (Option Query) Refusal → RequestResult → Type 0

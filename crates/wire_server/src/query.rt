@@ -3,13 +3,13 @@ ghost use Rattle.std.specs.Prelude.{◌≡◌, true, IsErrOf};
 ghost use Rattle.blob_digest.specs.Outcomes.{Answers};
 ghost use Rattle.blob_digest.specs.declared.refusal.Refusal.TheVariants.{Memory};
 ghost use Rattle.wire_server.specs.Outcomes.{outcome_of};
-ghost use Rattle.wire_server.specs.Queries.{IsQueryOutcome, query_has_fields, query_in, size_outcome, usage_outcome};
+ghost use Rattle.wire_server.specs.Queries.{IsQueryOutcome, query_has_fields, query_in, number_outcome, slot_use_outcome, usage_outcome};
 
 use crate::outcome::RequestResult;
 use blob_digest::Refusal;
 use std::alloc::Global;
 use store_api::{Queries, Query, Reply, digest_in, repo_in};
-use store_model::Usage;
+use store_model::{SlotUse, Usage};
 use wire_format::RequestFrame;
 
 /// Returns the query that a request spells. Returns `None` if no query has the number of its first byte.
@@ -35,17 +35,24 @@ pub fn request_query(alloc: Global, request: &RequestFrame<'_>) -> Result<Option
         20 => Ok(Some(Query::Usage {
             repo: repo_in(alloc, request.repo())?,
         })),
+        23 => Ok(Some(Query::SlotUse {
+            repo: repo_in(alloc, request.repo())?,
+        })),
+        24 => Ok(Some(Query::RepoCount {
+            repo: repo_in(alloc, request.repo())?,
+        })),
+        25 => Ok(Some(Query::SyncCount)),
         _ => Ok(None),
     }
 }
 
-/// Returns the outcome that reports a size.
-fn size_outcome(size: Result<u64, Refusal>) -> RequestResult
-    ensures { outcome_of result ≡ size_outcome size }
+/// Returns the outcome that reports one number.
+fn number_outcome(number: Result<u64, Refusal>) -> RequestResult
+    ensures { outcome_of result ≡ number_outcome number }
 {
-    match size {
-        Ok(size) => RequestResult::QueryNumbers {
-            first: size,
+    match number {
+        Ok(number) => RequestResult::QueryNumbers {
+            first: number,
             second: 0,
         },
         Err(refusal) => RequestResult::Answered(Reply::Refused(refusal)),
@@ -65,17 +72,36 @@ fn usage_outcome(usage: Result<Usage, Refusal>) -> RequestResult
     }
 }
 
+/// Returns the outcome that reports a tenant's blobs and share.
+fn slot_use_outcome(slot_use: Result<SlotUse, Refusal>) -> RequestResult
+    ensures { outcome_of result ≡ slot_use_outcome slot_use }
+{
+    match slot_use {
+        Ok(slot_use) => RequestResult::QueryNumbers {
+            first: slot_use.blobs,
+            second: u64::from(slot_use.share),
+        },
+        Err(refusal) => RequestResult::Answered(Reply::Refused(refusal)),
+    }
+}
+
 /// Returns the outcome of a query on the store. It does not allocate.
 pub(crate) fn query_store<B: Queries>(store: &B, query: &Query) -> RequestResult
     ensures { IsQueryOutcome B.finds store.now query.now (outcome_of result) }
 {
     match query {
-        Query::Stat { repo, digest } => size_outcome(store.stat(repo, digest)),
-        Query::StatManifest { repo, digest } => size_outcome(store.stat_manifest(repo, digest)),
+        Query::Stat { repo, digest } => number_outcome(store.stat(repo, digest)),
+        Query::StatManifest { repo, digest } => number_outcome(store.stat_manifest(repo, digest)),
         Query::FreeSlots => RequestResult::QueryNumbers {
             first: u64::from(store.free_slots()),
             second: 0,
         },
         Query::Usage { repo } => usage_outcome(store.usage(repo)),
+        Query::SlotUse { repo } => slot_use_outcome(store.slot_use(repo)),
+        Query::RepoCount { repo } => number_outcome(store.repo_count(repo)),
+        Query::SyncCount => RequestResult::QueryNumbers {
+            first: store.sync_count(),
+            second: 0,
+        },
     }
 }

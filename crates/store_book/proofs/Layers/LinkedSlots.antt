@@ -1,13 +1,13 @@
 -- The slot of a blob that is linked in a repository of the book.
 use Rattle.std.proofs.Common.{◌≡◌, ℕ, Bool, true, false, not, Option, Some, None, is_some, refl, sym, ap, ◌∙◌}
 use Rattle.std.specs.Prelude.{◌&&◌, nat_le, if◌then◌else◌}
-use Rattle.std.specs.FinMap.{get, contains_key}
+use Rattle.std.specs.FinMap.{get, contains_key, len}
 use Rattle.slot_table.specs.Slots.{StoredBlob, slot_of, stored_blob_at}
 use Rattle.std.proofs.lemmas.Bool.{true≢false, false_from_ne_true, and_from}
 use Rattle.link_table.specs.Linked.{is_repo_of_tenant, blobs_of, passes_share as links_pass_share}
 use Rattle.link_table.proofs.Weights.{IsBlobs, IsBlobs-blobs}
 use Rattle.spec_lib.specs.Texts.{Text}
-use Rattle.store_model.specs.Catalog.{Resident, Catalog, is_repo_of, holds, share_of, tenant_holds}
+use Rattle.store_model.specs.Catalog.{Resident, Catalog, is_repo_of, holds, share_of, tenant_holds, held_count}
 use Rattle.store_model.specs.Commands.{has_source, passes_share}
 use Rattle.store_book.specs.Internal.Storing.{linked_slot, source_slot}
 use Rattle.store_book.specs.Layers.{Layers, lent_marks, resident_of, book_catalog, IsBook}
@@ -92,9 +92,13 @@ module _ (L : Layers) (book : IsBook L) where
           sym (is_held C t q.0 d (book.sound.lawful.links (q.0, d) has).repo q.1 has)
       by false none = sym (no_holder t d none)
 
+  -- a tenant's blobs in the links are as many as it holds
+  pub blobs_counted : (t : ℕ) → len (blobs_of L.links t) ≡ held_count C t
+  blobs_counted t = held_count-by_keys C book.sound.lawful t (blobs_of L.links t) (λ d. tenant_blobs t d)
+
   -- the links and the catalog agree on whether a tenant's share admits a digest
   pub share_is : (t : ℕ) (d : Text) → links_pass_share L.links t d ≡ passes_share C t d
-  share_is t d = λ i. not (tenant_blobs t d i) && nat_le (share_of C t) (held_count-by_keys C book.sound.lawful t (blobs_of L.links t) (λ x. tenant_blobs t x) i)
+  share_is t d = λ i. not (tenant_blobs t d i) && nat_le (share_of C t) (blobs_counted t i)
 
   -- the source contains the digest, and this is its slot
   pub source_some : (t : ℕ) (from : Option Text) (d : Text) (k : ℕ) → source_slot L.links L.slots t from d ≡ Some k → (has_source C t d from ≡ true) × (slot_of L.slots d ≡ Some k)

@@ -1,21 +1,22 @@
 -- The queries of a book, by the clauses of their calls of the layers.
 use Rattle.std.proofs.Common.{◌≡◌, ℕ, ◌+◌, ◌<◌, Bool, true, false, cond, List, [], ◌∷◌, length, Some, None, Ok, Err, refl, sym, ap, ◌∙◌, arith}
 use Rattle.std.specs.Option.{option_map_or}
+use Rattle.std.specs.FinMap.{len}
 use Rattle.std.specs.List.{count_by}
 use Rattle.std.proofs.lemmas.List.Sums.{sum_by-cons}
 use Rattle.blob_digest.specs.declared.refusal.Refusal.TheVariants.{BlobUnknown}
 use Rattle.spec_lib.specs.Texts.{Text}
 use Rattle.slot_table.specs.declared.phase.Phase.TheVariants as phase
 use Rattle.slot_table.specs.Slots.{Slot, StoredBlob, SlotContent, Free, Used, Retired, stored_blob_at, is_free as is_free_slot, free_slots as free_count}
-use Rattle.link_table.specs.Linked.{known_tenant, used_in, quota_in}
+use Rattle.link_table.specs.Linked.{known_tenant, used_in, quota_in, blobs_of, share_in, tenant_repo_count}
 use Rattle.store_model.specs.Catalog.{Catalog}
-use Rattle.store_model.specs.Queries.{stat, usage, free_slots}
+use Rattle.store_model.specs.Queries.{stat, usage, slot_use, repo_count, free_slots}
 use Rattle.store_book.specs.BookState.{SlotView}
 use Rattle.store_book.specs.FreeSlots.{is_free}
 use Rattle.store_book.specs.Internal.Storing.{bytes_at, linked_slot}
 use Rattle.store_book.specs.Layers.{Layers, lent_marks, book_catalog, IsBook}
 use Rattle.store_book.specs.Pinned.{Pinned, slot_view, slot_views, slot_views_of, with_looks}
-use Rattle.store_book.proofs.Layers.LinkedSlots.{linked_none}
+use Rattle.store_book.proofs.Layers.LinkedSlots.{blobs_counted, linked_none}
 use Rattle.store_book.proofs.Layers.Ties.{rooms}
 use Rattle.store_book.proofs.Refine.Lease.{held, has, resident}
 use Rattle.store_book.proofs.Refine.Take.{use_is}
@@ -28,6 +29,12 @@ module _ (L : Layers) (t : ℕ) (repo : Text) (book : IsBook L) (known : known_t
   -- the running numbers are those of the catalog
   pub usage_is : t < length L.links.tenants → usage C repo ≡ Ok (record { used = used_in L.links t; quota = quota_in L.links.tenants t })
   usage_is there = rw known (λ i. Ok (record { used = sym (use_is L t book there) i; quota = quota_in L.links.tenants t }))
+
+  pub slot_use_is : slot_use C repo ≡ Ok (record { blobs = len (blobs_of L.links t); share = share_in L.links.tenants t })
+  slot_use_is = rw known (λ i. Ok (record { blobs = sym (blobs_counted L book t) i; share = share_in L.links.tenants t }))
+
+  pub repo_count_is : repo_count C repo ≡ Ok (tenant_repo_count L.links.tenants L.links.repos t)
+  repo_count_is = rw known refl
 
   module _ (digest : Text) where
     pub stat_unknown : linked_slot L.links L.slots repo digest ≡ None → stat C repo digest ≡ Err BlobUnknown

@@ -12,7 +12,7 @@ use Rattle.spec_lib.specs.Texts.{Text}
 use Rattle.store_model.specs.Catalog.{Tenant, Catalog, Resident, used_bytes, link_count, opening}
 use Rattle.store_model.specs.Commands.{start, append, with_new_session, mount, with_link, delete}
 use Rattle.store_model.specs.BookText.{book_text}
-use Rattle.store_model.specs.Queries.{stat, stat_manifest, usage, free_slots}
+use Rattle.store_model.specs.Queries.{stat, stat_manifest, usage, slot_use, repo_count, free_slots}
 use Rattle.blob_digest.proofs.KeyOrders.{number_cmp_total, link_cmp_total}
 use Rattle.spec_lib.proofs.Rows.{entries-empty}
 
@@ -178,6 +178,19 @@ use_of_the_other_tenant = simp (entries-insert {X = Unit {0}} nat_list_cmp_total
 
 use_of_nobody : usage two_links (codes "nobody/x") ≡ Err NameUnknown
 use_of_nobody = refl
+
+-- one blob in two repositories counts once
+blobs_of_the_tenant : slot_use two_links one ≡ Ok (record { blobs = 1; share = 4294967295 })
+blobs_of_the_tenant = simp (entries-insert {X = Unit {0}} nat_list_cmp_total, entries-insert {X = Unit {0}} link_cmp_total, entries-empty) refl
+
+blobs_of_nobody : slot_use two_links (codes "nobody/x") ≡ Err NameUnknown
+blobs_of_nobody = refl
+
+repos_of_the_tenant : repo_count two_links one ≡ Ok 2
+repos_of_the_tenant = simp (entries-insert {X = Unit {0}} nat_list_cmp_total, entries-empty) refl
+
+repos_of_nobody : repo_count two_links (codes "nobody/x") ≡ Err NameUnknown
+repos_of_nobody = refl
 
 -- of 64 slots one is used and two are retired
 free_beside_retired : free_slots (record two_links { retired = 2 }) ≡ 61
