@@ -38,6 +38,7 @@ use std::sync::atomic::AtomicU64;
 use std::sync::{Arc, Mutex, MutexGuard, Wait};
 use std::time::Duration;
 use store_book::{Mount, Swept};
+use upload_table::Hashing;
 
 /// A store that threads share: the pins, and one lock around the book with the totals.
 ///
@@ -301,6 +302,25 @@ impl<S: Naming> Store<S> {
         ensures ends { IfOk result (λ n. IfSome range (λ r. n ≡ r.end + 1)) }
         ensures steps { AppendsTo S.names repo.now number range bytes.now result desk.old desk.new }
     {
+        self.append_by(rt, desk, repo, number, range, bytes, Hashing::Open)
+    }
+
+    /// Adds a chunk to a session as `append` does, but hashes it as `hashing` says.
+    pub fn append_by(
+        &self,
+        rt: &impl Wait,
+        desk: &mut Desk<S>,
+        repo: &RepoName,
+        number: u32,
+        range: Option<ByteRange>,
+        bytes: &[u8],
+        hashing: Hashing<'_>,
+    ) -> Result<u64, Refusal>
+        ensures ok { OnOk result (CountsCommand (length bytes.now) 0 desk.old desk.new) }
+        ensures err { OnErr result (KeepsAmounts desk.old desk.new) }
+        ensures ends { IfOk result (λ n. IfSome range (λ r. n ≡ r.end + 1)) }
+        ensures steps { AppendsTo S.names repo.now number range bytes.now result desk.old desk.new }
+    {
         let len = bytes.len() as u64;
         let hand = self.locked(rt).take(desk, repo, number, range, len)?;
         let record = match chunk_record(self.alloc, self.policy, repo, number, bytes) {
@@ -310,7 +330,7 @@ impl<S: Naming> Store<S> {
                 return Err(refusal);
             }
         };
-        match hand.fill(bytes) {
+        match hand.fill_by(bytes, hashing) {
             Ok(hand) => self.locked(rt).put_back(desk, hand, record),
             Err(hand) => {
                 let _ = self.locked(rt).cancel(desk, hand);
@@ -344,8 +364,30 @@ impl<S: Naming> Store<S> {
         ensures steps { ClosesSession S.names repo.now number digest.now range bytes.now
             result desk.old desk.new }
     {
+        let hashing = Hashing::Last(digest.algorithm());
+        self.close_by(rt, desk, repo, number, digest, range, bytes, hashing)
+    }
+
+    /// Closes a session as `close` does, but hashes its bytes as `hashing` says. If they were not hashed by the algorithm
+    /// of the digest before the lock is taken again, they are hashed under the lock.
+    pub fn close_by(
+        &self,
+        rt: &impl Wait,
+        desk: &mut Desk<S>,
+        repo: &RepoName,
+        number: u32,
+        digest: &Digest,
+        range: Option<ByteRange>,
+        bytes: &[u8],
+        hashing: Hashing<'_>,
+    ) -> Result<u64, Refusal>
+        ensures ok { IfOk result (λ n. CountsCommand (length bytes.now) n desk.old desk.new) }
+        ensures err { OnErr result (KeepsAmounts desk.old desk.new) }
+        ensures ends { IfOk result (λ n. IfSome range (λ r. n ≡ r.end + 1)) }
+        ensures steps { ClosesSession S.names repo.now number digest.now range bytes.now
+            result desk.old desk.new }
+    {
         let len = bytes.len() as u64;
-        let algorithm = digest.algorithm();
         let hand = self.locked(rt).take(desk, repo, number, range, len)?;
         let record = match seal_record(self.alloc, self.policy, repo, number, digest, bytes) {
             Ok(record) => record,
@@ -354,7 +396,8 @@ impl<S: Naming> Store<S> {
                 return Err(refusal);
             }
         };
-        match hand.fill_last(bytes, algorithm) {
+        let filled = hand.fill_by(bytes, hashing);
+        match filled {
             Ok(hand) => self
                 .locked(rt)
                 .finish(&self.pins, desk, hand, digest, record),

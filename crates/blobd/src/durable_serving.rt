@@ -4,6 +4,7 @@ ghost use Rattle.blob_store.specs.DurableStates.{IsWholeOnSomeDisk};
 ghost use Rattle.blob_store.specs.Parts.{names_of};
 ghost use Rattle.store_server.specs.Connections.{AreServed, AreServedOn};
 
+use crate::hashers::Hashers;
 use blob_digest::Refusal;
 use blob_store::{Desk, LogPolicy, Naming, Parts, SharedLogDevice, Store, Totals};
 use durable_log::{CommitError, IdleDevice, LeaderCell};
@@ -11,7 +12,9 @@ use ghost_log::SharedLog;
 use lease_table::{LeaseEvent, LeaseNaming};
 use locked_book::{Step, StoreLog};
 use log_disk::{Disk, DiskError, FileDisk, ReplayedDisk};
-use log_folder::{FolderFile, LogPlace, NextSegments, OpenLog, Outcome, Segment, Watch, Work};
+use log_folder::{
+    FolderFile, HashedAhead, LogPlace, NextSegments, OpenLog, Outcome, Segment, Watch, Work,
+};
 use log_frames::Ending;
 use segmented_disk::SegmentedDisk;
 use std::alloc::{AllocError, Global};
@@ -19,9 +22,7 @@ use std::io::{self, ErrorKind, Read, Write};
 use std::marker::Brand;
 use std::sync::Wait;
 use std::thread::{self, Threads};
-use store_replay::{
-    Cause, ContinueError, Fault, NoSink, Replay, Replayed, continue_on_file, replay_log,
-};
+use store_replay::{Cause, ContinueError, Fault, Replay, Replayed, continue_on_file, replay_log};
 use store_server::{Connection, EndCell, serve_on};
 
 /// The log of a folder: its files are examined, and not yet replayed.
@@ -104,7 +105,7 @@ fn record_fault(place: LogPlace, fault: Option<Fault>) -> ServeFault {
 /// Returns why one of the log's files was not replayed to its end.
 fn fault_of<W: Wait, S: Naming>(
     start: LogPlace,
-    replayed: Replayed<'_, W, S, NoSink>,
+    replayed: Replayed<'_, W, S, HashedAhead>,
 ) -> ServeFault {
     let read = replayed.read();
     let fault = replayed.into_replay().into_fault();
@@ -124,10 +125,10 @@ fn replay_file<'s, W: Wait, S: Naming>(
     host: &HostRuntime,
     folder: &str,
     work: Work,
-    replay: Replay<'s, W, S, NoSink>,
+    replay: Replay<'s, W, S, HashedAhead>,
     buffer: &mut Vec<u8>,
     segment: &mut Segment,
-) -> Result<Replayed<'s, W, S, NoSink>, ServeFault> {
+) -> Result<Replayed<'s, W, S, HashedAhead>, ServeFault> {
     let (name, id, start) = (segment.name, segment.id, segment.place(0));
     let mut input = match segment.frames(host, folder, work) {
         Ok(input) => input,
@@ -145,10 +146,10 @@ fn replay_files<'s, W: Wait, S: Naming>(
     host: &HostRuntime,
     folder: &str,
     work: Work,
-    replay: Replay<'s, W, S, NoSink>,
+    replay: Replay<'s, W, S, HashedAhead>,
     buffer: &mut Vec<u8>,
     segments: &mut [Segment],
-) -> Result<Replay<'s, W, S, NoSink>, ServeFault> {
+) -> Result<Replay<'s, W, S, HashedAhead>, ServeFault> {
     let mut replay = replay;
     for segment in segments {
         let replayed = replay_file(host, folder, work, replay, buffer, segment)?;
@@ -168,6 +169,7 @@ fn replay_with_desk<W: Wait, S: Naming>(
     device: IdleDevice<Step, StoreLog<S>, ReplayedDisk>,
     log: OpenLog,
     next: NextSegments,
+    ahead: HashedAhead,
 ) -> Result<(Desk<S>, FolderLog<S>), ServeFault>
     requires written { device.written ≡ [] }
     requires durable { device.durable ≡ [] }
@@ -179,7 +181,7 @@ fn replay_with_desk<W: Wait, S: Naming>(
     } = log;
     let work = Work::begin(host, "replaying", last.end());
     let mut buffer = Vec::new(alloc);
-    let replay = Replay::new(rt, store, alloc, desk, device, NoSink);
+    let replay = Replay::new(rt, store, alloc, desk, device, ahead);
     let replay = replay_files(
         host,
         folder,
@@ -214,6 +216,7 @@ fn replay_on<W: Wait, S: Naming>(
     device: IdleDevice<Step, StoreLog<S>, ReplayedDisk>,
     log: OpenLog,
     next: NextSegments,
+    ahead: HashedAhead,
 ) -> Result<FolderLog<S>, ServeFault>
     requires written { device.written ≡ [] }
     requires durable { device.durable ≡ [] }
@@ -224,7 +227,9 @@ fn replay_on<W: Wait, S: Naming>(
     let Some(desk) = desks.pop() else {
         unreachable!()
     };
-    match replay_with_desk(rt, host, folder, alloc, store, desk, device, log, next) {
+    match replay_with_desk(
+        rt, host, folder, alloc, store, desk, device, log, next, ahead,
+    ) {
         Ok((desk, device)) => {
             desks.push_reserved(desk);
             store.settle(rt, desks);
@@ -310,8 +315,11 @@ fn serve_log_parts<
     let next = NextSegments::after(host, path, log.number, log.last.id);
     let replayed = ReplayedDisk::new(alloc)?;
     let (store, device) = Store::<S>::with_log(parts, replayed);
-    let device = replay_on(rt, &host, folder, alloc, &store, device, log, next)?;
-    let device = whole_log(rt, &store, device)?;
+    let hashers = Hashers::start(rt, host, folder, alloc, &log)?;
+    let ahead = hashers.observer()?;
+    let replayed = replay_on(rt, &host, folder, alloc, &store, device, log, next, ahead);
+    hashers.end(rt);
+    let device = whole_log(rt, &store, replayed?)?;
     start_watch(rt, watch);
     let device = LeaderCell::new(device);
     let totals = serve_on::<W, S, L, FolderDisk, I, O>(

@@ -22,6 +22,7 @@ ghost use Rattle.server_cli.specs.Stops.{stop_status};
 ghost use Rattle.server_cli.specs.Arguments.{IsWithin};
 
 mod durable_serving;
+mod hashers;
 mod log_service;
 mod totals;
 

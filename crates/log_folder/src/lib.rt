@@ -1,12 +1,16 @@
-//! The folder of a store's log: its lock, its files, how they are opened and mended after a crash, and how they are rewritten.
+//! The folder of a store's log: its lock, its files, how they are opened and mended after a crash, how their contents are hashed
+//! ahead of a replay, and how they are rewritten.
 //!
 //! `docs/LOG.md` has the layout.
 #![tactic(auto)]
 
+mod contents;
 mod damage;
 mod data_folder;
 mod error;
 mod folder_file;
+mod gathering;
+mod hash_ahead;
 mod listing;
 mod next_segments;
 mod opening;
@@ -19,6 +23,7 @@ pub use damage::Damage;
 pub use data_folder::DataFolder;
 pub use error::{FolderError, LogPlace};
 pub use folder_file::FolderFile;
+pub use hash_ahead::{HashAhead, HashedAhead};
 pub use next_segments::NextSegments;
 pub use opening::{OpenLog, accept_loss, open_log};
 pub use progress::{Progress, Work};

@@ -38,7 +38,7 @@ enum Repair {
 }
 
 /// Returns a reader of the frames of a segment.
-fn frames_of<'f>(
+pub(crate) fn frames_of<'f>(
     rt: &HostRuntime,
     segment: &'f mut Segment,
 ) -> Result<BufReader<&'f File>, FolderError> {

@@ -2,12 +2,13 @@
 
 use crate::fault::Cause;
 use crate::open_sessions::OpenSessions;
-use blob_digest::{Digest, Refusal, RepoName};
+use blob_digest::{Blob, Digest, Refusal, RepoName};
 use blob_store::{Desk, Naming, Store};
 use log_records::Change;
 use std::alloc::Global;
 use std::str;
 use std::sync::Wait;
+use upload_table::Hashing;
 
 /// Plays the changes of a log in a store: each by a call of the store at the caller's desk.
 ///
@@ -94,7 +95,7 @@ impl<'s, W: Wait, S: Naming> Player<'s, W, S> {
         }
     }
 
-    /// Adds a chunk to a session.
+    /// Adds a chunk to a session. Its bytes are hashed when the session is closed.
     fn append(
         &self,
         desk: &mut Desk<S>,
@@ -105,7 +106,11 @@ impl<'s, W: Wait, S: Naming> Player<'s, W, S> {
         let tenant = tenant_name(tenant)?;
         let number = session_number(number)?;
         let repo = self.repo_of_session(tenant, number)?;
-        match self.store.append(self.rt, desk, repo, number, None, bytes) {
+        let later = Hashing::Later;
+        match self
+            .store
+            .append_by(self.rt, desk, repo, number, None, bytes, later)
+        {
             Ok(_) => Ok(()),
             Err(refusal) => Err(self.refused(tenant, refusal)),
         }
@@ -119,19 +124,20 @@ impl<'s, W: Wait, S: Naming> Player<'s, W, S> {
         number: u32,
         digest: &Digest,
         last: &[u8],
+        hashing: Hashing<'_>,
     ) -> Result<u64, Refusal> {
         let first = self
             .store
-            .close(self.rt, desk, repo, number, digest, None, last);
+            .close_by(self.rt, desk, repo, number, digest, None, last, hashing);
         if !matches!(first, Err(Refusal::StoreFull)) {
             return first;
         }
         let _ = self.store.sweep_at(self.rt, desk);
         self.store
-            .close(self.rt, desk, repo, number, digest, None, last)
+            .close_by(self.rt, desk, repo, number, digest, None, last, hashing)
     }
 
-    /// Closes a session.
+    /// Closes a session. Nothing is hashed if a blob with its content is at hand.
     fn seal(
         &mut self,
         desk: &mut Desk<S>,
@@ -139,12 +145,17 @@ impl<'s, W: Wait, S: Naming> Player<'s, W, S> {
         number: u64,
         digest: &[u8],
         last: &[u8],
+        hashed: Option<&Blob>,
     ) -> Result<(), Cause> {
         let tenant = tenant_name(tenant)?;
         let number = session_number(number)?;
         let digest = digest_of(digest)?;
         let repo = self.repo_of_session(tenant, number)?;
-        match self.close_or_sweep(desk, repo, number, &digest, last) {
+        let hashing = match hashed {
+            Some(blob) => Hashing::Known(blob),
+            None => Hashing::Last(digest.algorithm()),
+        };
+        match self.close_or_sweep(desk, repo, number, &digest, last, hashing) {
             Ok(_) => {
                 self.sessions.remove(tenant, number);
                 Ok(())
@@ -209,7 +220,8 @@ impl<'s, W: Wait, S: Naming> Player<'s, W, S> {
         }
     }
 
-    /// Makes a change at the desk. After the removal of a link, and if the store is full, it sweeps.
+    /// Makes a change at the desk. After the removal of a link, and if the store is full, it sweeps. If the change closes a
+    /// session, `hashed` may be a blob with its content, so that the content need not be hashed.
     ///
     /// # Errors
     ///
@@ -217,7 +229,12 @@ impl<'s, W: Wait, S: Naming> Player<'s, W, S> {
     /// - `Malformed` if a name, a digest or a session's number is not one.
     /// - `Refused` if no such session is open, or the store refuses the change.
     /// - `Memory`
-    pub fn play(&mut self, desk: &mut Desk<S>, change: &Change<'_>) -> Result<(), Cause> {
+    pub fn play(
+        &mut self,
+        desk: &mut Desk<S>,
+        change: &Change<'_>,
+        hashed: Option<&Blob>,
+    ) -> Result<(), Cause> {
         match *change {
             Change::SessionOpened { repo, number: _ } => self.open(desk, repo),
             Change::ChunkReceived {
@@ -230,7 +247,7 @@ impl<'s, W: Wait, S: Naming> Player<'s, W, S> {
                 number,
                 digest,
                 last,
-            } => self.seal(desk, tenant, number, digest, last),
+            } => self.seal(desk, tenant, number, digest, last, hashed),
             Change::SessionDropped { tenant, number } => { self.abandon(desk, tenant, number) }
             Change::BlobLinked { repo, digest } => self.link(desk, repo, digest),
             Change::BlobUnlinked { repo, digest } => self.unlink(desk, repo, digest),

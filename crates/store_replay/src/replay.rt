@@ -53,7 +53,8 @@ impl<'s, W: Wait, S: Naming, O: ChangeSink> Players<'s, W, S, O> {
                 }
                 Err(RecordError::Malformed) => return Err(Cause::Malformed.at(offset)),
             };
-            if let Err(cause) = self.player.play(desk, &change) {
+            let hashed = self.observer.hashed(&change);
+            if let Err(cause) = self.player.play(desk, &change, hashed.as_ref()) {
                 return Err(cause.at(offset));
             }
             if self.observer.note(&change, offset).is_err() {

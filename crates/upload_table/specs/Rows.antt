@@ -14,9 +14,9 @@ use Rattle.spec_lib.specs.Texts.{Text, same_text}
 use Rattle.store_model.specs.Sessions.{Chunks, Session, HandRecord, charged_length}
 use Rattle.store_model.specs.Sessions as shown
 use Rattle.upload_table.specs.Tenants.{SessionsByNumber}
-use Rattle.upload_table.specs.Uploaded.{cut_chunks}
+use Rattle.upload_table.specs.Uploaded.{cut_chunks, HashesIfAny}
 use Rattle.upload_table.specs.declared.hashed.ContentHash.{ContentHash}
-use Rattle.upload_table.specs.declared.hashed.ContentHash.TheVariants.{All, One}
+use Rattle.upload_table.specs.declared.hashed.ContentHash.TheVariants.{All, One, Missing}
 use Rattle.upload_table.specs.declared.upload.SessionContent.{SessionContent}
 use Rattle.upload_table.specs.declared.upload.SessionContent.TheVariants.{Home, InHand}
 use Rattle.upload_table.specs.declared.upload.ChunkBuffer.{ChunkBuffer}
@@ -63,11 +63,11 @@ entry_of u = (u.number, session_of u)
 abbrev pub sessions_shown : ℕ → List Upload → SessionsByNumber
 sessions_shown next rows = record { next = next; sessions = fmap.from_entries (map entry_of rows) }
 
--- the lengths are positive and add up to the bytes, the hashes are those of the bytes, and no filled chunk is pending
+-- the lengths are positive and add up to the bytes, the hashes, if there are any, are those of the bytes, and no filled chunk is pending
 pub record IsConsistentBuffer (p : ChunkBuffer) : Type 0 where
   pub lengths : sum p.lens.items ≡ length p.bytes.items
   pub positive : AllByRecursion (λ n. 0 < n) p.lens.items
-  pub hash : HashesUpload p.hashes p.bytes.items
+  pub hash : HashesIfAny p.hashes p.bytes.items
   pub none : p.whole ≡ None
 
 -- the chunks of a checked-in row are whole
@@ -124,18 +124,19 @@ empty_hand key n p = record { key = key; chunks = cut_buffer p; reserved = n; la
 abbrev pub hand_shown : ℕ → ℕ → ℕ → ℕ → ChunkBuffer → Option ContentHash → HandRecord
 hand_shown tenant number received reserved p whole = record { key = (tenant, number); chunks = cut_chunks p.lens.items p.bytes.items; reserved = reserved; last = option_map (λ _. drop received p.bytes.items) whole }
 
--- the hashes are those of these bytes, or the digest is theirs by the algorithm that it names
+-- the hashes are those of these bytes, or the digest is theirs by the algorithm that it names, or there is no hash
 abbrev pub IsHashOf : ContentHash → List ℕ → Type 0
 IsHashOf (All hashes) bytes = HashesUpload hashes bytes
 IsHashOf (One digest) bytes = digest ≡ hash_text (algorithm_of digest) bytes
+IsHashOf Missing bytes = Unit {0}
 
--- the buffer has a hash of all of its bytes
+-- the buffer has the hash of all of its bytes, which may be missing
 abbrev pub HasHashOfAll : ChunkBuffer → Type 0
 HasHashOfAll p = (w : ContentHash) × (p.whole ≡ Some w) × IsHashOf w p.bytes.items
 
 -- this hash turns the hashes of the bytes before a chunk into those of the bytes with the chunk
-abbrev pub ExtendsHashes : ContentHash → UploadHashes → UploadHashes → List ℕ → Type 0
-ExtendsHashes hashed old new chunk = (before : List ℕ) → HashesUpload old before → IsHashOf hashed (before ++ chunk) → HashesUpload new (before ++ chunk)
+abbrev pub ExtendsHashes : ContentHash → Option UploadHashes → Option UploadHashes → List ℕ → Type 0
+ExtendsHashes hashed old new chunk = (before : List ℕ) → HashesIfAny old before → IsHashOf hashed (before ++ chunk) → HashesIfAny new (before ++ chunk)
 
 -- the bytes and the hash of all of them are unchanged
 abbrev pub KeepsBytes : ChunkBuffer → ChunkBuffer → Type 0
@@ -145,7 +146,7 @@ KeepsBytes old new = (new.bytes.items ≡ old.bytes.items) × (new.whole ≡ old
 abbrev pub LosesHash : ChunkBuffer → ChunkBuffer → Type 0
 LosesHash old new = (new.bytes ≡ old.bytes) × (new.lens ≡ old.lens) × (new.whole ≡ None)
 
--- if a chunk is filled, it has the reserved length, there is room for its length, and all bytes are hashed
+-- if a chunk is filled, it has the reserved length, there is room for its length, and the hash is that of all bytes
 abbrev pub IsFilled : ℕ → ℕ → ChunkBuffer → ℕ → Option ContentHash → Type 0
 IsFilled received reserved p room None = length p.bytes.items ≡ received
 IsFilled received reserved p room (Some whole) = (length p.bytes.items ≡ received + reserved) × (length p.lens.items < room) × IsHashOf whole p.bytes.items
@@ -158,7 +159,7 @@ IsFilledBuffer received reserved p = IsFilled received reserved p (vec_capacity 
 pub record IsHand (received reserved : ℕ) (p : ChunkBuffer) (room : ℕ) (whole : Option ContentHash) : Type 0 where
   pub lengths : sum p.lens.items ≡ received
   pub positive : AllByRecursion (λ n. 0 < n) p.lens.items
-  pub hash : HashesUpload p.hashes (take received p.bytes.items)
+  pub hash : HashesIfAny p.hashes (take received p.bytes.items)
   pub fits : received + reserved < 2 ^ 64
   pub filled : IsFilled received reserved p room whole
 

@@ -1,9 +1,9 @@
 -- The state of a table of upload sessions, and the changes that its calls make.
-use Rattle.std.specs.Prelude.{◌≡◌, ℕ, ◌+◌, ◌^◌, ◌≤◌, nat_le, ◌||◌, not, is_ok, Bool, Option, Some, Result, Ok, Err, IfOk, IfErr, List, [], ◌∷◌, length, map, sum, sum_by, take, drop, replicate, slice_index, slice_set, if◌then◌else◌}
+use Rattle.std.specs.Prelude.{◌≡◌, ℕ, ◌+◌, ◌^◌, ◌≤◌, nat_le, ◌||◌, not, is_ok, Bool, Option, Some, IfSome, Result, Ok, Err, IfOk, IfErr, List, [], ◌∷◌, length, map, sum, sum_by, take, drop, replicate, slice_index, slice_set, if◌then◌else◌}
 use Rattle.std.specs.Option.{option_map_or}
 use Rattle.std.proofs.Common.{refl}
 use Rattle.std.specs.FinMap as fmap
-use Rattle.std.specs.Coded.{Coded, code_by, coded×, coded_ℕ, coded_list}
+use Rattle.std.specs.Coded.{Coded, code_by, coded×, coded_ℕ, coded_list, coded_option}
 use Rattle.blob_digest.specs.declared.range.ByteRange.{ByteRange}
 use Rattle.blob_digest.specs.declared.refusal.Refusal.{Refusal}
 use Rattle.blob_digest.specs.declared.refusal.Refusal.TheVariants.{LimitReached, DigestInvalid}
@@ -31,11 +31,15 @@ pub record Uploaded : Type 0 where
   pub next : List ℕ
   pub sessions : Sessions
 
+-- the hashes, if there are any, are those of these bytes
+abbrev pub HashesIfAny : Option UploadHashes → List ℕ → Type 0
+HashesIfAny hashes bytes = IfSome hashes (λ h. HashesUpload h bytes)
+
 -- the remainder of a hand whose bytes moved into a blob: its key, the lengths of its chunks, and the hashes of their bytes
 pub record HandRemainder : Type 0 where
   pub key : SessionNumber
   pub lens : List ℕ
-  pub hashes : UploadHashes
+  pub hashes : Option UploadHashes
 
 -- ---- codes, which a model's value needs
 
@@ -45,7 +49,7 @@ coded_number = coded× coded_ℕ coded_ℕ
 
 -- the code of the remainder of a hand
 abbrev pub coded_hand_remainder : Coded HandRemainder
-coded_hand_remainder = code_by (SessionNumber × (List ℕ × UploadHashes)) (coded× coded_number (coded× (coded_list coded_ℕ) upload_hashes.the_row.coded)) (λ c. (c.key, (c.lens, c.hashes))) (λ p. record { key = p.0; lens = p.1.0; hashes = p.1.1 }) (λ _. refl)
+coded_hand_remainder = code_by (SessionNumber × (List ℕ × Option UploadHashes)) (coded× coded_number (coded× (coded_list coded_ℕ) (coded_option upload_hashes.the_row.coded))) (λ c. (c.key, (c.lens, c.hashes))) (λ p. record { key = p.0; lens = p.1.0; hashes = p.1.1 }) (λ _. refl)
 
 -- the code of a table
 abbrev pub coded_uploaded : Coded Uploaded
@@ -146,7 +150,7 @@ Finishes result old new h digest = DoesExactly (λ r. r.0) result (cancel_upload
 -- the bytes begin with those that the hashes and the lengths of the rest are of
 pub record BeginsWith (r : HandRemainder) (bytes : Text) : Type 0 where
   pub within : sum r.lens ≤ length bytes
-  pub hash : HashesUpload r.hashes (take (sum r.lens) bytes)
+  pub hash : HashesIfAny r.hashes (take (sum r.lens) bytes)
 
 -- the session of the rest is checked out, and the bytes begin with its bytes
 pub record CanReopen (u : Uploaded) (r : HandRemainder) (bytes : Text) : Type 0 where

@@ -3,12 +3,12 @@
 ghost use Rattle.std.specs.Prelude.{◌≡◌, ◌≢◌, ◌+◌, ◌<◌, ◌≤◌, ◌^◌, [], Some, None, IfSome, IfOk, IfErr, OnErr, true, false, if◌then◌else◌, is_some, length, sum_by, take};
 ghost use Rattle.std.specs.List.{AllByRecursion};
 ghost use Rattle.blob_digest.specs.Digests.{hash_text, is_digest_of};
-ghost use Rattle.blob_digest.specs.Hashing.{HashesUpload};
 ghost use Rattle.store_model.specs.Sessions.{chunks_of, hand_content};
-ghost use Rattle.upload_table.specs.Uploaded.{cut_chunks, total_length, BeginsWith, IsRemainderOf};
+ghost use Rattle.upload_table.specs.Uploaded.{cut_chunks, total_length, BeginsWith, HashesIfAny, IsRemainderOf};
 ghost use Rattle.store_model.specs.Sessions.{HasNoOpenReserve};
 ghost use Rattle.upload_table.specs.Rows.{all_lengths, cut_buffer, empty_hand, IsFilledBuffer, IsHashOf, IsConsistentBuffer, LosesHash};
 
+use crate::hashing::{Hashing, digest_after};
 use crate::upload::{ChunkBuffer, extend, sum_of};
 use blob_digest::{Algorithm, Blob, Digest};
 use std::marker::Model;
@@ -152,7 +152,7 @@ impl Hand {
         ensures ok { IfOk result (λ h. h ≡ record self { last = Some bytes.now }) }
         ensures err { IfErr result (λ h. h ≡ self) }
     {
-        self.fill_by(bytes, None)
+        self.fill_by(bytes, Hashing::Open)
     }
 
     /// Fills the chunk as `fill` does, but hashes it by one algorithm only, for a close with that algorithm.
@@ -173,11 +173,22 @@ impl Hand {
         ensures ok { IfOk result (λ h. h ≡ record self { last = Some bytes.now }) }
         ensures err { IfErr result (λ h. h ≡ self) }
     {
-        self.fill_by(bytes, Some(algorithm))
+        self.fill_by(bytes, Hashing::Last(algorithm))
     }
 
-    /// Fills the chunk, hashed by the given algorithm only, or so that more chunks can follow.
-    fn fill_by(self, bytes: &[u8], algorithm: Option<Algorithm>) -> Result<Hand, Hand>
+    /// Fills the chunk as `fill` does, but hashes the bytes as `hashing` says.
+    ///
+    /// The hand can be put back or finished in any case. If its bytes were not hashed, `finish` hashes all of them.
+    ///
+    /// # Errors
+    ///
+    /// The unchanged hand: out of memory.
+    ///
+    /// # Cost
+    ///
+    /// As `fill` or `fill_last`. With `Later`, nothing is hashed. If the earlier chunks were not hashed, they are hashed
+    /// too, unless a blob has the bytes.
+    pub fn fill_by(self, bytes: &[u8], hashing: Hashing<'_>) -> Result<Hand, Hand>
         requires len { length bytes.now ≡ self.reserved }
         requires empty { self.last ≡ None }
         ensures ok { IfOk result (λ h. h ≡ record self { last = Some bytes.now }) }
@@ -191,7 +202,7 @@ impl Hand {
             reserved,
             mut pieces,
         } = self;
-        let filled = extend(&mut pieces, bytes, algorithm);
+        let filled = extend(&mut pieces, bytes, hashing);
         let hand = Hand {
             tenant,
             number,
@@ -287,11 +298,11 @@ impl Hand {
 /// there.
 fn add_last(pieces: &mut ChunkBuffer, received: usize, len: u64)
     requires last { IsFilledBuffer received len pieces.old }
-    requires front { HashesUpload pieces.old.hashes (take received pieces.old.bytes.items) }
+    requires front { HashesIfAny pieces.old.hashes (take received pieces.old.bytes.items) }
     ensures none { pieces.new.whole ≡ None }
     ensures bytes { pieces.new.bytes.items ≡ pieces.old.bytes.items }
     ensures lens { pieces.new.lens.items ≡ all_lengths pieces.old len }
-    ensures hash { HashesUpload pieces.new.hashes pieces.old.bytes.items }
+    ensures hash { HashesIfAny pieces.new.hashes pieces.old.bytes.items }
 {
     let Some(hashed) = mem::replace(&mut pieces.whole, None) else {
         return;
@@ -310,17 +321,17 @@ fn add_last(pieces: &mut ChunkBuffer, received: usize, len: u64)
 /// `hashes` describes the first `received` bytes.
 fn whole_digest(pieces: &mut ChunkBuffer, received: usize, algorithm: Algorithm) -> Digest
     requires within { received ≤ length pieces.old.bytes.items }
-    requires front { HashesUpload pieces.old.hashes (take received pieces.old.bytes.items) }
+    requires front { HashesIfAny pieces.old.hashes (take received pieces.old.bytes.items) }
     requires all { IfSome pieces.old.whole (λ w. IsHashOf w pieces.old.bytes.items) }
     ensures value { result ≡ hash_text algorithm pieces.old.bytes.items }
     ensures kept { LosesHash pieces.old pieces.new }
-    ensures same { HashesUpload pieces.new.hashes (take received pieces.old.bytes.items) }
+    ensures same { HashesIfAny pieces.new.hashes (take received pieces.old.bytes.items) }
 {
     let whole = mem::replace(&mut pieces.whole, None);
     let bytes = pieces.bytes.as_slice();
     match whole {
         Some(hashed) => hashed.digest(&mut pieces.hashes, bytes, received, algorithm),
-        None => pieces.hashes.digest(bytes, received, algorithm),
+        None => digest_after(&mut pieces.hashes, bytes, received, algorithm),
     }
 }
 

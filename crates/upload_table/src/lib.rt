@@ -12,16 +12,18 @@
 //! `fill` alone copies bytes: those of its chunk, and all earlier ones if the buffer has to grow. Each byte passes
 //! through SHA-256 once, when it arrives, and through SHA-512 once if a close asks for it. If `Hand::fill_last` names
 //! the algorithm of the close, the last chunk passes through that one only, and also through SHA-256 if the hand is
-//! put back.
+//! put back. `Hand::fill_by` can leave the hash to a later call, or take it from a blob with the same bytes.
 #![tactic(auto)]
 
 mod hand;
 mod hashed;
+mod hashing;
 mod repo_sessions;
 mod tenant_sessions;
 mod upload;
 mod uploads;
 
 pub use hand::{Hand, PendingClose};
+pub use hashing::Hashing;
 pub use repo_sessions::RepoSessions;
 pub use uploads::Uploads;

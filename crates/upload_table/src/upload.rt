@@ -2,22 +2,24 @@
 
 ghost use Rattle.std.specs.Prelude.{◌≡◌, ◌+◌, ◌<◌, ◌^◌, ◌++◌, [], OnOk, OnErr, Some, length, sum, true};
 ghost use Rattle.std.specs.Vec.{vec_capacity};
-ghost use Rattle.blob_digest.specs.Hashing.{HashesUpload};
 ghost use Rattle.store_model.specs.Sessions.{length_after as length_after_chunk};
 ghost use Rattle.upload_table.specs.Rows.{checked_out_row, content_charge, content_received, cut_buffer, is_at_home, is_out_with, HasHashOfAll, IsConsistentBuffer, KeepsBytes};
+ghost use Rattle.upload_table.specs.Uploaded.{HashesIfAny};
 ghost use Rattle.upload_table.specs.declared.upload.SessionContent.TheVariants.{Home};
 
 use crate::hashed::ContentHash;
-use blob_digest::{Algorithm, ByteRange, Refusal, RepoName, UploadHashes};
+use crate::hashing::Hashing;
+use blob_digest::{ByteRange, Refusal, RepoName, UploadHashes};
 use std::alloc::{AllocError, Global};
 use std::mem;
 
-/// The chunks of a session: their concatenated bytes, their lengths, and the hashes of the bytes.
+/// The chunks of a session: their concatenated bytes, their lengths, and the hashes of the bytes, unless a chunk was not
+/// hashed.
 #[derive(Drop)]
 pub(crate) struct ChunkBuffer {
     pub(crate) bytes: Vec<u8>,
     pub(crate) lens: Vec<u64>,
-    pub(crate) hashes: UploadHashes,
+    pub(crate) hashes: Option<UploadHashes>,
     /// The hash of all bytes. It is set while the buffer ends with a filled chunk that is not yet part of `lens` and
     /// `hashes`.
     pub(crate) whole: Option<ContentHash>,
@@ -50,7 +52,7 @@ impl ChunkBuffer {
         ChunkBuffer {
             bytes: Vec::new(alloc),
             lens: Vec::new(alloc),
-            hashes: UploadHashes::new(),
+            hashes: Some(UploadHashes::new()),
             whole: None,
         }
     }
@@ -142,26 +144,25 @@ pub(crate) fn length_after(
 
 /// Appends the bytes of a chunk, reserves room for its length, and sets the hash of all bytes.
 ///
-/// `Some(algorithm)` yields only the digest by that algorithm, `None` a state to which more chunks can be added. The
-/// hashes of the earlier chunks are kept, so removing the last chunk requires no new hashing.
+/// The hashes of the earlier chunks are kept, so removing the last chunk requires no new hashing.
 pub(crate) fn extend(
     pieces: &mut ChunkBuffer,
     chunk: &[u8],
-    algorithm: Option<Algorithm>,
+    hashing: Hashing<'_>,
 ) -> Result<(), AllocError>
-    requires { HashesUpload pieces.old.hashes pieces.old.bytes.items }
+    requires { HashesIfAny pieces.old.hashes pieces.old.bytes.items }
     ensures hash { OnOk result (HasHashOfAll pieces.new) }
     ensures bytes { OnOk result (pieces.new.bytes.items ≡ pieces.old.bytes.items ++ chunk.now) }
     ensures room { OnOk result (length pieces.new.lens.items < vec_capacity pieces.new.lens) }
     ensures err { OnErr result (KeepsBytes pieces.old pieces.new) }
     ensures lens { pieces.new.lens.items ≡ pieces.old.lens.items }
-    ensures front { HashesUpload pieces.new.hashes pieces.old.bytes.items }
+    ensures front { HashesIfAny pieces.new.hashes pieces.old.bytes.items }
 {
     let received = pieces.bytes.len();
     pieces.lens.reserve(1)?;
     pieces.bytes.extend_from_slice(chunk)?;
     let bytes = pieces.bytes.as_slice();
-    let whole = ContentHash::of(&mut pieces.hashes, bytes, received, algorithm);
+    let whole = ContentHash::of(&mut pieces.hashes, bytes, received, hashing);
     pieces.whole = Some(whole);
     Ok(())
 }

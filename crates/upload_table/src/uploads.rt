@@ -279,7 +279,7 @@ impl Uploads {
     /// # Cost
     ///
     /// Copies no byte. Hashes the chunk if `fill_last` hashed it by another algorithm than the digest's. By SHA-512,
-    /// also hashes the bytes that have not passed through SHA-512.
+    /// also hashes the bytes that have not passed through SHA-512. Hashes all bytes if `Hashing::Later` left that.
     ///
     /// # Memory
     ///
