@@ -33,7 +33,7 @@ impl Failure {
             }
             (Some(9), _) => (9, "the log cannot be written any more: make room or replace the disk, and start again"),
             (Some(10), _) => {
-                (10, "the log needs other settings: start with the tenant, quota, --slots or --max-blob that blobd names")
+                (10, "the log needs other settings: start with the tenant, quota, share, --slots or --max-blob that blobd names")
             }
             _ => (1, "see its message"),
         };

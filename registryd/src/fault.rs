@@ -1,5 +1,6 @@
 //! Failures of requests: a status, a code, and the details in the JSON body (OCI Distribution Specification 1.1, "Error
 //! Codes").
+use crate::bounds::Excess;
 use crate::frames::{Reason, Refusal};
 use crate::limits::{tenant_of, Limit, MAX_MANIFESTS, MAX_REPOSITORIES, MAX_UPLOADS};
 use crate::store::StoreUnavailable;
@@ -140,6 +141,30 @@ impl Fault {
         Fault::new(StatusCode::FORBIDDEN, code, message).with_detail(json!({ "limit": name, "most": most }))
     }
 
+    /// A blob is new to a tenant that has the maximum number of blobs. The status is 403 as for the other limits of a tenant.
+    pub fn full_share(tenant: &str, share: u64) -> Fault {
+        let message =
+            format!("tenant {tenant} has {share} different blobs, which is its share: delete one in all its repositories");
+        Fault::new(StatusCode::FORBIDDEN, "DENIED", message).with_detail(json!({ "limit": "blobs", "most": share }))
+    }
+
+    /// A push would exceed a bound on a tenant's manifests or tags. The status is 403 as for the quota.
+    pub fn bound(excess: Excess, tenant: &str) -> Fault {
+        let has_maximum = |most: u64, what: &str| format!("tenant {tenant} may have at most {most} {what}: delete one");
+        let (message, detail) = match excess {
+            Excess::Manifests { most } => {
+                (has_maximum(most, "manifests"), json!({ "limit": "tenant_manifests", "most": most }))
+            }
+            Excess::Tags { most } => (has_maximum(most, "tags"), json!({ "limit": "tenant_tags", "most": most })),
+            Excess::ManifestBytes { used, added, most } => {
+                let message =
+                    format!("tenant {tenant} has {used} bytes of manifests: {added} more exceed the maximum of {most}");
+                (message, json!({ "limit": "tenant_manifest_bytes", "most": most, "used": used }))
+            }
+        };
+        Fault::new(StatusCode::FORBIDDEN, "DENIED", message).with_detail(detail)
+    }
+
     /// Returns the response, with the failure as JSON.
     pub fn into_response(self) -> Response<Body> {
         let Fault { status, code, message, detail, header } = self;
@@ -209,11 +234,8 @@ impl From<Refusal> for Fault {
                     .with_header("Retry-After", "1")
             }
             Reason::TooManyReaders => soon("TOOMANYREQUESTS", "the blob has too many readers"),
-            // Other limits are named by `Fault::limit`.
-            Reason::LimitReached => {
-                Fault::new(StatusCode::FORBIDDEN, "DENIED", "the tenant has as many blobs as it may have: delete one")
-                    .with_detail(json!({ "limit": "blobs" }))
-            }
+            // Limits are named by `Fault::limit` and `Fault::full_share`, except those of totals that no store reaches.
+            Reason::LimitReached => Fault::new(StatusCode::FORBIDDEN, "DENIED", "a limit of the store is reached"),
             Reason::Memory => Fault::new(StatusCode::SERVICE_UNAVAILABLE, "UNSUPPORTED", "out of memory")
                 .with_header("Retry-After", "1"),
             Reason::Busy => soon("TOOMANYREQUESTS", "another request is appending to the upload"),

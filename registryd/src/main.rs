@@ -3,8 +3,10 @@
 mod access;
 mod appending;
 mod blobs;
+mod bounds;
 mod catalog;
 mod clock;
+mod collector;
 mod conditional;
 mod connections;
 mod content;
@@ -29,6 +31,7 @@ mod path;
 mod pool;
 mod process;
 mod provenance;
+mod pushes;
 mod range;
 mod referrers;
 mod registry;
@@ -322,12 +325,14 @@ async fn start(options: &Options, access: Access) -> Result<Started, Failure> {
         folder: options.data.clone().map(|path| Folder::new(path, options.min_free())),
         turns: Default::default(),
         metrics,
+        sweep_requests: Default::default(),
         sweeps: Default::default(),
         provenance,
         metrics_access: options.metrics_access(),
         tenants: options.tenant_names(),
         slots: options.slots,
         max_blob: options.max_blob,
+        bounds: options.bounds(),
         started: status::now(),
     });
     work_in_background(&registry, options);

@@ -5,7 +5,7 @@ use crate::content::{RequestContent, MAX_MANIFEST};
 use crate::document::{self, Document, Facts};
 use crate::fault::Fault;
 use crate::frames::{Reason, Refusal};
-use crate::limits::Limit;
+use crate::limits::{tenant_of, Limit};
 use crate::media_type::{media_type_of, MediaType};
 use crate::pages::{page_response, WantedPage};
 use crate::registry::{empty, with_body, Call, HandlerResult, Registry};
@@ -116,6 +116,9 @@ pub async fn put(call: &Call, reference: &str, content: &mut RequestContent) -> 
     if !is_digest(reference) && !is_tag(reference) {
         return Err(Fault::manifest_invalid("the reference is neither a tag nor a digest"));
     }
+    let Registry { tags, bounds, .. } = &*call.registry;
+    let exceeds = |excess| Fault::bound(excess, tenant_of(&call.repo));
+    tags.check_push(&call.repo, reference, content.len, bounds).map_err(exceeds)?;
     let bytes = content.manifest().await?;
     // Parsing a long manifest takes long, so it runs in a blocking thread.
     let (digest, document) = tokio::task::block_in_place(|| (digest_of(&bytes), document::read(&bytes)));
@@ -127,9 +130,11 @@ pub async fn put(call: &Call, reference: &str, content: &mut RequestContent) -> 
     let tag = Some(reference).filter(|reference| !is_digest(reference));
     let turn = call.registry.turns.take(&call.repo, &digest).await;
     let facts = facts_to_store(call, &digest, document, given, size_of(&bytes))?;
+    let room = tags.reserve(&call.repo, (&digest, facts.size), tag, bounds).map_err(exceeds)?;
     call.check_limit(call.registry.store.put_manifest(&call.repo, &bytes).await?, Limit::Manifests)?;
-    let (subject, missing) = (facts.subject.clone(), call.registry.tags.count_missing(&call.repo, &facts.lists));
-    call.registry.tags.put(&call.repo, &digest, facts, tag).await?;
+    let (subject, missing) = (facts.subject.clone(), tags.count_missing(&call.repo, &facts.lists));
+    tags.put(&call.repo, &digest, facts, tag).await?;
+    drop(room);
     // With a database, the repository is recorded there from now on.
     call.registry.repositories.add(&call.repo);
     drop(turn);

@@ -56,6 +56,8 @@ struct Inner {
     slots: IntGauge,
     used: IntGaugeVec,
     quota: IntGaugeVec,
+    blobs: IntGaugeVec,
+    share: IntGaugeVec,
     durable: IntGauge,
     verified: IntGauge,
     log: IntGauge,
@@ -86,6 +88,8 @@ impl Metrics {
             slots: gauge("registryd_slots", "Slots of the store."),
             used: by_tenant("registryd_tenant_used_bytes", "Bytes of a tenant's quota used by its blobs and uploads."),
             quota: by_tenant("registryd_tenant_quota_bytes", "Quota of a tenant, in bytes."),
+            blobs: by_tenant("registryd_tenant_blobs", "Distinct blobs in a tenant's repositories."),
+            share: by_tenant("registryd_tenant_share", "Maximum number of distinct blobs of a tenant, if it is limited."),
             durable: gauge("registryd_durable", "1 if a change is on the disk before its reply, 0 otherwise."),
             verified: gauge("registryd_store_verified", "1 if a record names the store's program as proved, 0 otherwise."),
             log: gauge("registryd_log_bytes", "Length of the log of the store, in bytes."),
@@ -95,7 +99,7 @@ impl Metrics {
             commits: Commits::new(),
             registry,
         };
-        let all: [Box<dyn prometheus::core::Collector>; 14] = [
+        let all: [Box<dyn prometheus::core::Collector>; 16] = [
             Box::new(inner.requests.clone()),
             Box::new(inner.seconds.clone()),
             Box::new(inner.received.clone()),
@@ -108,6 +112,8 @@ impl Metrics {
             Box::new(inner.slots.clone()),
             Box::new(inner.used.clone()),
             Box::new(inner.quota.clone()),
+            Box::new(inner.blobs.clone()),
+            Box::new(inner.share.clone()),
             Box::new(inner.durable.clone()),
             Box::new(inner.verified.clone()),
         ];
@@ -190,7 +196,7 @@ impl Metrics {
         }
     }
 
-    /// Returns the text of all metrics. It asks the store for the free slots and for each tenant's use and quota.
+    /// Returns the text of all metrics. It asks the store for the free slots, and for each tenant's use, quota, blobs and share.
     pub async fn text(
         &self,
         store: &Store,
@@ -198,7 +204,7 @@ impl Metrics {
         slots: u32,
         uploads: usize,
     ) -> Result<String, StoreUnavailable> {
-        let Inner { registry, free_slots, used, quota, .. } = &*self.0;
+        let Inner { registry, free_slots, used, quota, blobs, share, .. } = &*self.0;
         self.0.uploads.set(uploads as i64);
         self.0.slots.set(i64::from(slots));
         if let Ok(count) = store.free_slots().await? {
@@ -210,6 +216,12 @@ impl Metrics {
                 live += usage.0;
                 used.with_label_values(&[tenant]).set(usage.0 as i64);
                 quota.with_label_values(&[tenant]).set(usage.1 as i64);
+            }
+            if let Ok(held) = store.share_use(tenant).await? {
+                blobs.with_label_values(&[tenant]).set(held.blobs as i64);
+                if let Some(most) = held.share {
+                    share.with_label_values(&[tenant]).set(most as i64);
+                }
             }
         }
         self.0.live.set(live as i64);

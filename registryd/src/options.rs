@@ -1,4 +1,5 @@
 //! The options and arguments of the command line.
+use crate::bounds::Bounds;
 use crate::registry::MetricsAccess;
 use crate::retention::hours;
 use crate::tenants::{self, tenant_word};
@@ -36,6 +37,15 @@ pub struct Options {
     /// Limit the length of a blob
     #[arg(long, value_name = "BYTES", default_value_t = 1 << 32)]
     pub max_blob: u64,
+    /// Limit the bytes of each tenant's manifests
+    #[arg(long, value_name = "BYTES")]
+    pub manifest_bytes: Option<u64>,
+    /// Limit the number of each tenant's manifests
+    #[arg(long, value_name = "N")]
+    pub manifests: Option<u64>,
+    /// Limit the number of each tenant's tags
+    #[arg(long, value_name = "N")]
+    pub tags: Option<u64>,
     /// Open N connections to the store; a large read takes two
     #[arg(long, value_name = "N", default_value_t = 32, value_parser = clap::value_parser!(u16).range(1..=1024))]
     pub lines: u16,
@@ -145,6 +155,12 @@ impl Options {
     pub fn patience(&self) -> UploadTimeouts {
         let (begun, empty) = (Duration::from_secs(self.session_s), Duration::from_secs(self.empty_session_s));
         UploadTimeouts { begun, empty }
+    }
+
+    /// Returns the bounds on the manifests and tags of each tenant.
+    pub fn bounds(&self) -> Bounds {
+        let Options { manifests, manifest_bytes, tags, .. } = *self;
+        Bounds { manifests, manifest_bytes, tags }
     }
 
     /// Returns when changes are on the disk.
@@ -261,6 +277,13 @@ mod tests {
         for words in [["--sync", "each"], ["--accept-loss-after", "1"], ["--min-free", "1"]] {
             assert!(Options::try_parse_from([&["registryd"], &words[..], &["a=1"]].concat()).is_err(), "{words:?}");
         }
+    }
+
+    #[test]
+    fn manifests_and_tags_are_not_limited_unless_it_is_asked_for() {
+        assert_eq!(parsed(&["a=1"]).bounds(), Bounds::default());
+        let words = ["--manifests", "5", "--manifest-bytes", "1000", "--tags", "0", "a=1"];
+        assert_eq!(parsed(&words).bounds(), Bounds { manifests: Some(5), manifest_bytes: Some(1000), tags: Some(0) });
     }
 
     #[test]

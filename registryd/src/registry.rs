@@ -1,6 +1,8 @@
 //! The registry: dispatches requests to the store and to the tables of this process.
 use crate::access::{Access, Caller};
+use crate::bounds::Bounds;
 use crate::catalog::Catalog;
+use crate::collector::SweepRequests;
 use crate::content::{RequestContent, MAX_MANIFEST};
 use crate::exchange::Exchange;
 use crate::fault::Fault;
@@ -28,10 +30,6 @@ use std::sync::Arc;
 use std::time::{Duration, Instant};
 use uuid::Uuid;
 
-/// The minimum pause after a sweep that freed nothing. A sweep that follows at once frees nothing either, and competes with
-/// the requests for a processor and the store's lock.
-const NOTHING_FREED_REST: Duration = Duration::from_millis(10);
-
 /// The state of the registry.
 pub struct Registry {
     pub store: Store,
@@ -46,6 +44,8 @@ pub struct Registry {
     /// The writers of a manifest take turns, each for the time of its call to the store. Readers take no turn.
     pub turns: Turns,
     pub metrics: Metrics,
+    /// The requests for a sweep.
+    pub sweep_requests: SweepRequests,
     /// The sweeps that the page of the administrator shows.
     pub sweeps: SweepHistory,
     pub memory: Arc<Memory>,
@@ -54,6 +54,8 @@ pub struct Registry {
     pub slots: u32,
     /// The maximum length of a blob, in bytes.
     pub max_blob: u64,
+    /// The bounds on the manifests and tags of each tenant.
+    pub bounds: Bounds,
     /// Where the store's program comes from.
     pub provenance: Provenance,
     /// The time of the start, in seconds since 1970.
@@ -370,22 +372,6 @@ impl Registry {
         match self.store.replies().await {
             true => empty(StatusCode::OK, headers),
             false => Err(StoreUnavailable.into()),
-        }
-    }
-
-    /// Sweeps the store at intervals until the store ends.
-    pub async fn sweep(&self, rest: Duration) {
-        while !self.store.has_ended() {
-            let mut least = NOTHING_FREED_REST;
-            if let Ok(Ok(swept)) = self.store.sweep().await {
-                self.metrics.count_sweep(&swept);
-                self.sweeps.add(&swept);
-                if swept.freed > 0 {
-                    tracing::info!(freed = swept.freed, held = swept.held, "swept");
-                    least = Duration::ZERO;
-                }
-            }
-            tokio::time::sleep(rest.max(least)).await;
         }
     }
 

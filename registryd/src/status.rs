@@ -129,8 +129,19 @@ impl Registry {
         let mut tenants = Vec::with_capacity(self.tenants.len());
         for tenant in &self.tenants {
             let (used, quota) = self.store.usage(tenant).await?.unwrap_or_default();
-            let repositories = self.repositories.count(tenant);
-            tenants.push(json!({ "name": tenant, "used": used, "quota": quota, "repositories": repositories }));
+            let held = self.store.share_use(tenant).await?.ok();
+            let totals = self.tags.totals(tenant);
+            tenants.push(json!({
+                "name": tenant,
+                "used": used,
+                "quota": quota,
+                "blobs": held.as_ref().map(|held| held.blobs),
+                "share": held.as_ref().and_then(|held| held.share),
+                "repositories": self.repositories.count(tenant),
+                "manifests": totals.manifests,
+                "manifest_bytes": totals.manifest_bytes,
+                "tags": totals.tags,
+            }));
         }
         let (sweeps, freed, held) = self.metrics.swept();
         Ok(json!({
@@ -144,6 +155,11 @@ impl Registry {
             "uploads": self.uploads.len(),
             "collector": { "sweeps": sweeps, "freed": freed, "held": held, "last": self.sweeps.json() },
             "folder": self.folder_json(),
+            "bounds": {
+                "manifests": self.bounds.manifests,
+                "manifest_bytes": self.bounds.manifest_bytes,
+                "tags": self.bounds.tags,
+            },
             "tenants": tenants,
         }))
     }

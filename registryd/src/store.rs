@@ -78,6 +78,16 @@ pub enum MountResult {
     Session(u32),
 }
 
+/// The number of distinct blobs in a tenant's repositories, and the tenant's share, which is their maximum number if there is
+/// one.
+pub struct ShareUse {
+    pub blobs: u64,
+    pub share: Option<u64>,
+}
+
+/// The share in a reply for a tenant whose number of blobs is not limited.
+const UNLIMITED: u64 = u32::MAX as u64;
+
 /// The numbers of slots that a sweep freed, and that it did not free because of readers.
 pub struct SweepResult {
     pub freed: u64,
@@ -460,6 +470,13 @@ impl Store {
     pub async fn usage(&self, repo: &str) -> Answer<(u64, u64)> {
         let answer = self.ask(Request { repo, ..Request::new(Command::Usage) }).await?;
         Ok(answer.map(|reply| (reply.first, reply.second)))
+    }
+
+    /// Returns the number of distinct blobs of a repository's tenant, and its share.
+    pub async fn share_use(&self, repo: &str) -> Answer<ShareUse> {
+        let answer = self.ask(Request { repo, ..Request::new(Command::Share) }).await?;
+        let share = |number| Some(number).filter(|number| *number != UNLIMITED);
+        Ok(answer.map(|reply| ShareUse { blobs: reply.first, share: share(reply.second) }))
     }
 
     /// Closes the connections and waits for `blobd`, which ends then. It writes its totals to the standard error of this

@@ -3,9 +3,14 @@
 //! A manifest is added here after the store accepted it. It is marked before the store is asked to delete it. A marked
 //! manifest and its tags are hidden. So a visible tag names a manifest that the store has, unless the manifest was marked
 //! after the look-up. No lock is held during a call to the store or the database.
+//!
+//! The totals of each tenant are kept here. They include the pushes in progress, so that these exceed no bound together.
+use crate::bounds::{Bounds, Excess, Totals};
 use crate::document::Facts;
+use crate::limits::tenant_of;
 use crate::namers::Namers;
 use crate::pages::{Page, MAX_PAGE};
+use crate::pushes::Pushes;
 use std::collections::{BTreeMap, HashMap, HashSet};
 use std::ops::Bound;
 use std::sync::{Arc, Mutex, RwLock};
@@ -35,12 +40,25 @@ struct Repository {
     listed: Namers,
     /// The manifests whose subject is a manifest, marked or not.
     referrers: Namers,
+    /// The sum of the manifests' sizes, in bytes.
+    bytes: u64,
+    pushes: Pushes,
 }
 
 /// The tags and manifests of all repositories. Each repository has its own lock. The store bounds their number.
 #[derive(Default)]
 pub struct Tags {
     repos: RwLock<BTreeMap<String, Arc<Mutex<Repository>>>>,
+    /// For each tenant, the sum of its repositories' totals. This lock is taken after that of a repository.
+    totals: Mutex<HashMap<String, Totals>>,
+}
+
+/// Room for a manifest that is being pushed, and for its tag if there is one. Dropping this returns the room that was not used.
+pub struct Room<'t> {
+    tags: &'t Tags,
+    repo: &'t str,
+    digest: &'t str,
+    tag: Option<&'t str>,
 }
 
 /// The manifest that a reference names.
@@ -121,25 +139,59 @@ impl Repository {
         Some(NamedManifest { digest: digest.to_string(), media_type: manifest.facts.media_type.clone() })
     }
 
+    /// Returns whether it has no manifest and no tag, and none is being pushed.
+    fn is_empty(&self) -> bool {
+        self.manifests.is_empty() && self.tags.is_empty() && self.pushes.is_empty()
+    }
+
     /// Returns whether it has a manifest that is not marked.
     fn is_visible(&self) -> bool {
         self.manifests.values().any(|manifest| !manifest.is_leaving)
     }
 
+    /// Returns the totals of its manifests and tags, with those that are being pushed.
+    fn totals(&self) -> Totals {
+        let new = self.pushes.manifests().filter(|(digest, _)| !self.manifests.contains_key(*digest));
+        let new_tags = self.pushes.tags().filter(|tag| !self.tags.contains_key(*tag));
+        Totals {
+            manifests: (self.manifests.len() + new.clone().count()) as u64,
+            manifest_bytes: self.bytes + new.map(|(_, size)| size).sum::<u64>(),
+            tags: (self.tags.len() + new_tags.count()) as u64,
+        }
+    }
+
+    /// Returns the least totals that a push adds whose content is not read yet. They have no manifest if the repository may have
+    /// it already: by its digest, or by its length if it is pushed under a tag.
+    fn least_added(&self, reference: &str, len: Option<u64>) -> Totals {
+        let is_digest = !is_tag(reference);
+        let sizes = self.manifests.values().map(|manifest| manifest.facts.size);
+        let mut all_sizes = sizes.chain(self.pushes.manifests().map(|(_, size)| size));
+        let is_new = match len {
+            _ if is_digest => !self.manifests.contains_key(reference) && !self.pushes.has_manifest(reference),
+            Some(len) => all_sizes.all(|size| size != len),
+            None => false,
+        };
+        let is_new_tag = !is_digest && !self.tags.contains_key(reference) && !self.pushes.has_tag(reference);
+        let manifest_bytes = if is_new { len.unwrap_or(1) } else { 0 };
+        Totals { manifests: is_new.into(), manifest_bytes, tags: is_new_tag.into() }
+    }
+
     /// Adds a manifest, or replaces its facts and shows it.
     fn put(&mut self, digest: &str, facts: Facts, now: u64) {
-        if let Some(before) = self.manifests.remove(digest) {
-            self.remove_names(digest, &before.facts);
-        }
+        self.take(digest);
+        self.bytes += facts.size;
         facts.lists.iter().for_each(|named| self.listed.add(named, digest));
         facts.subject.iter().for_each(|named| self.referrers.add(named, digest));
         self.manifests.insert(digest.to_string(), Manifest { facts, since: now, recorded: now, is_leaving: false });
     }
 
-    /// Removes what a manifest names.
-    fn remove_names(&mut self, digest: &str, facts: &Facts) {
+    /// Removes a manifest with what it names, and returns its facts if it was there. Its tags stay.
+    fn take(&mut self, digest: &str) -> Option<Facts> {
+        let facts = self.manifests.remove(digest)?.facts;
+        self.bytes -= facts.size;
         facts.lists.iter().for_each(|named| self.listed.remove(named, digest));
         facts.subject.iter().for_each(|named| self.referrers.remove(named, digest));
+        Some(facts)
     }
 
     /// Adds a tag, or moves it.
@@ -190,12 +242,11 @@ impl Repository {
 
     /// Removes a manifest and its tags. It ceases to hold what it lists, and what has it as subject.
     fn remove(&mut self, digest: &str, now: u64) {
-        let facts = match self.manifests.remove(digest) {
-            Some(manifest) => manifest.facts,
+        let facts = match self.take(digest) {
+            Some(facts) => facts,
             None => return,
         };
         self.tags.retain(|_, named| named != digest);
-        self.remove_names(digest, &facts);
         facts.lists.iter().for_each(|named| self.release(named, now));
         let referrers: Vec<String> = self.referrers.after(digest, "").cloned().collect();
         referrers.iter().for_each(|referrer| self.release(referrer, now));
@@ -206,8 +257,97 @@ impl Tags {
     /// Calls `look` with a repository. Returns `None` if the repository has never had a manifest.
     fn with<T>(&self, repo: &str, look: impl FnOnce(&mut Repository) -> T) -> Option<T> {
         let found = self.repos.read().unwrap().get(repo)?.clone();
+        Some(self.counted(repo, &found, look))
+    }
+
+    /// Returns a repository, which is made if it is not there.
+    fn made(&self, repo: &str) -> Arc<Mutex<Repository>> {
+        self.repos.write().unwrap().entry(repo.to_string()).or_default().clone()
+    }
+
+    /// Calls `change` with a repository, and adds the change of its totals to those of its tenant.
+    fn counted<T>(&self, repo: &str, found: &Mutex<Repository>, change: impl FnOnce(&mut Repository) -> T) -> T {
         let mut found = found.lock().unwrap();
-        Some(look(&mut found))
+        let before = found.totals();
+        let result = change(&mut found);
+        let after = found.totals();
+        if before != after {
+            let mut totals = self.totals.lock().unwrap();
+            let held = totals.entry(tenant_of(repo).to_string()).or_default();
+            *held = *held + after - before;
+        }
+        result
+    }
+
+    /// Returns the totals of a tenant's manifests and tags, with those that are being pushed.
+    pub fn totals(&self, tenant: &str) -> Totals {
+        self.totals.lock().unwrap().get(tenant).copied().unwrap_or_default()
+    }
+
+    /// Checks that a repository's tenant may have a manifest whose content is not read yet. `len` is its length if it is known.
+    /// If the repository may have the manifest already, only its tag is checked.
+    ///
+    /// # Errors
+    ///
+    /// Fails with the bound that would be exceeded.
+    pub fn check_push(&self, repo: &str, reference: &str, len: Option<u64>, bounds: &Bounds) -> Result<(), Excess> {
+        let added = self.with(repo, |repo| repo.least_added(reference, len));
+        let added = added.unwrap_or_else(|| Repository::default().least_added(reference, len));
+        bounds.check(self.totals(tenant_of(repo)), added)
+    }
+
+    /// Reserves room for a manifest of `size` bytes, and for its tag if it is pushed under one. A manifest or a tag that the
+    /// repository has needs no room.
+    ///
+    /// # Errors
+    ///
+    /// Fails with the bound of the repository's tenant that would be exceeded.
+    pub fn reserve<'t>(
+        &'t self,
+        repo: &'t str,
+        (digest, size): (&'t str, u64),
+        tag: Option<&'t str>,
+        bounds: &Bounds,
+    ) -> Result<Room<'t>, Excess> {
+        let begun = self.begin_push(repo, (digest, size), tag, bounds);
+        if begun.is_err() {
+            self.forget_empty(repo);
+        }
+        begun.map(|()| Room { tags: self, repo, digest, tag })
+    }
+
+    /// Notes that a push begins, if it exceeds no bound. No other push of the tenant comes between the check and the note.
+    fn begin_push(
+        &self,
+        repo: &str,
+        (digest, size): (&str, u64),
+        tag: Option<&str>,
+        bounds: &Bounds,
+    ) -> Result<(), Excess> {
+        let found = self.made(repo);
+        let mut found = found.lock().unwrap();
+        let before = found.totals();
+        found.pushes.begin((digest, size), tag);
+        let added = found.totals() - before;
+        let mut totals = self.totals.lock().unwrap();
+        let held = totals.entry(tenant_of(repo).to_string()).or_default();
+        let checked = bounds.check(*held, added);
+        match checked {
+            Ok(()) => *held = *held + added,
+            Err(_) => found.pushes.end(digest, tag),
+        }
+        checked
+    }
+
+    /// Removes a repository that has nothing, unless another request uses it.
+    fn forget_empty(&self, repo: &str) {
+        let mut repos = self.repos.write().unwrap();
+        let is_unused = |found: &Arc<Mutex<Repository>>| {
+            Arc::strong_count(found) == 1 && found.lock().unwrap().is_empty()
+        };
+        if repos.get(repo).map_or(false, is_unused) {
+            repos.remove(repo);
+        }
     }
 
     /// Returns the manifest with a digest.
@@ -222,12 +362,12 @@ impl Tags {
 
     /// Adds a manifest that the store accepted, and its tag if it was put under one.
     pub fn put(&self, repo: &str, digest: &str, facts: Facts, tag: Option<&str>, now: u64) {
-        let found = self.repos.write().unwrap().entry(repo.to_string()).or_default().clone();
-        let mut found = found.lock().unwrap();
-        found.put(digest, facts, now);
-        if let Some(tag) = tag {
-            found.put_tag(tag, digest, now);
-        }
+        self.counted(repo, &self.made(repo), |repo| {
+            repo.put(digest, facts, now);
+            if let Some(tag) = tag {
+                repo.put_tag(tag, digest, now);
+            }
+        });
     }
 
     /// Adds a tag of a manifest that is here.
@@ -432,6 +572,14 @@ impl Tags {
     }
 }
 
+impl Drop for Room<'_> {
+    fn drop(&mut self) {
+        let Room { tags, repo, digest, tag } = *self;
+        tags.with(repo, |repo| repo.pushes.end(digest, tag));
+        tags.forget_empty(repo);
+    }
+}
+
 #[cfg(test)]
 mod tests {
     use super::*;
@@ -598,5 +746,93 @@ mod tests {
         assert_eq!(tags.page("acme/web", "", 9), None);
         tags.end_removal("acme/web", "sha256:b");
         assert_eq!(tags.page("acme/web", "", 9).unwrap().items, ["v1", "v2"]);
+    }
+
+    fn totals(manifests: u64, manifest_bytes: u64, tags: u64) -> Totals {
+        Totals { manifests, manifest_bytes, tags }
+    }
+
+    fn of_size(size: u64) -> Facts {
+        Facts { size, ..facts(TYPE) }
+    }
+
+    #[test]
+    fn totals_are_of_what_a_tenant_has() {
+        let tags = Tags::default();
+        let acme = || tags.totals("acme");
+        tags.put("acme/web", "sha256:a", of_size(10), Some("v1"), 1);
+        tags.put("acme/web", "sha256:a", of_size(10), Some("v2"), 1);
+        tags.put("acme/api", "sha256:a", of_size(10), None, 1);
+        tags.put("acmes/web", "sha256:a", of_size(1), None, 1);
+        assert_eq!((acme(), tags.totals("acmes"), tags.totals("none")), (totals(2, 20, 2), totals(1, 1, 0), totals(0, 0, 0)));
+        tags.put("acme/web", "sha256:b", of_size(5), Some("v2"), 1);
+        assert_eq!(acme(), totals(3, 25, 2));
+        tags.add_tag("acme/web", "v3", "sha256:b");
+        assert!(tags.remove_tag("acme/web", "v1", 2));
+        assert_eq!(acme(), totals(3, 25, 2));
+        // A marked manifest counts until the store has deleted it, and so do its tags.
+        tags.begin_removal("acme/web", "sha256:b", Removal::Asked).unwrap();
+        assert_eq!(acme(), totals(3, 25, 2));
+        let removed = tags.take_tags_of("acme/web", "sha256:b");
+        assert_eq!(acme(), totals(3, 25, 0));
+        tags.restore("acme/web", "sha256:b", of_size(5), 1, removed);
+        assert_eq!(acme(), totals(3, 25, 2));
+        tags.remove_manifest("acme/web", "sha256:b", 2);
+        tags.remove_manifest("acme/web", "sha256:a", 2);
+        tags.remove_manifest("acme/api", "sha256:a", 2);
+        assert_eq!(acme(), totals(0, 0, 0));
+    }
+
+    #[test]
+    fn pushes_at_the_same_time_exceed_no_bound_together() {
+        let tags = Tags::default();
+        let bounds = Bounds { manifests: Some(2), manifest_bytes: Some(25), tags: Some(1) };
+        let first = tags.reserve("acme/web", ("sha256:a", 10), Some("v1"), &bounds).ok().unwrap();
+        assert_eq!(tags.totals("acme"), totals(1, 10, 1));
+        let excess = |repo, manifest, tag| tags.reserve(repo, manifest, tag, &bounds).err();
+        assert_eq!(excess("acme/api", ("sha256:a", 16), None), Some(Excess::ManifestBytes { used: 10, added: 16, most: 25 }));
+        assert_eq!(excess("acme/api", ("sha256:a", 10), Some("v1")), Some(Excess::Tags { most: 1 }));
+        assert_eq!(excess("other/api", ("sha256:a", 25), Some("v1")), None);
+        // Pushes of the same manifest and of the same tag need room once.
+        let again = tags.reserve("acme/web", ("sha256:a", 10), Some("v1"), &bounds).ok().unwrap();
+        let second = tags.reserve("acme/web", ("sha256:b", 10), Some("v1"), &bounds).ok().unwrap();
+        assert_eq!(excess("acme/web", ("sha256:c", 1), None), Some(Excess::Manifests { most: 2 }));
+        tags.put("acme/web", "sha256:a", of_size(10), Some("v1"), 1);
+        assert_eq!(tags.totals("acme"), totals(2, 20, 1));
+        drop(first);
+        // The place of a tag that is deleted meanwhile stays with the pushes under it.
+        assert!(tags.remove_tag("acme/web", "v1", 2));
+        assert_eq!(excess("acme/web", ("sha256:a", 10), Some("v2")), Some(Excess::Tags { most: 1 }));
+        drop((again, second));
+        assert_eq!(tags.totals("acme"), totals(1, 10, 0));
+        assert_eq!(excess("acme/web", ("sha256:b", 15), Some("v2")), None);
+    }
+
+    #[test]
+    fn a_push_that_fails_leaves_nothing() {
+        let tags = Tags::default();
+        let none = Bounds { manifests: Some(0), ..Bounds::default() };
+        assert!(tags.reserve("acme/web", ("sha256:a", 10), Some("v1"), &none).is_err());
+        drop(tags.reserve("acme/api", ("sha256:a", 10), Some("v1"), &Bounds::default()));
+        assert!(tags.names().is_empty());
+        assert_eq!(tags.totals("acme"), totals(0, 0, 0));
+    }
+
+    #[test]
+    fn a_push_is_checked_before_its_content_is_read() {
+        let tags = Tags::default();
+        tags.put("acme/web", "sha256:a", of_size(10), Some("v1"), 1);
+        let check = |reference, len, bounds: &Bounds| tags.check_push("acme/web", reference, len, bounds).is_ok();
+        let manifests = Bounds { manifests: Some(1), ..Bounds::default() };
+        assert!(!check("v1", Some(9), &manifests) && !check("sha256:b", Some(10), &manifests));
+        // The content may be the manifest that is there.
+        assert!(check("v2", Some(10), &manifests) && check("v2", None, &manifests) && check("sha256:a", Some(10), &manifests));
+        let bytes = Bounds { manifest_bytes: Some(20), ..Bounds::default() };
+        assert!(check("v2", Some(9), &bytes) && !check("v2", Some(11), &bytes) && !check("sha256:b", Some(11), &bytes));
+        let of_tags = Bounds { tags: Some(1), ..Bounds::default() };
+        assert!(check("v1", Some(9), &of_tags) && !check("v2", Some(10), &of_tags) && check("sha256:b", Some(9), &of_tags));
+        assert!(tags.check_push("acme/api", "v1", Some(10), &of_tags).is_err());
+        let _room = tags.reserve("acme/web", ("sha256:b", 9), Some("v2"), &Bounds::default());
+        assert!(check("sha256:b", Some(9), &manifests) && check("v2", Some(9), &Bounds { tags: Some(2), ..manifests }));
     }
 }

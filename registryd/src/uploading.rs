@@ -1,9 +1,11 @@
 //! Uploads: opens, appends to, closes and abandons them.
 use crate::content::{Piece, RequestContent, Then};
 use crate::fault::{range_text, Fault};
+use crate::frames::{Reason, Refusal};
+use crate::limits::tenant_of;
 use crate::range::content_range;
 use crate::registry::{empty, Call, HandlerResult, Registry};
-use crate::store::{Answer, StoreUnavailable, MountResult};
+use crate::store::{Answer, MountResult, ShareUse, StoreUnavailable};
 use crate::uploads::{AppendingRequest, UploadInUse};
 use bytes::Bytes;
 use hyper::StatusCode;
@@ -169,6 +171,9 @@ pub fn check_len(call: &Call, start: u64, len: Option<u64>) -> Result<(), Fault>
 }
 
 /// Reads the content, and closes the session with its last piece.
+///
+/// If no slot is free, it waits for a sweep and tries once more. The store has refused the piece together with the close, so it
+/// is sent again.
 async fn take_and_close(
     call: &Call,
     adding: &mut AppendingRequest<'_>,
@@ -178,12 +183,25 @@ async fn take_and_close(
 ) -> Result<(), Fault> {
     let (start, rest) = take_all_but_last(call, adding, place, content).await?;
     adding.send();
-    let Registry { store, loose, .. } = &*call.registry;
+    let Registry { store, loose, sweep_requests, .. } = &*call.registry;
     let _turn = loose.begin_link(&call.repo, digest).await;
-    let closed = store.close(&call.repo, adding.upload.session, digest, start, &rest).await;
+    let close = || store.close(&call.repo, adding.upload.session, digest, start, &rest);
+    let mut closed = close().await;
+    if let Ok(Err(Refusal { reason: Reason::StoreFull, .. })) = closed {
+        sweep_requests.wait(store.limit).await;
+        closed = close().await;
+    }
     loose.end_link(&call.repo, digest, &closed);
-    closed??;
-    Ok(())
+    match closed? {
+        Err(Refusal { reason: Reason::LimitReached, .. }) => Err(full_share(call).await?),
+        closed => Ok(closed.map(|_size| ())?),
+    }
+}
+
+/// Returns the failure of a close for which the tenant has too many blobs.
+async fn full_share(call: &Call) -> Result<Fault, Fault> {
+    let ShareUse { blobs, share } = call.registry.store.share_use(&call.repo).await??;
+    Ok(Fault::full_share(tenant_of(&call.repo), share.unwrap_or(blobs)))
 }
 
 /// A task that appends pieces to a session.

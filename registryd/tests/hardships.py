@@ -232,16 +232,17 @@ def a_piece_is_refused_while_the_next_is_on_its_way():
 
 
 def metrics_count_what_was_done():
-    with serving("--slots", "8", "--sweep-ms", "20") as server:
+    with serving("--slots", "8", "--sweep-ms", "20", tenants=("acme=1000000000,5", "other=1000")) as server:
         client, blob = server.client(), f"/v2/acme/one/blobs/{sha256(b'abc')}"
         assert client.ask("POST", f"/v2/acme/one/blobs/uploads/?digest={sha256(b'abc')}", b"abc", PATCH).status == 201
         assert client.ask("GET", blob).body == b"abc"
-        used, quota = (f'registryd_tenant_{name}_bytes{{tenant="acme"}}' for name in ("used", "quota"))
+        used, quota, blobs, share = (f'registryd_tenant_{name}{{tenant="acme"}}' for name in ("used_bytes", "quota_bytes", "blobs", "share"))
         wanted = {'registryd_requests_total{method="POST",status="201"}': 1, 'registryd_request_seconds_count{method="POST"}': 1,
                   "registryd_received_bytes_total": 3, "registryd_sent_bytes_total": 3, "registryd_uploads": 0,
-                  "registryd_slots": 8, "registryd_free_slots": 7, "registryd_held_slots": 0, used: 3, quota: 1_000_000_000}
+                  "registryd_slots": 8, "registryd_free_slots": 7, "registryd_held_slots": 0, used: 3, quota: 1_000_000_000, blobs: 1, share: 5}
         reported = {name: server.metric(name) for name in wanted}
         assert reported == wanted, reported
+        assert b'registryd_tenant_share{tenant="other"}' not in client.ask("GET", "/metrics").body
         assert client.ask("DELETE", blob).status == 202
         assert not server.left(), server.left()
         assert server.metric("registryd_freed_slots_total") == 1 and server.metric("registryd_sweeps_total") > 1

@@ -27,7 +27,7 @@ def shown(dom):
 @contextlib.contextmanager
 def a_registry():
     """A registry with two images and a slot that was freed."""
-    with folder() as path, serving("--data", path, "--sweep-ms", "100", tenants=("acme=100000", "other=5000000")) as server:
+    with folder() as path, serving("--data", path, "--sweep-ms", "100", tenants=("acme=100000", "other=5000000,7")) as server:
         client = server.client()
         old, new = (pushed(client, "acme/web", tag, layer) for tag, layer in (("v1", b"one" * 5000), ("v2", b"two" * 5000)))
         pushed(client, "acme/tools/build", "latest", b"three" * 9000)
@@ -40,7 +40,7 @@ def a_registry():
 def what_was_pushed_is_shown():
     with a_registry() as (server, manifest):
         text = shown(chromium(server.address, "--dump-dom"))
-        for word in ("acme", "60.0 kB of 100.0 kB", "2 repositories", "acme/web", "acme/tools/build", f"v2 {manifest}", "1 manifest", "other",
+        for word in ("acme", "60.0 kB of 100.0 kB", "3 blobs", "0 of 7 blobs", "2 repositories", "acme/web", "acme/tools/build", f"v2 {manifest}", "1 manifest", "other",
                      "No repository.", "freed 1 slots", "Free slots 4093 of 4096", "Data durable", "Store not verified" if "NOT VERIFIED" in server.logged() else "Store verified",
                      "Last commit of tags"):
             assert word in text, (word, text)
@@ -55,7 +55,7 @@ class Hostile(http.server.BaseHTTPRequestHandler):
         tag = {"name": HOSTILE, "digest": HOSTILE, "media_type": HOSTILE}
         state = {"version": HOSTILE, "time": 1, "started": 0, "durable": True, "slots": 1, "free_slots": 1, "uploads": 0, "folder": None, "store": {"verified": False},
                  "collector": {"sweeps": 0, "freed": 0, "held": 0, "last": []},
-                 "tenants": [{"name": HOSTILE, "used": 0, "quota": 0, "repositories": 1}]}
+                 "tenants": [{"name": HOSTILE, "used": 0, "quota": 0, "blobs": 0, "share": None, "repositories": 1}]}
         repos = {"more": False, "repositories": [{"name": HOSTILE, "manifests": 1, "tags": [tag], "more_tags": False}]}
         body = self.page if self.path == "/" else json.dumps(repos if "tenant" in self.path else state).encode()
         self.send_response(200)

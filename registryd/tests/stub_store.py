@@ -2,20 +2,23 @@
 """A stub of blobd with faults for tests. It speaks the protocol of docs/PROTOCOL.md, stores manifests and blobs without
 hashing them, and writes a line `stub: COMMAND REPOSITORY` to standard error for each call. STUB_RULES is a JSON object with
 the keys `COMMAND REPOSITORY` or `COMMAND`. A rule may have the seconds before a call is made (`slow`) or after it (`late`), a
-status that is returned without making the call (`status`), and a first number that replaces the one of the reply (`first`).
-The rule `greeting` has the seconds before the stub greets."""
-import hashlib, json, os, struct, sys, threading, time
+status that is returned without making the call (`status`), a first number that replaces the one of the reply (`first`), and the
+number of the command's first calls that it is for (`times`). The rule `greeting` has the seconds before the stub greets."""
+import collections, hashlib, json, os, struct, sys, threading, time
 
 GREETING = b"blobd\0\1\0"
 HEAD = struct.Struct("<BBHHHIIQQ")
 START, STATUS, APPEND, CLOSE, ABANDON, MOUNT, DELETE, PUT_MANIFEST, GET_MANIFEST, DELETE_MANIFEST = range(1, 11)
 LEASE, READ, GIVE_BACK, SWEEP = range(11, 15)
 STAT, STAT_MANIFEST, FREE_SLOTS, USAGE, FETCH = range(17, 22)
+SHARE = 23
 # The quota of each tenant, in bytes.
 QUOTA = 1 << 50
+# The share of a tenant without one, in blobs.
+UNLIMITED = (1 << 32) - 1
 # The maximum length of a piece that a fetch returns, in bytes.
 MAX_FETCHED = 1 << 20
-UPLOAD_UNKNOWN, RANGE_INVALID, BLOB_UNKNOWN, MANIFEST_UNKNOWN, NO_LEASE, NO_COMMAND = 4, 6, 7, 9, 254, 255
+UPLOAD_UNKNOWN, RANGE_INVALID, BLOB_UNKNOWN, MANIFEST_UNKNOWN, LIMIT_REACHED, NO_LEASE, NO_COMMAND = 4, 6, 7, 9, 15, 254, 255
 
 
 def piece(content, span):
@@ -27,9 +30,15 @@ def reply(status=0, first=0, second=0, digest="", body=b""):
     return status, first, second, digest, body
 
 
+def share_of(limits):
+    """Returns the share in the limits of a tenant, which are `QUOTA` or `QUOTA,BLOBS`."""
+    return int(limits.partition(",")[2] or UNLIMITED)
+
+
 class Stub:
-    def __init__(self):
-        self.rules = json.loads(os.environ.get("STUB_RULES", "{}"))
+    def __init__(self, tenants):
+        self.rules, self.asked = json.loads(os.environ.get("STUB_RULES", "{}")), collections.Counter()
+        self.shares = {name: share_of(limits) for name, limits in (word.split("=") for word in tenants)}
         self.lock, self.count = threading.Lock(), 0
         self.manifests, self.uploads, self.blobs, self.leases = {}, {}, {}, {}
 
@@ -52,7 +61,16 @@ class Stub:
             return reply(body=piece(kept, span) if command == READ else b"")
         if command == USAGE:
             return reply(second=QUOTA)
+        if command == SHARE:
+            return reply(first=len(self.held(repo)), second=self.share(repo))
         return reply(0 if command in (SWEEP, FREE_SLOTS) else NO_COMMAND)
+
+    def share(self, repo):
+        return self.shares[repo.split("/")[0]]
+
+    def held(self, repo):
+        """Returns the digests of a repository's tenant."""
+        return {digest for other, digest in self.blobs if other.split("/")[0] == repo.split("/")[0]}
 
     def upload(self, command, repo, digest, number, span, body):
         if number not in self.uploads:
@@ -60,6 +78,8 @@ class Stub:
         received = len(self.uploads[number])
         if span and span[0] != received:
             return reply(RANGE_INVALID, received)
+        if command == CLOSE and len(self.held(repo) | {digest}) > self.share(repo):
+            return reply(LIMIT_REACHED)
         self.uploads[number] += body
         if command == CLOSE:
             self.blobs[repo, digest] = self.uploads[number]
@@ -95,6 +115,13 @@ class Stub:
         self.leases[self.count] = kept
         return reply(first=len(kept), second=self.count)
 
+    def rule(self, command, repo):
+        """Returns the rule for a call."""
+        with self.lock:
+            self.asked[command] += 1
+            rule = {**self.rules.get(str(command), {}), **self.rules.get(f"{command} {repo}", {})}
+            return rule if self.asked[command] <= rule.get("times", self.asked[command]) else {}
+
     def serve(self, requests, replies):
         """Serves one connection until it is closed."""
         with open(requests, "rb") as source, open(replies, "wb", buffering=0) as sink:
@@ -110,7 +137,7 @@ class Stub:
                 repo, digest, other, body = (source.read(count) for count in (repo, digest, other, body))
                 repo, digest, span = repo.decode(), digest.decode(), (start, last) if flags & 1 else None
                 sys.stderr.write(f"stub: {command} {repo}\n")
-                rule = {**self.rules.get(str(command), {}), **self.rules.get(f"{command} {repo}", {})}
+                rule = self.rule(command, repo)
                 time.sleep(rule.get("slow", 0))
                 status, first, second, text, content = rule.get("status", 0), 0, 0, "", b""
                 if status == 0:
@@ -123,8 +150,9 @@ class Stub:
 
 
 def main():
-    paths = sys.argv[sys.argv.index("--") + 1:]
-    stub = Stub()
+    end = sys.argv.index("--")
+    paths = sys.argv[end + 1:]
+    stub = Stub(word for word in sys.argv[1:end] if "=" in word)
     lines = [threading.Thread(target=stub.serve, args=pair) for pair in zip(paths[::2], paths[1::2])]
     for line in lines:
         line.start()

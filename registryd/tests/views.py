@@ -24,14 +24,19 @@ def tenant_of(status, name):
 
 
 def the_state_is_that_of_the_store():
-    with serving("--slots", "40", tenants=("acme=1000000", "poor=5")) as server:
+    with serving("--slots", "40", tenants=("acme=1000000,9", "poor=5")) as server:
         client = server.client()
         image = pushed(client, "acme/one", "v1", b"layer")
         opened(client, "acme/two")
         status = status_of(client)
-        assert tenant_of(status, "acme") == {"name": "acme", "used": len(b"{}layer"), "quota": 1000000, "repositories": 2}
-        assert tenant_of(status, "poor") == {"name": "poor", "used": 0, "quota": 5, "repositories": 0}
+        acme = {"name": "acme", "used": len(b"{}layer"), "quota": 1000000, "blobs": 2, "share": 9, "repositories": 2, "manifests": 1,
+                "manifest_bytes": len(image), "tags": 1}
+        assert tenant_of(status, "acme") == acme, tenant_of(status, "acme")
+        poor = {"name": "poor", "used": 0, "quota": 5, "blobs": 0, "share": None, "repositories": 0, "manifests": 0,
+                "manifest_bytes": 0, "tags": 0}
+        assert tenant_of(status, "poor") == poor, tenant_of(status, "poor")
         assert (status["slots"], status["free_slots"], status["uploads"], status["durable"]) == (40, 38, 1, False)
+        assert status["bounds"] == {"manifests": None, "manifest_bytes": None, "tags": None}
         assert status["folder"] is None and abs(status["time"] - time.time()) < 5 and status["time"] - status["started"] < 60
         acme = status_of(client, "?tenant=acme")
         tag = {"name": "v1", "digest": sha256(image), "media_type": MANIFEST}
@@ -142,7 +147,7 @@ def the_dashboard_shows_metrics_that_exist():
     with open(f"{os.path.dirname(TOP)}/docs/grafana.json") as file:
         board = json.load(file)
     queries = [target["expr"] for panel in board["panels"] for target in panel["targets"]]
-    with folder() as path, serving("--data", path) as server:
+    with folder() as path, serving("--data", path, tenants=["acme=1000000,9"]) as server:
         pushed(server.client())
         text = server.client().ask("GET", "/metrics").body.decode()
     there = {re.match(r"\w+", line).group() for line in text.splitlines() if not line.startswith("#")}

@@ -253,6 +253,7 @@ def other_settings(room):
     for name, (words, text) in {
         "a missing tenant": ({"tenants": {"other": QUOTA}}, "acme"),
         "a smaller quota": ({"tenants": {"acme": state.use() - 1}}, "acme"),
+        "a smaller share": ({"tenants": {"acme": f"{QUOTA},{len(contents) - 1}"}}, "number of blobs"),
         "fewer slots": ({"slots": len(contents) - 1}, "slots"),
         "a smaller limit of blobs": ({"most": longest - 1}, "limit"),
     }.items():
@@ -264,7 +265,7 @@ def other_settings(room):
     for name, words in {
         "more tenants in another order": {"tenants": {"other": 1, "acme": QUOTA, "more": 2}},
         "more of everything": {"tenants": {"acme": 2 * QUOTA}, "slots": 65536, "most": 1 << 40},
-        "just enough of everything": {"tenants": {"acme": state.use()}, "slots": len(contents), "most": longest},
+        "just enough of everything": {"tenants": {"acme": f"{state.use()},{len(contents)}"}, "slots": len(contents), "most": longest},
     }.items():
         puts_log(small.folder, files)
         found = room.runs(small.folder, given=given, **{"tenants": small.tenants, **words})

@@ -70,9 +70,9 @@ class Room:
         return {"CRASH_TRACE": str(self.path / "trace"), "CRASH_KEEP": str(self.kept)}
 
     def command(self, folder, *options, slots=SLOTS, most=1 << 30, tenants=None):
-        """Returns the words that start a program on a folder."""
-        quotas = tenants or {tenant: QUOTA for tenant in TENANTS}
-        words = [f"{tenant}={quota}" for tenant, quota in quotas.items()]
+        """Returns the words that start a program on a folder. A tenant has a quota, or the text of a quota and a share."""
+        limits = tenants or {tenant: QUOTA for tenant in TENANTS}
+        words = [f"{tenant}={limit}" for tenant, limit in limits.items()]
         return [self.program, "--data", folder, *options, str(slots), str(most), *words]
 
     def starts(self, folder, *options, connections=1, around=(), settings=None, **words):
