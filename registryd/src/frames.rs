@@ -35,6 +35,7 @@ pub enum Command {
     Usage = 20,
     Fetch = 21,
     Share = 23,
+    SyncCount = 25,
 }
 
 /// A request.

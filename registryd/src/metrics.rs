@@ -1,6 +1,7 @@
 //! The metrics for Prometheus.
 use hyper::{Method, StatusCode};
 use prometheus::{Encoder, HistogramOpts, HistogramVec, IntCounter, IntCounterVec, IntGauge, IntGaugeVec, Opts, Registry, TextEncoder};
+use std::sync::atomic::{AtomicU64, Ordering};
 use std::sync::Arc;
 use std::time::Duration;
 
@@ -38,6 +39,32 @@ impl Commits {
     }
 }
 
+/// The syncs of the log, as far as the store was asked: their number, and the time at which it was last found to be greater.
+struct Syncs {
+    /// The number that the store last told.
+    told: AtomicU64,
+    total: IntCounter,
+    last: IntGauge,
+}
+
+impl Syncs {
+    fn new() -> Syncs {
+        let total = IntCounter::new("registryd_syncs_total", "Syncs of the log of the store.");
+        let help = "Time at which the registry last found a new sync of the log, in seconds since 1970.";
+        let last = IntGauge::new("registryd_last_sync_seconds", help);
+        Syncs { told: AtomicU64::new(0), total: total.expect("a counter's name"), last: last.expect("a gauge's name") }
+    }
+
+    /// Notes the number that the store tells. A lower one than before comes from a reply that was overtaken.
+    fn note(&self, count: u64) {
+        let before = self.told.fetch_max(count, Ordering::SeqCst);
+        if count > before {
+            self.total.inc_by(count - before);
+            self.last.set(now() as i64);
+        }
+    }
+}
+
 /// The counters and gauges. Clones share them.
 #[derive(Clone)]
 pub struct Metrics(Arc<Inner>);
@@ -65,6 +92,7 @@ struct Inner {
     database: IntGauge,
     free: IntGauge,
     commits: Commits,
+    syncs: Syncs,
 }
 
 impl Metrics {
@@ -97,6 +125,7 @@ impl Metrics {
             database: gauge("registryd_database_bytes", "Length of the database of tags, in bytes."),
             free: gauge("registryd_free_bytes", "Bytes that are free on the disk of the folder."),
             commits: Commits::new(),
+            syncs: Syncs::new(),
             registry,
         };
         let all: [Box<dyn prometheus::core::Collector>; 16] = [
@@ -169,17 +198,30 @@ impl Metrics {
         (commits.total(), Some(commits.last.get()).filter(|time| *time != 0))
     }
 
+    /// Notes how often the log was synced.
+    pub fn note_syncs(&self, count: u64) {
+        self.0.syncs.note(count);
+    }
+
+    /// Returns the number of syncs of the log, and the time at which it was last found to be greater, in seconds since 1970.
+    pub fn synced(&self) -> (u64, Option<i64>) {
+        let syncs = &self.0.syncs;
+        (syncs.total.get(), Some(syncs.last.get()).filter(|time| *time != 0))
+    }
+
     /// Adds the metrics of a folder, and returns the counter of the database's transactions.
     pub fn add_folder(&self, is_durable: bool) -> Commits {
-        let Inner { registry, durable, log, live, database, free, commits, .. } = &*self.0;
+        let Inner { registry, durable, log, live, database, free, commits, syncs, .. } = &*self.0;
         durable.set(i64::from(is_durable));
-        let all: [Box<dyn prometheus::core::Collector>; 6] = [
+        let all: [Box<dyn prometheus::core::Collector>; 8] = [
             Box::new(log.clone()),
             Box::new(live.clone()),
             Box::new(database.clone()),
             Box::new(free.clone()),
             Box::new(commits.total.clone()),
             Box::new(commits.last.clone()),
+            Box::new(syncs.total.clone()),
+            Box::new(syncs.last.clone()),
         ];
         for collector in all {
             registry.register(collector).expect("each name is registered once");
@@ -228,5 +270,22 @@ impl Metrics {
         let mut text = Vec::new();
         TextEncoder::new().encode(&registry.gather(), &mut text).expect("writing to memory succeeds");
         Ok(String::from_utf8_lossy(&text).into_owned())
+    }
+}
+
+#[cfg(test)]
+mod tests {
+    use super::*;
+
+    #[test]
+    fn a_sync_is_counted_once() {
+        let syncs = Syncs::new();
+        syncs.note(0);
+        assert_eq!((syncs.total.get(), syncs.last.get()), (0, 0));
+        syncs.note(5);
+        syncs.note(3);
+        syncs.note(7);
+        assert_eq!(syncs.total.get(), 7);
+        assert!(syncs.last.get() > 0);
     }
 }

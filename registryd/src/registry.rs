@@ -359,11 +359,22 @@ impl Registry {
         answered.await.unwrap_or_else(|_| Err(Fault::internal())).unwrap_or_else(Fault::into_response)
     }
 
+    /// Asks the store how often its log was synced, if it has one, and notes the number.
+    pub async fn note_syncs(&self) -> Result<(), StoreUnavailable> {
+        if self.folder.is_some() {
+            if let Ok(count) = self.store.sync_count().await? {
+                self.metrics.note_syncs(count);
+            }
+        }
+        Ok(())
+    }
+
     /// Returns the metrics of all tenants.
     pub async fn metrics_text(&self) -> Result<String, StoreUnavailable> {
         if let Some(folder) = &self.folder {
             self.metrics.set_folder(folder);
         }
+        self.note_syncs().await?;
         self.metrics.text(&self.store, &self.tenants, self.slots, self.uploads.len()).await
     }
 

@@ -143,6 +143,7 @@ impl Registry {
                 "tags": totals.tags,
             }));
         }
+        self.note_syncs().await?;
         let (sweeps, freed, held) = self.metrics.swept();
         Ok(json!({
             "version": env!("CARGO_PKG_VERSION"),
@@ -168,6 +169,7 @@ impl Registry {
     fn folder_json(&self) -> Option<Value> {
         let folder = self.folder.as_ref()?;
         let (commits, last_commit) = self.metrics.committed();
+        let (syncs, last_sync) = self.metrics.synced();
         Some(json!({
             "log_bytes": folder.log_bytes(),
             "database_bytes": folder.database_bytes(),
@@ -175,6 +177,8 @@ impl Registry {
             "min_free_bytes": folder.min_free(),
             "commits": commits,
             "last_commit": last_commit,
+            "syncs": syncs,
+            "last_sync": last_sync,
         }))
     }
 

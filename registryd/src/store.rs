@@ -466,6 +466,12 @@ impl Store {
         Ok(answer.map(|reply| reply.first))
     }
 
+    /// Returns how often the store's log was synced since the store started.
+    pub async fn sync_count(&self) -> Answer<u64> {
+        let answer = self.ask_own(self.limit, Request::new(Command::SyncCount)).await?;
+        Ok(answer.map(|reply| reply.first))
+    }
+
     /// Returns the bytes that a repository's tenant uses, and its quota.
     pub async fn usage(&self, repo: &str) -> Answer<(u64, u64)> {
         let answer = self.ask(Request { repo, ..Request::new(Command::Usage) }).await?;

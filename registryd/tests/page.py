@@ -42,7 +42,7 @@ def what_was_pushed_is_shown():
         text = shown(chromium(server.address, "--dump-dom"))
         for word in ("acme", "60.0 kB of 100.0 kB", "3 blobs", "0 of 7 blobs", "2 repositories", "acme/web", "acme/tools/build", f"v2 {manifest}", "1 manifest", "other",
                      "No repository.", "freed 1 slots", "Free slots 4093 of 4096", "Data durable", "Store not verified" if "NOT VERIFIED" in server.logged() else "Store verified",
-                     "Last commit of tags"):
+                     "Last commit of tags", "Last sync of the log"):
             assert word in text, (word, text)
         assert "v1" not in text.split() and "Cannot" not in text and "Loading" not in text, text
 

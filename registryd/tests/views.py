@@ -69,6 +69,8 @@ def a_folder_has_commits_and_lengths():
             kept = status["folder"]
             assert kept["commits"] == server.metric("registryd_database_commits_total") > 0
             assert kept["last_commit"] == server.metric("registryd_last_commit_timestamp_seconds")
+            assert kept["syncs"] == server.metric("registryd_syncs_total") > 0
+            assert kept["last_sync"] == server.metric("registryd_last_sync_seconds") and abs(kept["last_sync"] - time.time()) < 10
             assert kept["log_bytes"] == log_of(path).length() and kept["min_free_bytes"] == 1 < kept["free_bytes"]
             by_signal(server)
         with serving("--data", path) as server:
