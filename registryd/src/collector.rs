@@ -59,8 +59,8 @@ impl Registry {
         while !self.store.has_ended() {
             self.sweep_requests.begin();
             let least = self.sweep_once().await;
-            let _ = self.note_syncs().await;
             self.sweep_requests.end();
+            let _ = self.note_syncs().await;
             self.sweep_requests.pause(least, rest).await;
         }
     }

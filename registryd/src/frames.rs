@@ -34,7 +34,7 @@ pub enum Command {
     FreeSlots = 19,
     Usage = 20,
     Fetch = 21,
-    Share = 23,
+    SlotUse = 23,
     SyncCount = 25,
 }
 

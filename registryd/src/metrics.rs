@@ -259,7 +259,7 @@ impl Metrics {
                 used.with_label_values(&[tenant]).set(usage.0 as i64);
                 quota.with_label_values(&[tenant]).set(usage.1 as i64);
             }
-            if let Ok(held) = store.share_use(tenant).await? {
+            if let Ok(held) = store.slot_use(tenant).await? {
                 blobs.with_label_values(&[tenant]).set(held.blobs as i64);
                 if let Some(most) = held.share {
                     share.with_label_values(&[tenant]).set(most as i64);

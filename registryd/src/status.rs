@@ -129,7 +129,7 @@ impl Registry {
         let mut tenants = Vec::with_capacity(self.tenants.len());
         for tenant in &self.tenants {
             let (used, quota) = self.store.usage(tenant).await?.unwrap_or_default();
-            let held = self.store.share_use(tenant).await?.ok();
+            let held = self.store.slot_use(tenant).await?.ok();
             let totals = self.tags.totals(tenant);
             tenants.push(json!({
                 "name": tenant,

@@ -80,7 +80,7 @@ pub enum MountResult {
 
 /// The number of distinct blobs in a tenant's repositories, and the tenant's share, which is their maximum number if there is
 /// one.
-pub struct ShareUse {
+pub struct SlotUse {
     pub blobs: u64,
     pub share: Option<u64>,
 }
@@ -479,10 +479,10 @@ impl Store {
     }
 
     /// Returns the number of distinct blobs of a repository's tenant, and its share.
-    pub async fn share_use(&self, repo: &str) -> Answer<ShareUse> {
-        let answer = self.ask(Request { repo, ..Request::new(Command::Share) }).await?;
+    pub async fn slot_use(&self, repo: &str) -> Answer<SlotUse> {
+        let answer = self.ask(Request { repo, ..Request::new(Command::SlotUse) }).await?;
         let share = |number| Some(number).filter(|number| *number != UNLIMITED);
-        Ok(answer.map(|reply| ShareUse { blobs: reply.first, share: share(reply.second) }))
+        Ok(answer.map(|reply| SlotUse { blobs: reply.first, share: share(reply.second) }))
     }
 
     /// Closes the connections and waits for `blobd`, which ends then. It writes its totals to the standard error of this

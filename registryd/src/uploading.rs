@@ -5,7 +5,7 @@ use crate::frames::{Reason, Refusal};
 use crate::limits::tenant_of;
 use crate::range::content_range;
 use crate::registry::{empty, Call, HandlerResult, Registry};
-use crate::store::{Answer, MountResult, ShareUse, StoreUnavailable};
+use crate::store::{Answer, MountResult, SlotUse, StoreUnavailable};
 use crate::uploads::{AppendingRequest, UploadInUse};
 use bytes::Bytes;
 use hyper::StatusCode;
@@ -200,7 +200,7 @@ async fn take_and_close(
 
 /// Returns the failure of a close for which the tenant has too many blobs.
 async fn full_share(call: &Call) -> Result<Fault, Fault> {
-    let ShareUse { blobs, share } = call.registry.store.share_use(&call.repo).await??;
+    let SlotUse { blobs, share } = call.registry.store.slot_use(&call.repo).await??;
     Ok(Fault::full_share(tenant_of(&call.repo), share.unwrap_or(blobs)))
 }
 

@@ -11,7 +11,7 @@ HEAD = struct.Struct("<BBHHHIIQQ")
 START, STATUS, APPEND, CLOSE, ABANDON, MOUNT, DELETE, PUT_MANIFEST, GET_MANIFEST, DELETE_MANIFEST = range(1, 11)
 LEASE, READ, GIVE_BACK, SWEEP = range(11, 15)
 STAT, STAT_MANIFEST, FREE_SLOTS, USAGE, FETCH = range(17, 22)
-SHARE = 23
+SLOT_USE = 23
 # The quota of each tenant, in bytes.
 QUOTA = 1 << 50
 # The share of a tenant without one, in blobs.
@@ -61,7 +61,7 @@ class Stub:
             return reply(body=piece(kept, span) if command == READ else b"")
         if command == USAGE:
             return reply(second=QUOTA)
-        if command == SHARE:
+        if command == SLOT_USE:
             return reply(first=len(self.held(repo)), second=self.share(repo))
         return reply(0 if command in (SWEEP, FREE_SLOTS) else NO_COMMAND)
 

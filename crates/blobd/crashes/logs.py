@@ -247,9 +247,10 @@ def other_settings(room):
     contents = {digest: data for (_, digest), data in state.links.items()}
     longest = max(map(len, contents.values()))
     files = log_files(small.folder)
-    steps = state.observed(small.names)
-    given = GREETING + b"".join(step.request for step in steps[1:])
-    wanted = GREETING + b"".join(step.reply for step in steps[1:])
+    # The first two have the quota and the share in their replies.
+    steps = state.observed(small.names)[2:]
+    given = GREETING + b"".join(step.request for step in steps)
+    wanted = GREETING + b"".join(step.reply for step in steps)
     for name, (words, text) in {
         "a missing tenant": ({"tenants": {"other": QUOTA}}, "acme"),
         "a smaller quota": ({"tenants": {"acme": state.use() - 1}}, "acme"),
