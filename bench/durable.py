@@ -176,18 +176,18 @@ def distributed(times):
     return f"median {times[len(times) // 2]:.3f} ms, p99 {times[len(times) * 99 // 100]:.3f} ms, most {times[-1]:.3f} ms"
 
 
-def rewriting(bench):
-    """Prints how long a rewriting takes while the store is served, and the times of small commands before it and meanwhile."""
-    count, folder = bench.scaled(1024), bench.folder()
-    print("\nA rewriting by request, and small commands on one connection meanwhile")
+def rewritten(bench, count, size):
+    """Prints how long a rewriting takes while the store is served, and the times of small commands before it and meanwhile. The store
+    has had this number of blobs of this size, of which three of four were deleted."""
+    folder = bench.folder()
     blobd = bench.blobd(folder, "closes", 2)
     line, other = blobd.opens()
     obstruct(folder)
-    timed(line, garbage("t0", count, MIB))
+    timed(line, garbage("t0", count, size))
     calls = small("t1", 1 << 40)
     quiet = timed(other, itertools.islice(calls, bench.scaled(2000)))
     (folder / "base.new").rmdir()
-    size, request, meanwhile = log_length(folder), folder / "rewrite", []
+    length, request, meanwhile = log_length(folder), folder / "rewrite", []
     request.touch()
     while request.exists():
         time.sleep(0.001)
@@ -197,10 +197,16 @@ def rewriting(bench):
     took = time.monotonic() - start
     blobd.ends()
     print(
-        f"{count} blobs of a MiB, three of four deleted: {took:.2f} s, {log_length(folder) / MIB:,.1f} of {size / MIB:,.1f} MiB are left\n"
+        f"{count} blobs of {size} bytes, three of four deleted: {took:.2f} s, {log_length(folder) / MIB:,.1f} of {length / MIB:,.1f} MiB are left\n"
         f"commands before: {distributed(quiet)}\ncommands meanwhile: {distributed(meanwhile)}",
         flush=True,
     )
+
+
+def rewriting(bench):
+    print("\nA rewriting by request, and small commands on one connection meanwhile")
+    rewritten(bench, bench.scaled(1024), MIB)
+    rewritten(bench, bench.scaled(262_144), 1024)
 
 
 def small_commands(bench):
