@@ -2,7 +2,7 @@
 use Rattle.std.specs.Prelude.{ℕ, List, ◌++◌, codes}
 use Rattle.std.specs.Fmt.{decimal}
 use Rattle.blob_digest.specs.declared.refusal.Refusal.{Refusal}
-use Rattle.blob_digest.specs.declared.refusal.Refusal.TheVariants.{NameInvalid, DigestInvalid, NameUnknown, UploadUnknown, SizeInvalid, RangeInvalid, BlobUnknown, ManifestInvalid, ManifestUnknown, ManifestBlobUnknown, Quota, Referenced, StoreFull, TooManyReaders, LimitReached, WeightSpent, Memory, Busy}
+use Rattle.blob_digest.specs.declared.refusal.Refusal.TheVariants.{NameInvalid, DigestInvalid, NameUnknown, UploadUnknown, SizeInvalid, RangeInvalid, BlobUnknown, ManifestInvalid, ManifestUnknown, ManifestBlobUnknown, Quota, Referenced, StoreFull, TooManyReaders, LimitReached, WeightSpent, Memory, Busy, RepoInUse}
 
 -- the text of a refusal: its name and its fields, numbers in decimal and digests as their texts
 abbrev pub refusal_text : Refusal → List ℕ
@@ -24,3 +24,4 @@ refusal_text LimitReached = codes "LimitReached"
 refusal_text WeightSpent = codes "WeightSpent"
 refusal_text Memory = codes "Memory"
 refusal_text Busy = codes "Busy"
+refusal_text RepoInUse = codes "RepoInUse"

@@ -27,7 +27,7 @@ pub enum Refusal {
     NameInvalid,
     /// The text is not a digest, or the content does not have the digest (`DIGEST_INVALID`).
     DigestInvalid,
-    /// The tenant does not exist (`NAME_UNKNOWN`).
+    /// The tenant does not exist, or a repository that is to be removed does not (`NAME_UNKNOWN`).
     NameUnknown,
     /// The tenant has no such session, or the session belongs to another repository (`BLOB_UPLOAD_UNKNOWN`).
     UploadUnknown,
@@ -74,6 +74,8 @@ pub enum Refusal {
     Memory,
     /// The session is checked out: a chunk is being added to it.
     Busy,
+    /// The repository has a link, a manifest or a session.
+    RepoInUse,
 }
 
 impl fmt::Display for Refusal {
@@ -99,6 +101,7 @@ impl fmt::Display for Refusal {
             Refusal::WeightSpent => f.write_str("WeightSpent"),
             Refusal::Memory => f.write_str("Memory"),
             Refusal::Busy => f.write_str("Busy"),
+            Refusal::RepoInUse => f.write_str("RepoInUse"),
         }
     }
 }

@@ -1,8 +1,9 @@
--- The n-th item of an iterator over a list.
-use Rattle.std.proofs.Common.{◌≡◌, ℕ, ◌≤◌, List, [], ◌∷◌, length, Option, Some, None, sym, ap, ◌∙◌, arith}
+-- The first and the n-th item of an iterator over a list.
+use Rattle.std.proofs.Common.{◌≡◌, ℕ, ◌≤◌, Bool, true, false, cond, List, [], ◌∷◌, length, map, filter, Option, Some, None, is_some, refl, sym, ap, ◌∙◌, arith}
 use Prim.Native.Nat.{zero, suc}
 use Rattle.std.specs.Prelude.{slice_get}
 use Rattle.std.specs.Option.{option_map}
+use Rattle.std.specs.List.{list_any}
 use Rattle.std.specs.Iterator.{Yields, YieldsFirstBy, SkipsThenYields}
 
 module _ {S A B : Type 0} (view : A → B) (rest : S → List B) where
@@ -24,3 +25,23 @@ module _ {S A B : Type 0} (view : A → B) (rest : S → List B) where
   pub nth_is : (s : S) (n : ℕ) (r : Option A) (u : S) → SkipsThenYields gives s n r u → option_map view r ≡ slice_get (rest s) n
   nth_is s n None u ran = past ran.0 s ran.1.0 n ran.1.1 ran.1.2.0 ran.2
   nth_is s n (Some y) u ran = within ran.0 s ran.1.0 u n y ran.1.1 ran.1.2 ran.2
+
+  -- whether something is left
+  abbrev some_left : List B → Bool
+  some_left [] = false
+  some_left (x ∷ xs) = true
+
+  next_left : (s : S) (r : Option A) (t : S) → gives s r t → is_some r ≡ some_left (rest s)
+  next_left s None t is = sym (ap some_left is.0)
+  next_left s (Some x) t is = sym (ap some_left is)
+
+  filtered_left : {E : Type 0} (p : E → Bool) (f : E → B) (es : List E) → some_left (map f (filter p es)) ≡ list_any p es
+  filtered_left p f [] = refl
+  filtered_left p f (e ∷ es) = elim (p e) as (λ b. p e ≡ b → some_left (map f (cond b (e ∷ filter p es) (filter p es))) ≡ list_any p (e ∷ es)) [
+    | true ↦ λ is. sym (rw is refl)
+    | false ↦ λ is. filtered_left p f es ∙ sym (rw is refl)
+  ] refl
+
+  -- `next` returns something if and only if an entry of the list passes the test that the items passed
+  pub next_is_some : {E : Type 0} (p : E → Bool) (f : E → B) (es : List E) (s : S) (r : Option A) (t : S) → gives s r t → rest s ≡ map f (filter p es) → is_some r ≡ list_any p es
+  next_is_some p f es s r t ran is = next_left s r t ran ∙ ap some_left is ∙ filtered_left p f es

@@ -1,4 +1,4 @@
--- Lookups after an insertion or a removal, an induction over maps, and sums of two maps that agree.
+-- Lookups after an insertion or a removal, an induction over maps, sums of two maps that agree, and maps with the same keys.
 use Rattle.std.proofs.Common.{◌≡◌, ◌≢◌, ℕ, ◌+◌, true, false, List, [], ◌∷◌, length, Option, Some, None, is_some, refl, sym, ap, ◌∙◌, subst, arith, inl, inr, zero-add}
 use Prim.Native.Nat.{zero, suc}
 use Rattle.std.specs.Prelude.{◌⊎◌}
@@ -9,6 +9,7 @@ use Rattle.std.specs.Cmp.{IsTotalOrder, Equal-is, tied_itself}
 use Rattle.std.specs.List.{sum_by}
 use Rattle.std.specs.FinMap.{FinMap, find, entries, get, insert, remove, empty, len, get-insert, get-remove, get-entries, get-empty, len-entries, len-remove, empty_of_len, same_map, IsAntisymmetric}
 use Rattle.std.proofs.lemmas.Bool.{true≢false}
+use Rattle.spec_lib.proofs.Lists.{sum_by-ones}
 use Rattle.spec_lib.proofs.Options.{some_same}
 use Rattle.spec_lib.proofs.Rows.{no_tie, entries-empty}
 use Rattle.spec_lib.proofs.Sums.{sum_new, sum_split, insert-remove, insert_back, get-remove_same}
@@ -122,3 +123,16 @@ module _ {K : Type 0} {R : K → K → Ordering} (o : IsTotalOrder R) (same : Is
       let old = sum_at g n k in
       omega arith)
       m
+
+  -- maps with the same keys have the same size
+  pub len-same_keys : {X Y : Type 0} (m : FinMap R X) (n : FinMap R Y) → ((k : K) → is_some (get m k) ≡ is_some (get n k)) → len m ≡ len n
+  len-same_keys {X} {Y} m n each =
+      let one : K × X → ℕ = λ _. 1 in
+      let other : K × Y → ℕ = λ _. 1 in
+      len-entries m ∙ sym (sum_by-ones (entries m)) ∙ sum_alike one other m n (λ k. at k (get m k) (get n k) (each k)) ∙ sum_by-ones (entries n) ∙ sym (len-entries n)
+    where
+      at : (k : K) (x : Option X) (y : Option Y) → is_some x ≡ is_some y → term (λ (e : K × X). 1) k x ≡ term (λ (e : K × Y). 1) k y
+      at k None None e = refl
+      at k None (Some v) e = cc
+      at k (Some u) None e = cc
+      at k (Some u) (Some v) e = refl

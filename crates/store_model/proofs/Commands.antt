@@ -11,6 +11,7 @@ pub mod Manifests
 pub mod Mount
 pub mod Opening
 pub mod Referrers
+pub mod Repos
 pub mod Runs
 pub mod SomeRun
 pub mod SomeSweep

@@ -7,6 +7,7 @@ pub mod Histories
 pub mod Isolation
 pub mod Limits
 pub mod Manifests
+pub mod Repositories
 pub mod Runs
 pub mod Shares
 pub mod Sweeps

@@ -11,4 +11,5 @@ pub mod Repos
 pub mod SessionTenants
 pub mod Sessions
 pub mod Shares
+pub mod Unused
 pub mod Use

@@ -2,12 +2,12 @@
 -- A command that allocates may fail with `Memory` instead, which changes nothing (`Runs`: `IsCase`).
 use Rattle.std.specs.Prelude.{ℕ, ◌+◌, ◌^◌, nat_le, nat_lt, ◌&&◌, ◌||◌, not, if◌then◌else◌, Bool, true, false, Option, Some, None, Result, Ok, Err, List, [], ◌∷◌, length, slice_set}
 use Rattle.std.specs.Option.{ok_or, option_map}
-use Rattle.std.specs.List.{find}
+use Rattle.std.specs.List.{find, list_any}
 use Rattle.std.specs.FinMap as fmap
 use Rattle.spec_lib.specs.Sets as set
 use Rattle.blob_digest.specs.declared.range.ByteRange.{ByteRange}
 use Rattle.blob_digest.specs.declared.refusal.Refusal.{Refusal}
-use Rattle.blob_digest.specs.declared.refusal.Refusal.TheVariants.{NameUnknown, DigestInvalid, SizeInvalid, BlobUnknown, ManifestInvalid, ManifestUnknown, ManifestBlobUnknown, Quota, Referenced, StoreFull, TooManyReaders, LimitReached}
+use Rattle.blob_digest.specs.declared.refusal.Refusal.TheVariants.{NameUnknown, DigestInvalid, SizeInvalid, BlobUnknown, ManifestInvalid, ManifestUnknown, ManifestBlobUnknown, Quota, Referenced, StoreFull, TooManyReaders, LimitReached, RepoInUse}
 use Rattle.blob_digest.specs.Digests.{sha256_text, is_digest_of}
 pub use Rattle.blob_digest.specs.Outcomes.{OutcomeIn}
 pub use Rattle.spec_lib.specs.Outcomes.{◌>>=◌, refuse}
@@ -287,6 +287,40 @@ delete_manifest C repo name = do
   _ ← tenant C repo
   _ ← manifest C repo name
   Ok (tt, record C { manifests = fmap.remove C.manifests (repo, name) })
+
+-- ---- repositories
+
+-- whether a repository has a link
+abbrev pub has_links : Catalog → Text → Bool
+has_links C repo = list_any (λ l. same_text l.0 repo) (set.items C.links)
+
+-- whether a repository has a manifest
+abbrev pub has_manifests : Catalog → Text → Bool
+has_manifests C repo = list_any (λ l. same_text l.0 repo) (fmap.keys C.manifests)
+
+-- whether a repository has an open session, checked in or checked out
+abbrev pub has_sessions : Catalog → Text → Bool
+has_sessions C repo = list_any (λ e. same_text e.1.repo repo) (fmap.entries C.sessions)
+
+-- whether a repository has a link, a manifest or an open session
+abbrev pub is_in_use : Catalog → Text → Bool
+is_in_use C repo = has_links C repo || has_manifests C repo || has_sessions C repo
+
+-- the repository exists, or the error is `NameUnknown`
+abbrev pub check_repo : Catalog → Text → Result (Unit {0}) Refusal
+check_repo C repo = refuse (not (set.contains C.repos repo)) NameUnknown
+
+-- the catalog without a repository
+abbrev pub without_repo : Catalog → Text → Catalog
+without_repo C repo = record C { repos = set.remove C.repos repo }
+
+-- removes a repository that is not in use
+abbrev pub remove_repo : Catalog → Text → Outcome (Unit {0})
+remove_repo C repo = do
+  _ ← tenant C repo
+  _ ← check_repo C repo
+  _ ← refuse (is_in_use C repo) RepoInUse
+  Ok (tt, without_repo C repo)
 
 -- ---- leases
 

@@ -8,7 +8,7 @@ use Rattle.spec_lib.specs.Sets as set
 use Rattle.spec_lib.specs.Texts.{Text, text_cmp}
 use Rattle.store_model.specs.Catalog.{Catalog, CheckedIn, CheckedOutWith, Chunks, HandRecord, Link, Resident, Session, SessionNumber, Tenant, link_cmp, opening, session_number_cmp, tenant_of}
 use Rattle.store_model.specs.Histories.{AreSteps, CommandCall, FinishCall, LeadsTo, PutBackCall, State, Step, TakeCall}
-use Rattle.store_model.specs.Runs.{Abandon, Answer, Append, Close, Command, Delete, DeleteManifest, Event, Mount, Mounting, Number, PutManifest, Start}
+use Rattle.store_model.specs.Runs.{Abandon, Answer, Append, Close, Command, Delete, DeleteManifest, Event, Mount, Mounting, Number, PutManifest, RemoveRepo, Start}
 use Rattle.store_model.specs.Sessions.{Sessions, after_append_in, content_in}
 use Rattle.store_model.specs.WholeCommands.{AreWholeCommands}
 use Rattle.store_model.specs.declared.mount.Mount.{Mount as MountResult}
@@ -65,6 +65,8 @@ pub data Change : Type 0 where
   ManifestPut : Text → Text → Change
   -- the manifest with this digest was deleted from a repository
   ManifestDeleted : Text → Text → Change
+  -- a repository was removed
+  RepoRemoved : Text → Change
   -- a repository exists
   RepoAdded : Text → Change
   -- a tenant has this next session number
@@ -110,6 +112,7 @@ after_change D (BlobUnlinked repo digest) = record D { links = set.remove D.link
 after_change D (ManifestPut repo bytes) =
     if fmap.contains_key D.manifests (repo, sha256_text bytes) then D else with_new_manifest D repo bytes
 after_change D (ManifestDeleted repo digest) = record D { manifests = fmap.remove D.manifests (repo, digest) }
+after_change D (RepoRemoved repo) = record D { repos = set.remove D.repos repo }
 after_change D (RepoAdded repo) = record D { repos = set.insert D.repos repo }
 after_change D (NumberSet t n) = record D { next = slice_set D.next t n }
 after_change D (BlobStored digest bytes) = record D { contents = fmap.insert D.contents digest bytes }
@@ -144,6 +147,7 @@ command_change tenants (Mount r d from) (Mounting m) = Some (mount_change tenant
 command_change tenants (Delete r d) a = Some (BlobUnlinked r d)
 command_change tenants (PutManifest r b) a = Some (ManifestPut r b)
 command_change tenants (DeleteManifest r m) a = Some (ManifestDeleted r m)
+command_change tenants (RemoveRepo r) a = Some (RepoRemoved r)
 command_change tenants command a = None
 
 -- the chunk that was filled into a hand, or the empty one

@@ -11,6 +11,7 @@ pub mod Lanes
 pub mod Noninterference
 pub mod Queries
 pub mod Recovery
+pub mod Removals
 pub mod Replaying
 pub mod Restarts
 pub mod Runs

@@ -5,12 +5,12 @@ use Rattle.std.specs.FinMap as fmap
 use Rattle.std.specs.List.{AllByRecursion, cons_option}
 use Rattle.store_model.specs.Catalog.{Catalog, Tenant, opening}
 use Rattle.store_model.specs.Commands.{has_same_bytes, has_slot}
-use Rattle.store_model.specs.Durable.{Agrees, AreReturnedAsTaken, BlobLinked, BlobUnlinked, Change, ChunkReceived, DurableState, IsReturnedAsTaken, ManifestDeleted, ManifestPut, SessionDropped, SessionOpened, SessionSealed, TakenChunks, after_change, after_changes, change_of, changes_of, command_change, initial_durable}
+use Rattle.store_model.specs.Durable.{Agrees, AreReturnedAsTaken, BlobLinked, BlobUnlinked, Change, ChunkReceived, DurableState, IsReturnedAsTaken, ManifestDeleted, ManifestPut, RepoRemoved, SessionDropped, SessionOpened, SessionSealed, TakenChunks, after_change, after_changes, change_of, changes_of, command_change, initial_durable}
 use Rattle.store_model.specs.Histories.{LeadsTo, MayLeadTo, State, Step}
 use Rattle.store_model.specs.Invariant.{Sound}
 use Rattle.store_model.specs.Noninterference.{commands_of, replies}
 use Rattle.store_model.specs.Recovery.{IsWellFormedStep}
-use Rattle.store_model.specs.Runs.{Abandon, Answer, Append, Close, Command, Delete, DeleteManifest, Event, IsRun, Mount, PutManifest, Start, outcome}
+use Rattle.store_model.specs.Runs.{Abandon, Answer, Append, Close, Command, Delete, DeleteManifest, Event, IsRun, Mount, PutManifest, RemoveRepo, Start, outcome}
 use Rattle.store_model.specs.Sessions.{content_in}
 
 -- ---- one change
@@ -27,6 +27,7 @@ replay_command D (BlobLinked repo digest) = Some (Mount repo digest None)
 replay_command D (BlobUnlinked repo digest) = Some (Delete repo digest)
 replay_command D (ManifestPut repo bytes) = Some (PutManifest repo bytes)
 replay_command D (ManifestDeleted repo digest) = Some (DeleteManifest repo digest)
+replay_command D (RepoRemoved repo) = Some (RemoveRepo repo)
 replay_command D change = None
 
 -- if the change seals a session, there is a slot for its blob, and no stored blob of its digest has other bytes

@@ -25,6 +25,7 @@ pub data Command : Type 0 where
   PutManifest : Text → Text → Command
   GetManifest : Text → Text → Command
   DeleteManifest : Text → Text → Command
+  RemoveRepo : Text → Command
   Lease : Text → Text → Command
 
 -- the first repository of a command, whose tenant is the caller
@@ -39,6 +40,7 @@ repo_of (Delete r d) = r
 repo_of (PutManifest r b) = r
 repo_of (GetManifest r m) = r
 repo_of (DeleteManifest r m) = r
+repo_of (RemoveRepo r) = r
 repo_of (Lease r d) = r
 
 -- the result of a command: a number or length, the result of a mount, a digest or bytes, or nothing
@@ -70,6 +72,7 @@ outcome crowded C (Delete r d) = map_outcome (λ _. Done) (Commands.delete C r d
 outcome crowded C (PutManifest r b) = map_outcome Bytes (Commands.put_manifest C r b)
 outcome crowded C (GetManifest r m) = reading_outcome Bytes C (Commands.get_manifest C r m)
 outcome crowded C (DeleteManifest r m) = map_outcome (λ _. Done) (Commands.delete_manifest C r m)
+outcome crowded C (RemoveRepo r) = map_outcome (λ _. Done) (Commands.remove_repo C r)
 outcome crowded C (Lease r d) = map_outcome Bytes (Commands.lease crowded C r d)
 
 -- ---- the cases of a command
@@ -80,6 +83,7 @@ takes_memory (Status r n) = false
 takes_memory (Abandon r n) = false
 takes_memory (Delete r d) = false
 takes_memory (DeleteManifest r m) = false
+takes_memory (RemoveRepo r) = false
 takes_memory command = true
 
 -- a command with this reply leads from one catalog to another: by its outcome, or unchanged with `Memory`

@@ -15,6 +15,7 @@ ghost use Rattle.store_model.specs.Recovery.{
   StoresRestart,
   StoresRestartWithOtherSettings,
 };
+ghost use Rattle.store_model.specs.Removals.{RemovalsFreeNames, RemovalsKeepTheRest};
 ghost use Rattle.store_model.specs.Replaying.{ChangesHaveReplays, LogsHaveReplays};
 ghost use Rattle.store_model.specs.Restarts.{RestartedHistoriesAreRuns, TenantsAreIsolatedFrom};
 ghost use Rattle.store_model.specs.Runs.{RunsExist, RunsStaySound};
@@ -71,6 +72,18 @@ pub fn isolation()
 pub fn shares()
     ensures full { FullStoresHaveOrphans }
     ensures swept { SweptStoresAreFullByLeases }
+{}
+
+/// States what a removal of a repository does.
+///
+/// - `frees`: the repository's tenant has one repository less afterwards, and any other tenant as many as before. So the limit
+///   of 1,024 repositories leaves room for a new one.
+/// - `rest`: nothing else changes in the catalog.
+///
+/// A removal of a repository that has a link, a manifest or a session fails with `RepoInUse` by the definition.
+pub fn removals()
+    ensures frees { RemovalsFreeNames }
+    ensures rest { RemovalsKeepTheRest }
 {}
 
 /// States that tenants are isolated from each other in histories, in which sessions are checked out between two steps.

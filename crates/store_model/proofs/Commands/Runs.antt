@@ -4,7 +4,7 @@ use Rattle.blob_digest.specs.declared.refusal.Refusal.{Refusal}
 use Rattle.store_model.specs.Catalog.{Catalog}
 use Rattle.store_model.specs.Commands.{Outcome}
 use Rattle.store_model.specs.Invariant.{Sound}
-use Rattle.store_model.specs.Runs.{Command, Answer, Event, map_outcome, reading_outcome, outcome, IsCommandCase, Happens, HasShortName, RunsStaySound, repo_of, Start, Status, Append, Close, Abandon, Mount, Delete, PutManifest, GetManifest, DeleteManifest, Lease, CommandEvent, SweepEvent}
+use Rattle.store_model.specs.Runs.{Command, Answer, Event, map_outcome, reading_outcome, outcome, IsCommandCase, Happens, HasShortName, RunsStaySound, repo_of, Start, Status, Append, Close, Abandon, Mount, Delete, PutManifest, GetManifest, DeleteManifest, RemoveRepo, Lease, CommandEvent, SweepEvent}
 use Rattle.store_model.proofs.Commands.Accepted.{left_by}
 use Rattle.store_model.proofs.Commands.Start.{Sound-after_start}
 use Rattle.store_model.proofs.Commands.AppendClose.{Sound-after_append, Sound-after_close}
@@ -12,6 +12,7 @@ use Rattle.store_model.proofs.Commands.Abandon.{Sound-after_abandon}
 use Rattle.store_model.proofs.Commands.Mount.{Sound-after_mount}
 use Rattle.store_model.proofs.Commands.Delete.{Sound-after_delete}
 use Rattle.store_model.proofs.Commands.Manifests.{Sound-after_put_manifest, Sound-after_delete_manifest}
+use Rattle.store_model.proofs.Commands.Repos.{Sound-after_remove_repo}
 use Rattle.store_model.proofs.Commands.Lease.{Sound-after_lease}
 use Rattle.store_model.proofs.Commands.Sweep.{Sound-sweep}
 
@@ -36,6 +37,7 @@ accepted C C' (Delete r d) a short h sound = let o = answered_ok _ _ a C' h in S
 accepted C C' (PutManifest r b) a short h sound = let o = answered_ok _ _ a C' h in Sound-after_put_manifest C C' r b o.0 o.1 short sound
 accepted C C' (GetManifest r d) a short h sound = subst (λ (D : Catalog). Sound D) (reading_ok _ C _ a C' h) sound
 accepted C C' (DeleteManifest r d) a short h sound = let o = answered_ok _ _ a C' h in Sound-after_delete_manifest C C' r d o.1 sound
+accepted C C' (RemoveRepo r) a short h sound = let o = answered_ok _ _ a C' h in Sound-after_remove_repo C C' r o.1 sound
 accepted C C' (Lease r d) a short h sound = let o = answered_ok _ _ a C' h in Sound-after_lease C C' false r d o.0 o.1 sound
 
 pub Sound-case : (C C' : Catalog) (command : Command) (reply : Result Answer Refusal) → length (repo_of command) ≤ 255 → IsCommandCase C command reply C' → Sound C → Sound C'

@@ -1,5 +1,5 @@
 -- A change of the catalog and its change of the durable state keep their agreement.
-use Rattle.std.proofs.Common.{◌≡◌, ◌≢◌, ℕ, true, List, [], ◌∷◌, ◌++◌, length, Option, Some, refl, sym, ap, ◌∙◌, subst, inl, inr, ⊎_elim}
+use Rattle.std.proofs.Common.{◌≡◌, ◌≢◌, ℕ, false, true, List, [], ◌∷◌, ◌++◌, length, Option, Some, refl, sym, ap, ◌∙◌, subst, inl, inr, ⊎_elim}
 use Rattle.std.specs.Option.{option_map_or}
 use Rattle.std.specs.Cmp.Lexicographic.{nat_list_cmp_total}
 use Rattle.std.specs.FinMap.{FinMap, get, insert, remove}
@@ -13,8 +13,10 @@ use Rattle.spec_lib.proofs.Options.{some_same}
 use Rattle.spec_lib.proofs.Sets.{member, now, still, was_member}
 use Rattle.spec_lib.proofs.Sums.{get-remove_same}
 use Rattle.store_model.specs.Catalog.{Catalog, CheckedIn, Link, Resident, Session, SessionNumber, link_cmp}
+use Rattle.store_model.specs.Commands.{is_in_use}
 use Rattle.store_model.specs.Durable.{Agrees, AgreesOnContent, AgreesOnSession, Change, DurableState, TakenChunks, after_change, after_seal, chunk_change}
 use Rattle.store_model.proofs.Commands.Hands.{all_chunks}
+use Rattle.store_model.proofs.Invariant.Unused.{no_link, no_open, stays}
 use Rattle.store_model.specs.Sessions.{Sessions, at_home, content_in, with_chunk, with_chunks}
 
 -- the durable state after an optional change
@@ -41,6 +43,19 @@ module _ (taken : TakenChunks) (D : DurableState) (C : Catalog) (a : Agrees take
     contents = a.contents;
     linked_in = λ l h. still nat_list_cmp_total exact_bytes C.repos repo l.0 (a.linked_in l h);
     uploaded_to = λ k s h. still nat_list_cmp_total exact_bytes C.repos repo s.repo (a.uploaded_to k s h);
+  }
+
+  pub Agrees-remove_repo : (repo : Text) → is_in_use C repo ≡ false → Agrees taken (record D { repos = set.remove D.repos repo }) (record C { repos = set.remove C.repos repo })
+  Agrees-remove_repo repo unused = record {
+    tenants = a.tenants;
+    repos = ap (λ x. set.remove x repo) a.repos;
+    links = a.links;
+    manifests = a.manifests;
+    next = a.next;
+    sessions = a.sessions;
+    contents = a.contents;
+    linked_in = λ l h. stays C repo unused l.0 (no_link C repo unused l h) (a.linked_in l h);
+    uploaded_to = λ k s h. stays C repo unused s.repo (no_open C repo unused k s h) (a.uploaded_to k s h);
   }
 
   pub Agrees-set_next : (f : List ℕ → List ℕ) → Agrees taken (record D { next = f D.next }) (record C { next = f C.next })

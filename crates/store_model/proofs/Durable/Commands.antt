@@ -19,7 +19,7 @@ use Rattle.spec_lib.proofs.Sets.{now}
 use Rattle.store_model.specs.Catalog.{Catalog, CheckedIn, Chunks, Resident, SessionNumber, holds, next_number_of, tenant_of}
 use Rattle.store_model.specs.Commands
 use Rattle.store_model.specs.Commands.{Outcome, add_manifest, cannot_open, check_all_links, check_quota, chunk_length_check, has_manifest, has_slot, has_source, is_full_of_manifests, lacks_room_for, mounted_outcome, start, started_outcome, tenant, was_leased, with_link, with_manifest, with_new_session, with_stored_blob}
-use Rattle.store_model.specs.Durable.{Agrees, AgreesOnChunks, BlobLinked, BlobUnlinked, DurableState, ManifestDeleted, ManifestPut, SessionOpened, SessionSealed, TakenChunks, after_change, chunk_change, command_change, mount_change, session_key}
+use Rattle.store_model.specs.Durable.{Agrees, AgreesOnChunks, BlobLinked, BlobUnlinked, DurableState, ManifestDeleted, ManifestPut, RepoRemoved, SessionOpened, SessionSealed, TakenChunks, after_change, chunk_change, command_change, mount_change, session_key}
 use Rattle.store_model.specs.Runs as runs
 use Rattle.store_model.specs.Runs.{Answer, Command, map_outcome, outcome, reading_outcome}
 use Rattle.store_model.specs.Sessions.{Sessions, after_append_in, at_home, content_in, with_chunk, with_chunks}
@@ -28,8 +28,8 @@ use Rattle.store_model.specs.declared.mount.Mount.TheVariants as mounting
 use Rattle.store_model.proofs.Commands.Accepted.{answer_by, left_by}
 use Rattle.store_model.proofs.Commands.Hands.{Checked, checked_home}
 use Rattle.store_model.proofs.Commands.Mount.{source_of}
-use Rattle.store_model.proofs.Durable.Agreement.{Agrees-add_repo, Agrees-drop, Agrees-link, Agrees-manifests, Agrees-mark, Agrees-open, Agrees-receive, Agrees-seal, Agrees-set_next, Agrees-unlink, after_record, durable_session}
-use Rattle.store_model.proofs.Noninterference.LocalRespect.{Leaves, abandon_leaves, close_leaves, delete_leaves, delete_manifest_leaves, lease_leaves, of_tenant, past}
+use Rattle.store_model.proofs.Durable.Agreement.{Agrees-add_repo, Agrees-drop, Agrees-link, Agrees-manifests, Agrees-mark, Agrees-open, Agrees-receive, Agrees-remove_repo, Agrees-seal, Agrees-set_next, Agrees-unlink, after_record, durable_session}
+use Rattle.store_model.proofs.Noninterference.LocalRespect.{Leaves, abandon_leaves, close_leaves, delete_leaves, delete_manifest_leaves, lease_leaves, of_tenant, past, remove_repo_leaves}
 
 -- a property of the catalog after an accepted outcome
 pub left_ok : {A : Type 0} (P : Catalog → Type 0) (x : Outcome A) (a : A) (X : Catalog) → Leaves P x → x ≡ Ok (a, X) → P X
@@ -164,6 +164,10 @@ module _ (taken : TakenChunks) (D : DurableState) (C : Catalog) (a : Agrees take
       let h = answered_ok (λ _. runs.Done) (Commands.delete_manifest C r m) x X is in
       left_ok (λ Y. Agrees taken (after_change D (ManifestDeleted r m)) Y) (Commands.delete_manifest C r m) h.0 X
       (delete_manifest_leaves (λ Y. Agrees taken (after_change D (ManifestDeleted r m)) Y) C r m (Agrees-manifests taken D C a (λ y. remove y (r, m)))) h.1
+  command_agrees (runs.RemoveRepo r) x X is =
+      let h = answered_ok (λ _. runs.Done) (Commands.remove_repo C r) x X is in
+      left_ok (λ Y. Agrees taken (after_change D (RepoRemoved r)) Y) (Commands.remove_repo C r) h.0 X
+      (remove_repo_leaves (λ Y. Agrees taken (after_change D (RepoRemoved r)) Y) C r (λ _ unused. Agrees-remove_repo taken D C a r unused)) h.1
   command_agrees (runs.Lease r d) x X is =
       let h = answered_ok runs.Bytes (Commands.lease false C r d) x X is in
       left_ok (λ Y. Agrees taken D Y) (Commands.lease false C r d) h.0 X (lease_leaves (λ Y. Agrees taken D Y) C r false d (λ b found. Agrees-mark taken D C a d b (record b { lent = true }) found refl)) h.1

@@ -26,7 +26,7 @@ use Rattle.store_model.proofs.Durable.Histories.{durable_hand, step_agrees}
 use Rattle.store_model.proofs.Durable.Restored.{stores_restart}
 use Rattle.store_model.proofs.Durable.Torn.{first_returned, torn_logs_agree}
 use Rattle.store_model.proofs.Noninterference.Hands.{cancel_leaves, finish_leaves, put_back_leaves, take_leaves}
-use Rattle.store_model.proofs.Noninterference.LocalRespect.{Leaves, abandon_leaves, answers_leave, append_leaves, close_leaves, delete_leaves, delete_manifest_leaves, lease_leaves, mount_leaves, put_leaves, reading_leave, start_leaves}
+use Rattle.store_model.proofs.Noninterference.LocalRespect.{Leaves, abandon_leaves, answers_leave, append_leaves, close_leaves, delete_leaves, delete_manifest_leaves, lease_leaves, mount_leaves, put_leaves, reading_leave, remove_repo_leaves, start_leaves}
 
 -- ---- slots and the limit on blobs
 
@@ -48,6 +48,7 @@ command_setting C (runs.Delete r d) = answers_leave (SameSlots C) (λ _. runs.Do
 command_setting C (runs.PutManifest r b) = answers_leave (SameSlots C) runs.Bytes _ (put_leaves (SameSlots C) C r b (refl, refl, refl) (λ t _. (refl, refl, refl)))
 command_setting C (runs.GetManifest r m) = reading_leave (SameSlots C) runs.Bytes C (Commands.get_manifest C r m) (refl, refl, refl)
 command_setting C (runs.DeleteManifest r m) = answers_leave (SameSlots C) (λ _. runs.Done) _ (delete_manifest_leaves (SameSlots C) C r m (refl, refl, refl))
+command_setting C (runs.RemoveRepo r) = answers_leave (SameSlots C) (λ _. runs.Done) _ (remove_repo_leaves (SameSlots C) C r (λ _ _. (refl, refl, refl)))
 command_setting C (runs.Lease r d) = answers_leave (SameSlots C) runs.Bytes _ (lease_leaves (SameSlots C) C r false d (λ b _. (refl, refl, refl)))
 
 pub step_setting : (s : State) (step : Step) (X : Catalog) → MayLeadTo s step X → SameSetting s.catalog X

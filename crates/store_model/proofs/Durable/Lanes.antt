@@ -30,7 +30,7 @@ use Rattle.store_model.proofs.Durable.Commands.{left_ok}
 use Rattle.store_model.proofs.Durable.Crashes.{step_sound}
 use Rattle.store_model.proofs.Invariant.Sessions.{fresh}
 use Rattle.store_model.proofs.Noninterference.Hands.{cancel_leaves, finish_leaves, put_back_leaves}
-use Rattle.store_model.proofs.Noninterference.LocalRespect.{Leaves, answers_leave, close_leaves, delete_leaves, delete_manifest_leaves, lease_leaves, mount_leaves, of_tenant, past, put_leaves, reading_leave, start_leaves}
+use Rattle.store_model.proofs.Noninterference.LocalRespect.{Leaves, answers_leave, close_leaves, delete_leaves, delete_manifest_leaves, lease_leaves, mount_leaves, of_tenant, past, put_leaves, reading_leave, remove_repo_leaves, start_leaves}
 
 -- ---- a checked-out session
 
@@ -80,6 +80,7 @@ module _ (C : Catalog) (lawful : WellFormed C) (k : SessionNumber) (out : IsOut 
   command_leaves_it (runs.PutManifest r b) = answers_leave P runs.Bytes _ (put_leaves P C r b out (λ t _. out))
   command_leaves_it (runs.GetManifest r m) = reading_leave P runs.Bytes C (Commands.get_manifest C r m) out
   command_leaves_it (runs.DeleteManifest r m) = answers_leave P (λ _. runs.Done) _ (delete_manifest_leaves P C r m out)
+  command_leaves_it (runs.RemoveRepo r) = answers_leave P (λ _. runs.Done) _ (remove_repo_leaves P C r (λ _ _. out))
   command_leaves_it (runs.Lease r d) = answers_leave P runs.Bytes _ (lease_leaves P C r false d (λ b _. out))
 
   -- the return of another session's hand does not change it

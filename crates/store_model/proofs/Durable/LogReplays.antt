@@ -185,6 +185,7 @@ module _ (taken : TakenChunks) (D : DurableState) (s : State) (a : Agrees taken 
   command_room (runs.PutManifest r bytes) x X is change records = subst (λ y. HasRoomFor D (after R) y) (some_same records) tt
   command_room (runs.GetManifest r m) x X is change records = some_none (sym records)
   command_room (runs.DeleteManifest r m) x X is change records = subst (λ y. HasRoomFor D (after R) y) (some_same records) tt
+  command_room (runs.RemoveRepo r) x X is change records = subst (λ y. HasRoomFor D (after R) y) (some_same records) tt
   command_room (runs.Lease r d) x X is change records = some_none (sym records)
 
   step_room : (step : Step) (X : Catalog) → MayLeadTo s step X → IsReturnedAsTaken taken step → (change : Change) → change_of D.tenants step ≡ Some change → HasRoomFor D (after R) change

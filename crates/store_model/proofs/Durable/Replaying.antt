@@ -1,12 +1,12 @@
 -- The change of a step has a replay in every store that agrees with the durable state and has room.
 use Rattle.std.proofs.Common.{◌≡◌, ◌≢◌, ℕ, ◌+◌, ◌≤◌, Bool, true, false, not, List, [], ◌∷◌, ◌++◌, length, Option, Some, None, Ok, Err, refl, sym, ap, ◌∙◌, subst, arith}
-use Rattle.std.specs.Prelude.{◌^◌, nat_le, nat_lt, slice_get, IfSome, if◌then◌else◌}
+use Rattle.std.specs.Prelude.{◌||◌, ◌^◌, nat_le, nat_lt, slice_get, IfSome, if◌then◌else◌}
 use Rattle.std.specs.Option.{ok_or, option_map, option_map_or}
 use Rattle.std.specs.List.{AllByRecursion, concat, sum_by}
 use Rattle.std.specs.FinMap.{FinMap, empty, get, remove}
 use Rattle.std.proofs.lemmas.Bool.{and_from, and_parts, le-ltb, leb-false, leb-true, not-false, or_parts}
 use Rattle.blob_digest.specs.declared.range.ByteRange.{ByteRange}
-use Rattle.blob_digest.specs.declared.refusal.Refusal.TheVariants.{DigestInvalid, LimitReached, ManifestInvalid, NameUnknown, SizeInvalid}
+use Rattle.blob_digest.specs.declared.refusal.Refusal.TheVariants.{DigestInvalid, LimitReached, ManifestInvalid, NameUnknown, RepoInUse, SizeInvalid}
 use Rattle.blob_digest.specs.Digests.{is_digest_of, sha256_text}
 use Rattle.blob_digest.proofs.KeyOrders.{number_cmp_total, exact_number}
 use Rattle.oci_manifest.specs.Manifests.{max_manifest, refs_of}
@@ -19,8 +19,8 @@ use Rattle.spec_lib.proofs.Outcomes.{bound_ok, not_refused, some_of_ok}
 use Rattle.spec_lib.proofs.Texts.{same_itself}
 use Rattle.store_model.specs.Catalog.{Catalog, CheckedIn, HandRecord, Resident, Session, SessionNumber, charged_length, next_number_of, open_sessions, quota_of, received_length, tenant_holds, tenant_of, used_bytes}
 use Rattle.store_model.specs.Commands
-use Rattle.store_model.specs.Commands.{check_share, add_manifest, after_append_in, append, cannot_open, check_all_links, check_link, check_no_referrer, check_quota, chunk_length_check, close, content_in, delete, finish, has_manifest, has_same_bytes, has_slot, has_source, is_digest_accepted, is_full_of_manifests, lacks_room_for, manifest, mounted_outcome, not_busy, put_back, put_back_outcome_in, referrer, session, session_in, session_of_hand, start, started_outcome, tenant, with_link, with_manifest, with_new_session, with_stored_blob, without_session}
-use Rattle.store_model.specs.Durable.{Agrees, BlobLinked, BlobUnlinked, Change, DurableState, IsReturnedAsTaken, ManifestDeleted, ManifestPut, SessionDropped, SessionOpened, SessionSealed, TakenChunks, change_of, chunk_change, command_change, filled_chunk, mount_change, session_key}
+use Rattle.store_model.specs.Commands.{check_share, add_manifest, after_append_in, append, cannot_open, check_all_links, check_link, check_no_referrer, check_quota, check_repo, chunk_length_check, close, content_in, delete, finish, has_links, has_manifest, has_manifests, has_same_bytes, has_sessions, has_slot, has_source, is_digest_accepted, is_full_of_manifests, is_in_use, lacks_room_for, manifest, mounted_outcome, not_busy, put_back, put_back_outcome_in, referrer, session, session_in, session_of_hand, start, started_outcome, tenant, with_link, with_manifest, with_new_session, with_stored_blob, without_repo, without_session}
+use Rattle.store_model.specs.Durable.{Agrees, BlobLinked, BlobUnlinked, Change, DurableState, IsReturnedAsTaken, ManifestDeleted, ManifestPut, RepoRemoved, SessionDropped, SessionOpened, SessionSealed, TakenChunks, change_of, chunk_change, command_change, filled_chunk, mount_change, session_key}
 use Rattle.store_model.specs.Histories.{CommandCall, FinishCall, MayLeadTo, PutBackCall, State, Step, SweepCall, TakeCall}
 use Rattle.store_model.specs.Invariant.{Sound}
 use Rattle.store_model.specs.Recovery.{IsWellFormedStep}
@@ -41,6 +41,7 @@ use Rattle.store_model.proofs.Durable.Histories.{after_record_tenants, durable_h
 use Rattle.store_model.proofs.Durable.Crashes.{sound_put_back, step_setting}
 use Rattle.store_model.proofs.Durable.Uses.{as_was, as_was_is, open_less, sessions_are, used_within, was_open}
 use Rattle.store_model.proofs.Invariant.Chunks.{used_bytes-chunks}
+use Rattle.store_model.proofs.Invariant.Unused.{no_session, no_sessions}
 use Rattle.store_model.proofs.Invariant.SessionTenants.{session_owner, session_tenant}
 
 -- ---- commands of a store that agrees with the durable state
@@ -320,6 +321,29 @@ module _ (taken : TakenChunks) (D : DurableState) (C : Catalog) (a : Agrees take
         let accepted : Commands.delete_manifest target r name ≡ Ok (tt, record target { manifests = remove C.manifests (r, name) }) = rw (tenant_is, there_is) refl in
         replayed (ManifestDeleted r name) (runs.DeleteManifest r name) runs.Done (record target { manifests = remove C.manifests (r, name) }) refl (ap (map_outcome (λ _. runs.Done)) accepted) refl short_name
 
+    removes : (r : Text) (X : Catalog) → Commands.remove_repo C r ≡ Ok (tt, X) → length r ≤ 255 → HasReplay D target (RepoRemoved r)
+    removes r X is short_name =
+        let t = bound_ok (tenant C r) _ (tt, X) is in
+        let c = bound_ok (check_repo C r) _ (tt, X) t.2 in
+        let e = bound_ok (refuse (is_in_use C r) RepoInUse) _ (tt, X) c.2 in
+        let tenant_is : tenant target r ≡ Ok t.0 = t.1 in
+        let there_is : check_repo target r ≡ Ok tt = c.1 in
+        let unused_is : is_in_use target r ≡ false = unused r (not_refused _ _ _ e.1) in
+        let accepted : Commands.remove_repo target r ≡ Ok (tt, without_repo target r) = rw (tenant_is, there_is, unused_is) refl in
+        replayed (RepoRemoved r) (runs.RemoveRepo r) runs.Done (without_repo target r) refl (ap (map_outcome (λ _. runs.Done)) accepted) refl short_name
+      where
+        -- the durable state has the same sessions
+        unused : (r : Text) → is_in_use C r ≡ false → is_in_use target r ≡ false
+        unused r none =
+            let both = or_parts (has_links C r || has_manifests C r) (has_sessions C r) none in
+            let others = or_parts (has_links C r) (has_manifests C r) both.0 in
+            let links_is : has_links target r ≡ false = others.0 in
+            let manifests_is : has_manifests target r ≡ false = others.1 in
+            let sessions_is : has_sessions target r ≡ false = no_sessions D.sessions r (λ k s found is.
+            let was = was_open taken D C a k s found in
+            no_session C.sessions r both.1 k was.0 was.2 (ap (λ (x : Session). x.repo) (sym was.3) ∙ is)) in
+            rw (links_is, manifests_is, sessions_is) refl
+
 -- ---- steps
 
 -- the two stores have the same tenants and limits
@@ -444,6 +468,9 @@ module _ (taken : TakenChunks) (D : DurableState) (s : State) (a : Agrees taken 
   command_replayed (runs.DeleteManifest r m) x X is short_name change records free =
       let h = answered_ok (λ _. runs.Done) (Commands.delete_manifest C r m) x X is in
       subst (λ y. HasReplay D R y) (some_same records) (by_parts (ManifestDeleted r m) (λ b0 sound0. forgets taken D C a R.slots R.max_blob R.retired R.residents b0 sound0 r m X h.1 short_name))
+  command_replayed (runs.RemoveRepo r) x X is short_name change records free =
+      let h = answered_ok (λ _. runs.Done) (Commands.remove_repo C r) x X is in
+      subst (λ y. HasReplay D R y) (some_same records) (by_parts (RepoRemoved r) (λ b0 sound0. removes taken D C a R.slots R.max_blob R.retired R.residents b0 sound0 r X h.1 short_name))
   command_replayed (runs.Lease r d) x X is short_name change records free = some_none (sym records)
 
 step_replayed : (taken : TakenChunks) (D : DurableState) (s : State) (step : Step) (X : Catalog) (change : Change) (R : Catalog) → Agrees taken D s.catalog → Sound s.catalog → MayLeadTo s step X →

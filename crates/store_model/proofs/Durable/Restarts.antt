@@ -58,6 +58,7 @@ consistent_from content C lawful fits = record {
   kept = λ l has. ap is_some (lawful.links l has).kept.1;
   manifests = λ l b found. (lawful.manifests l b found).repo;
   sessions = λ k s found. (lawful.sessions k s found).repo;
+  owners = λ k s found. session_owner C lawful k s found;
   bytes = λ d b found. fits_found content (entries C.residents) fits d b (sym (get-entries C.residents d) ∙ found);
 }
 

@@ -5,7 +5,7 @@ use Rattle.std.specs.declared.cmp.Ordering.{Ordering}
 use Rattle.std.specs.Ordering.{eq_by_cmp}
 use Rattle.std.specs.Cmp.{IsTotalOrder}
 use Rattle.std.specs.Cmp.Lexicographic.{nat_list_cmp_total}
-use Rattle.std.specs.List.{filter, sum_by, list_any}
+use Rattle.std.specs.List.{filter, list_any}
 use Rattle.std.specs.FinMap.{FinMap, contains_key, entries, get, get-insert, insert, IsAntisymmetric, len, len-entries, len-insert, same_map}
 use Rattle.std.proofs.lemmas.Bool.{lt-leb, or_right}
 use Rattle.std.proofs.lemmas.List.{length-map}
@@ -18,8 +18,7 @@ use Rattle.store_model.specs.Commands.{check_share}
 use Rattle.spec_lib.specs.Outcomes.{refuse}
 use Rattle.blob_digest.specs.declared.refusal.Refusal.TheVariants.{LimitReached}
 use Rattle.store_model.specs.Invariant.{WellFormed}
-use Rattle.spec_lib.proofs.Lists.{sum_by-ones}
-use Rattle.spec_lib.proofs.Maps.{term, sum_alike}
+use Rattle.spec_lib.proofs.Maps.{len-same_keys}
 use Rattle.spec_lib.proofs.Rows.{entries-empty}
 use Rattle.spec_lib.proofs.Sets.{member, now, still}
 use Rattle.blob_digest.proofs.KeyOrders.{link_cmp_total, exact_link}
@@ -153,15 +152,5 @@ held_count-unlink C t r d has =
 
 -- the number of digests that a tenant holds is the size of any map whose keys they are
 pub held_count-by_keys : {X : Type 0} (C : Catalog) → WellFormed C → (t : ℕ) (m : FinMap text_cmp X) → ((d : Text) → contains_key m d ≡ tenant_holds C t d) → len m ≡ held_count C t
-held_count-by_keys {X} C lawful t m each =
-    let one : Text × X → ℕ = λ _. 1 in
-    let unit : Text × Unit {0} → ℕ = λ _. 1 in
-    let alike : sum_by one (entries m) ≡ sum_by unit (entries (held_digests C t)) =
-    sum_alike nat_list_cmp_total exact_bytes one unit m (held_digests C t) (λ d. at d (get m d) (get (held_digests C t) d) (each d ∙ sym (contains-held_digests C lawful t d))) in
-    len-entries m ∙ sym (sum_by-ones (entries m)) ∙ alike ∙ sum_by-ones (entries (held_digests C t)) ∙ sym (len-entries (held_digests C t)) ∙ sym (items_len (held_digests C t))
-  where
-    at : (d : Text) (x : Option X) (y : Option (Unit {0})) → is_some x ≡ is_some y → term (λ (e : Text × X). 1) d x ≡ term (λ (e : Text × Unit {0}). 1) d y
-    at d None None e = refl
-    at d None (Some v) e = cc
-    at d (Some u) None e = cc
-    at d (Some u) (Some v) e = refl
+held_count-by_keys C lawful t m each =
+    len-same_keys nat_list_cmp_total exact_bytes m (held_digests C t) (λ d. each d ∙ sym (contains-held_digests C lawful t d)) ∙ sym (items_len (held_digests C t))

@@ -21,7 +21,7 @@ use Rattle.spec_lib.specs.Sets as kept_set
 use Rattle.spec_lib.specs.Texts.{Text, text_cmp}
 use Rattle.store_model.specs.Commands
 use Rattle.spec_lib.specs.Outcomes.{◌>>=◌}
-use Rattle.store_model.specs.Commands.{Outcome, session_in, length_after, with_new_session, after_append_in, content_in, is_digest_accepted, has_same_bytes, with_stored_blob, has_source, with_link, with_manifest, with_leased, check_quota, has_slot}
+use Rattle.store_model.specs.Commands.{Outcome, session_in, length_after, with_new_session, after_append_in, content_in, is_digest_accepted, has_same_bytes, with_stored_blob, has_source, with_link, with_manifest, with_leased, check_quota, has_slot, is_in_use, without_repo}
 use Rattle.store_model.specs.Runs as runs
 use Rattle.store_model.specs.Runs.{Command, outcome}
 use Rattle.store_model.specs.Noninterference.{always_has_slot, isolated_outcome, close_content, uploaded_pair, uploads_of_command}
@@ -30,20 +30,25 @@ use Rattle.spec_lib.proofs.Texts.{tied_text}
 use Rattle.spec_lib.proofs.Options.{some_value}
 use Rattle.spec_lib.proofs.Outcomes.{bound_ok}
 use Rattle.store_model.proofs.Commands.Accepted.{session_found}
+use Rattle.store_model.proofs.Invariant.Unused as unused_repo
 use Rattle.store_model.proofs.Commands.SomeSweep.{left_bytes}
 use Rattle.spec_lib.proofs.Maps.{got-insert, got-remove, get-insert_at, still_there}
 use Rattle.spec_lib.proofs.Sets.{still, now, member, was_member}
 use Rattle.store_model.proofs.Noninterference.StepConsistency.{Fits, fits_whole, longer}
-use Rattle.store_model.proofs.Noninterference.LocalRespect.{Leaves, alike_itself, answers_leave, reading_leave, start_leaves, append_leaves, close_leaves, abandon_leaves, mount_leaves, delete_leaves, put_leaves, delete_manifest_leaves, lease_leaves}
+use Rattle.store_model.proofs.Noninterference.LocalRespect.{Leaves, alike_itself, answers_leave, reading_leave, start_leaves, append_leaves, close_leaves, abandon_leaves, mount_leaves, delete_leaves, put_leaves, delete_manifest_leaves, lease_leaves, remove_repo_leaves}
 
 twice : {A : Type 0} → A → A × A
 twice x = (x, x)
+
+-- the session's repository exists and belongs to its tenant
+abbrev pub IsPlaced : Catalog → SessionNumber → Session → Type 0
+IsPlaced C k s = (kept_set.contains C.repos s.repo ≡ true) × (tenant_of C.tenants s.repo ≡ Some k.0)
 
 -- ---- one field written
 
 module _ (content : Text → Text) (C : Catalog) (consistent : Consistent content C) where
   with_links : (links : kept_set.Set link_cmp) → ((l : Link) → kept_set.contains links l ≡ true → (kept_set.contains C.repos l.0 ≡ true) × (is_some (get C.residents l.1) ≡ true)) → Consistent content (record C { links = links })
-  with_links links each = record { repos = consistent.repos; links = λ l h. (each l h).0; kept = λ l h. (each l h).1; manifests = consistent.manifests; sessions = consistent.sessions; bytes = consistent.bytes }
+  with_links links each = record { repos = consistent.repos; links = λ l h. (each l h).0; kept = λ l h. (each l h).1; manifests = consistent.manifests; sessions = consistent.sessions; owners = consistent.owners; bytes = consistent.bytes }
 
   -- a blob that is stored already, or stored now
   with_blob : (d : Text) (b : Resident) → b.bytes ≡ content d → Consistent content (record C { residents = insert C.residents d b })
@@ -53,14 +58,19 @@ module _ (content : Text → Text) (C : Catalog) (consistent : Consistent conten
     kept = λ l h. still_there nat_list_cmp_total exact_bytes C.residents d l.1 b (consistent.kept l h);
     manifests = consistent.manifests;
     sessions = consistent.sessions;
+    owners = consistent.owners;
     bytes = λ q x h. ⊎_elim (λ e. ap (λ (y : Resident). y.bytes) (sym e.1) ∙ fits ∙ ap content (sym e.0)) (consistent.bytes q x) (got-insert nat_list_cmp_total exact_bytes C.residents d b q x h);
   }
 
   with_manifests : (manifests : FinMap link_cmp Text) → ((l : Link) (b : Text) → get manifests l ≡ Some b → kept_set.contains C.repos l.0 ≡ true) → Consistent content (record C { manifests = manifests })
-  with_manifests manifests each = record { repos = consistent.repos; links = consistent.links; kept = consistent.kept; manifests = each; sessions = consistent.sessions; bytes = consistent.bytes }
+  with_manifests manifests each = record { repos = consistent.repos; links = consistent.links; kept = consistent.kept; manifests = each; sessions = consistent.sessions; owners = consistent.owners; bytes = consistent.bytes }
 
-  pub with_sessions : (sessions : FinMap session_number_cmp Session) → ((k : SessionNumber) (s : Session) → get sessions k ≡ Some s → kept_set.contains C.repos s.repo ≡ true) → Consistent content (record C { sessions = sessions })
-  with_sessions sessions each = record { repos = consistent.repos; links = consistent.links; kept = consistent.kept; manifests = consistent.manifests; sessions = each; bytes = consistent.bytes }
+  pub with_sessions : (sessions : FinMap session_number_cmp Session) → ((k : SessionNumber) (s : Session) → get sessions k ≡ Some s → IsPlaced C k s) → Consistent content (record C { sessions = sessions })
+  with_sessions sessions each = record { repos = consistent.repos; links = consistent.links; kept = consistent.kept; manifests = consistent.manifests; sessions = λ k s h. (each k s h).0; owners = λ k s h. (each k s h).1; bytes = consistent.bytes }
+
+  -- a session that was open before
+  pub placed : (k : SessionNumber) (s : Session) → get C.sessions k ≡ Some s → IsPlaced C k s
+  placed k s h = (consistent.sessions k s h, consistent.owners k s h)
 
 -- ---- the commands
 
@@ -86,6 +96,7 @@ module _ (content : Text → Text) (C : Catalog) (consistent : Consistent conten
     kept = consistent.kept;
     manifests = λ l b h. stays l.0 (consistent.manifests l b h);
     sessions = λ k s h. stays s.repo (consistent.sessions k s h);
+    owners = consistent.owners;
     bytes = consistent.bytes;
   }
 
@@ -93,7 +104,7 @@ module _ (content : Text → Text) (C : Catalog) (consistent : Consistent conten
   consistent_new t known =
       let there = consistent_appeared t known in
       with_sessions content appeared there (insert C.sessions (t, next_number_of C t) new) (λ k s h.
-      ⊎_elim (λ e. subst (λ (x : Session). kept_set.contains (kept_set.insert C.repos r) x.repo ≡ true) e.1 is_in) (λ h. there.sessions k s h)
+      ⊎_elim (λ e. subst (λ (x : Session). IsPlaced appeared k x) e.1 (is_in, known ∙ ap (λ (y : SessionNumber). Some y.0) (sym e.0))) (placed content appeared there k s)
       (got-insert number_cmp_total exact_number C.sessions (t, next_number_of C t) new k s h))
     where
       new : Session
@@ -102,13 +113,13 @@ module _ (content : Text → Text) (C : Catalog) (consistent : Consistent conten
   consistent_append : (key : SessionNumber) (b : Text) → Consistent content (record C { sessions = after_append_in C.sessions key b })
   consistent_append key b = with_sessions content C consistent (after_append_in C.sessions key b) (λ k s h. at (get C.sessions key) refl k s h)
     where
-      at : (o : Option Session) → get C.sessions key ≡ o → (k : SessionNumber) (s : Session) → get (option_map_or (λ s. insert C.sessions key (longer b s)) o C.sessions) k ≡ Some s → kept_set.contains C.repos s.repo ≡ true
-      at None found k s h = consistent.sessions k s h
-      at (Some x) found k s h = ⊎_elim (λ e. subst (λ (y : Session). kept_set.contains C.repos y.repo ≡ true) e.1 (consistent.sessions key x found)) (consistent.sessions k s)
+      at : (o : Option Session) → get C.sessions key ≡ o → (k : SessionNumber) (s : Session) → get (option_map_or (λ s. insert C.sessions key (longer b s)) o C.sessions) k ≡ Some s → IsPlaced C k s
+      at None found k s h = placed content C consistent k s h
+      at (Some x) found k s h = ⊎_elim (λ e. subst (λ (q : SessionNumber). IsPlaced C q s) (sym e.0) (subst (λ (y : Session). IsPlaced C key y) e.1 (placed content C consistent key x found))) (placed content C consistent k s)
           (got-insert number_cmp_total exact_number C.sessions key (longer b x) k s h)
 
   consistent_abandon : (key : SessionNumber) → Consistent content (record C { sessions = remove C.sessions key })
-  consistent_abandon key = with_sessions content C consistent (remove C.sessions key) (λ k s h. consistent.sessions k s (got-remove number_cmp_total exact_number C.sessions key k s h))
+  consistent_abandon key = with_sessions content C consistent (remove C.sessions key) (λ k s h. placed content C consistent k s (got-remove number_cmp_total exact_number C.sessions key k s h))
 
   -- the repository of a session that was checked exists
   repo_there : (f : Session → Result ℕ Refusal) (key : SessionNumber) (o : Option Session) (after : ℕ) → get C.sessions key ≡ o → (session_in o r >>= f) ≡ Ok after → kept_set.contains C.repos r ≡ true
@@ -125,7 +136,7 @@ module _ (content : Text → Text) (C : Catalog) (consistent : Consistent conten
       (there, ap is_some (get-insert_at nat_list_cmp_total exact_bytes C.residents d new)))
       (λ h. (kept.links l h, kept.kept l h)) (member link_cmp_total exact_link C.links (r, d) l h)) in
       with_sessions content (record C { residents = insert C.residents d new; links = kept_set.insert C.links (r, d) }) linked (remove C.sessions (t, n))
-      (λ k s h. consistent.sessions k s (got-remove number_cmp_total exact_number C.sessions (t, n) k s h))
+      (λ k s h. placed content C consistent k s (got-remove number_cmp_total exact_number C.sessions (t, n) k s h))
     where
       new : Resident
       new = record { bytes = w; condemned = false; lent = Commands.was_leased (get C.residents d) }
@@ -154,6 +165,17 @@ module _ (content : Text → Text) (C : Catalog) (consistent : Consistent conten
   consistent_delete_manifest : (m : Text) → Consistent content (record C { manifests = remove C.manifests (r, m) })
   consistent_delete_manifest m = with_manifests content C consistent (remove C.manifests (r, m)) (λ l b h. consistent.manifests l b (got-remove link_cmp_total exact_link C.manifests (r, m) l b h))
 
+  consistent_remove_repo : is_in_use C r ≡ false → Consistent content (without_repo C r)
+  consistent_remove_repo unused = record {
+    repos = λ q h. consistent.repos q (was_member nat_list_cmp_total exact_bytes C.repos r q h);
+    links = λ l h. unused_repo.stays C r unused l.0 (unused_repo.no_link C r unused l h) (consistent.links l h);
+    kept = consistent.kept;
+    manifests = λ l b h. unused_repo.stays C r unused l.0 (unused_repo.no_manifest C r unused l b h) (consistent.manifests l b h);
+    sessions = λ k s h. unused_repo.stays C r unused s.repo (unused_repo.no_open C r unused k s h) (consistent.sessions k s h);
+    owners = consistent.owners;
+    bytes = consistent.bytes;
+  }
+
   consistent_lease : (d : Text) (b : Resident) → get C.residents d ≡ Some b → Consistent content (with_leased C d b)
   consistent_lease d b found = with_blob content C consistent d (record b { lent = true }) (consistent.bytes d b found)
 
@@ -178,6 +200,7 @@ consistent_command content C s (runs.Delete r d) fits = twice (answers_leave (Co
 consistent_command content C s (runs.PutManifest r b) fits = twice (answers_leave (Consistent content) runs.Bytes _ (put_leaves (Consistent content) C r b s (λ t known. consistent_put content C s r t b known)))
 consistent_command content C s (runs.GetManifest r m) fits = twice (reading_leave (Consistent content) runs.Bytes C (Commands.get_manifest C r m) s)
 consistent_command content C s (runs.DeleteManifest r m) fits = twice (answers_leave (Consistent content) (λ _. runs.Done) _ (delete_manifest_leaves (Consistent content) C r m (consistent_delete_manifest content C s r m)))
+consistent_command content C s (runs.RemoveRepo r) fits = twice (answers_leave (Consistent content) (λ _. runs.Done) _ (remove_repo_leaves (Consistent content) C r (λ _ unused. consistent_remove_repo content C s r unused)))
 consistent_command content C s (runs.Lease r d) fits = twice (answers_leave (Consistent content) runs.Bytes _ (lease_leaves (Consistent content) C r false d (consistent_lease content C s r d)))
 
 -- ---- a sweep
@@ -196,6 +219,7 @@ consistent_sweep content C C' swept consistent sweep = subst (λ X. Consistent c
   links = consistent.links;
   manifests = consistent.manifests;
   sessions = consistent.sessions;
+  owners = consistent.owners;
   kept = λ l h. let b = some_value (get C.residents l.1) (consistent.kept l h) in
       ap is_some (subst (λ o. IsAfterSweep o b.0 (get C'.residents l.1)) (no_orphan C l.0 l.1 (consistent.links l h) h) (sweep.orphans l.1 b.0 b.1));
   bytes = λ d b h. at d b (get C.residents d) refl h;

@@ -135,7 +135,7 @@ module _ (u : ℕ) (C : Catalog) where
 module _ (content : Text → Text) (C : Catalog) (consistent : Consistent content C) where
   consistent_chunks : (k : SessionNumber) (s : Session) (chunks : Chunks) → get C.sessions k ≡ Some s → Consistent content (record C { sessions = with_chunks C.sessions k s chunks })
   consistent_chunks k s chunks found = consistency.with_sessions content C consistent (with_chunks C.sessions k s chunks) (λ q x h.
-      ⊎_elim (λ e. subst (λ (y : Session). kept_set.contains C.repos y.repo ≡ true) e.1 (consistent.sessions k s found)) (consistent.sessions q x)
+      ⊎_elim (λ e. subst (λ (p : SessionNumber). consistency.IsPlaced C p x) (sym e.0) (subst (λ (y : Session). consistency.IsPlaced C k y) e.1 (consistency.placed content C consistent k s found))) (consistency.placed content C consistent q x)
       (got-insert number_cmp_total exact_number C.sessions k (record s { chunks = chunks }) q x h))
 
   pub consistent_take : (r : Text) (n : ℕ) (g : Option ByteRange) (len : ℕ) → Leaves (Consistent content) (take C r n g len)

@@ -19,7 +19,7 @@ use Rattle.store_model.specs.Sessions.{at_home, hand_content, with_chunk}
 use Rattle.store_model.specs.Sweep.{IsSweep}
 use Rattle.store_model.proofs.Noninterference.Consistency.{consistent_command, consistent_sweep, unseen_sweep}
 use Rattle.store_model.proofs.Noninterference.Hands.{Owned, changed_leaves, consistent_cancel, consistent_finish, consistent_put_back, consistent_take, finish_leaves, cancel_leaves, own_cancel, own_finish, own_put_back, own_take, owned_cancel, owned_chunks, owned_finish, owned_put_back, owned_session, owned_take, owned_without, put_back_leaves, take_leaves, unseen_cancel, unseen_finish, unseen_put_back, unseen_take}
-use Rattle.store_model.proofs.Noninterference.LocalRespect.{Leaves, abandon_leaves, alike_itself, alike_through, answers_leave, append_leaves, close_leaves, delete_leaves, delete_manifest_leaves, lease_leaves, mount_leaves, put_leaves, reading_leave, start_leaves, tenants_stay, unseen_command}
+use Rattle.store_model.proofs.Noninterference.LocalRespect.{Leaves, abandon_leaves, alike_itself, alike_through, answers_leave, append_leaves, close_leaves, delete_leaves, delete_manifest_leaves, lease_leaves, mount_leaves, put_leaves, reading_leave, remove_repo_leaves, start_leaves, tenants_stay, unseen_command}
 use Rattle.store_model.proofs.Noninterference.Runs.{brought_same, consistent_opening, content_of, fits_both, fits_content, own_called, same_part}
 use Rattle.store_model.proofs.Noninterference.SameFor.{Alike, Consistent}
 use Rattle.store_model.proofs.Noninterference.StepConsistency.{Fits, Matches}
@@ -74,6 +74,7 @@ module _ (C : Catalog) (owned : Owned C) where
   owned_command (runs.PutManifest r b) = answers_leave Owned runs.Bytes _ (put_leaves Owned C r b owned (λ t _. owned))
   owned_command (runs.GetManifest r m) = reading_leave Owned runs.Bytes C (Commands.get_manifest C r m) owned
   owned_command (runs.DeleteManifest r m) = answers_leave Owned (λ _. runs.Done) _ (delete_manifest_leaves Owned C r m owned)
+  owned_command (runs.RemoveRepo r) = answers_leave Owned (λ _. runs.Done) _ (remove_repo_leaves Owned C r (λ _ _. owned))
   owned_command (runs.Lease r d) = answers_leave Owned runs.Bytes _ (lease_leaves Owned C r false d (λ b _. owned))
 
   owned_step : (step : Step) → Keeps Owned C step

@@ -9,7 +9,7 @@ use Rattle.std.proofs.lemmas.List.{length-set}
 use Rattle.std.proofs.lemmas.Map.Lookups.{exact_bytes}
 use Rattle.blob_digest.specs.declared.range.ByteRange.{ByteRange}
 use Rattle.blob_digest.specs.declared.refusal.Refusal.{Refusal}
-use Rattle.blob_digest.specs.declared.refusal.Refusal.TheVariants.{NameUnknown, DigestInvalid, SizeInvalid, BlobUnknown, ManifestInvalid, ManifestUnknown, TooManyReaders, LimitReached}
+use Rattle.blob_digest.specs.declared.refusal.Refusal.TheVariants.{NameUnknown, DigestInvalid, SizeInvalid, BlobUnknown, ManifestInvalid, ManifestUnknown, TooManyReaders, LimitReached, RepoInUse}
 use Rattle.blob_digest.specs.Digests.{sha256_text}
 use Rattle.spec_lib.specs.Sets as kept_set
 use Rattle.oci_manifest.specs.Manifests.{refs_of, max_manifest}
@@ -17,7 +17,7 @@ use Rattle.spec_lib.specs.Texts.{Text}
 use Rattle.store_model.specs.Catalog.{SessionNumber, CheckedIn, Session, Resident, Catalog, session_number_cmp, tenant_of, is_repo_of, next_number_of}
 use Rattle.store_model.specs.Commands
 use Rattle.spec_lib.specs.Outcomes.{◌>>=◌, refuse}
-use Rattle.store_model.specs.Commands.{Outcome, tenant, session_in, not_busy, length_after, with_new_session, after_append_in, content_in, is_digest_accepted, has_same_bytes, with_stored_blob, has_source, with_link, with_manifest, with_leased, check_link, linked_blob, lacks_room_for, cannot_open, has_manifest, is_full_of_manifests, check_all_links, check_no_referrer, check_quota, check_share, has_slot}
+use Rattle.store_model.specs.Commands.{Outcome, tenant, session_in, not_busy, length_after, with_new_session, after_append_in, content_in, is_digest_accepted, has_same_bytes, with_stored_blob, has_source, with_link, with_manifest, with_leased, check_link, linked_blob, lacks_room_for, cannot_open, has_manifest, is_full_of_manifests, check_all_links, check_no_referrer, check_quota, check_repo, check_share, has_slot, is_in_use, without_repo}
 use Rattle.store_model.specs.declared.mount.Mount.TheVariants as mounting
 use Rattle.store_model.specs.Runs as runs
 use Rattle.store_model.specs.Runs.{Command, Answer, map_outcome, reading_outcome, outcome, repo_of}
@@ -90,6 +90,9 @@ module _ (P : Catalog → Type 0) where
 
     pub delete_manifest_leaves : (m : Text) → P (record C { manifests = remove C.manifests (r, m) }) → Leaves P (Commands.delete_manifest C r m)
     delete_manifest_leaves m new = of_tenant _ (λ t k. past (ok_or (get C.manifests (r, m)) ManifestUnknown) _ (λ _ _. new))
+
+    pub remove_repo_leaves : (kept_set.contains C.repos r ≡ true → is_in_use C r ≡ false → P (without_repo C r)) → Leaves P (Commands.remove_repo C r)
+    remove_repo_leaves new = of_tenant _ (λ t k. past (check_repo C r) _ (λ _ there. past (refuse (is_in_use C r) RepoInUse) _ (λ _ unused. new (not-false _ (not_refused _ _ _ there)) (not_refused _ _ _ unused))))
 
     pub lease_leaves : (crowded : Bool) (d : Text) → ((b : Resident) → get C.residents d ≡ Some b → P (with_leased C d b)) → Leaves P (Commands.lease crowded C r d)
     lease_leaves crowded d new = of_tenant _ (λ t k. past (linked_blob C r d) _ (λ b found. past (refuse crowded TooManyReaders) _ (λ _ _.
@@ -166,6 +169,9 @@ module _ (C : Catalog) (u : ℕ) (r : Text) (other : is_repo_of C u r ≡ false)
   pub unseen_delete_manifest : (m : Text) → Leaves Unseen (Commands.delete_manifest C r m)
   unseen_delete_manifest m = delete_manifest_leaves Unseen C r m (with_manifests u (visible C) (visible C) (alike_itself u C) _ C.manifests (unseen_remove link_cmp_total exact_link (λ l. is_repo_of C u l.0) C.manifests (r, m) other))
 
+  pub unseen_remove_repo : Leaves Unseen (Commands.remove_repo C r)
+  unseen_remove_repo = remove_repo_leaves Unseen C r (λ _ _. with_repos u (visible C) (visible C) (alike_itself u C) _ C.repos (unseen_remove nat_list_cmp_total exact_bytes (is_repo_of C u) C.repos r other))
+
   pub unseen_lease : (crowded : Bool) (d : Text) → Leaves Unseen (Commands.lease crowded C r d)
   unseen_lease crowded d = lease_leaves Unseen C r crowded d (λ b found. alike_itself u C)
 
@@ -189,6 +195,7 @@ unseen_command C u (runs.Delete r d) other = answers_leave (λ X. Alike u X C) (
 unseen_command C u (runs.PutManifest r b) other = answers_leave (λ X. Alike u X C) runs.Bytes _ (unseen_put C u r other b)
 unseen_command C u (runs.GetManifest r m) other = reading_leave (λ X. Alike u X C) runs.Bytes C (Commands.get_manifest C r m) (alike_itself u C)
 unseen_command C u (runs.DeleteManifest r m) other = answers_leave (λ X. Alike u X C) (λ _. runs.Done) _ (unseen_delete_manifest C u r other m)
+unseen_command C u (runs.RemoveRepo r) other = answers_leave (λ X. Alike u X C) (λ _. runs.Done) _ (unseen_remove_repo C u r other)
 unseen_command C u (runs.Lease r d) other = answers_leave (λ X. Alike u X C) runs.Bytes _ (unseen_lease C u r other false d)
 
 -- the tenants stay as they are
@@ -203,4 +210,5 @@ tenants_stay C (runs.Delete r d) = answers_leave (λ X. X.tenants ≡ C.tenants)
 tenants_stay C (runs.PutManifest r b) = answers_leave (λ X. X.tenants ≡ C.tenants) runs.Bytes _ (put_leaves (λ X. X.tenants ≡ C.tenants) C r b refl (λ t _. refl))
 tenants_stay C (runs.GetManifest r m) = reading_leave (λ X. X.tenants ≡ C.tenants) runs.Bytes C (Commands.get_manifest C r m) refl
 tenants_stay C (runs.DeleteManifest r m) = answers_leave (λ X. X.tenants ≡ C.tenants) (λ _. runs.Done) _ (delete_manifest_leaves (λ X. X.tenants ≡ C.tenants) C r m refl)
+tenants_stay C (runs.RemoveRepo r) = answers_leave (λ X. X.tenants ≡ C.tenants) (λ _. runs.Done) _ (remove_repo_leaves (λ X. X.tenants ≡ C.tenants) C r (λ _ _. refl))
 tenants_stay C (runs.Lease r d) = answers_leave (λ X. X.tenants ≡ C.tenants) runs.Bytes _ (lease_leaves (λ X. X.tenants ≡ C.tenants) C r false d (λ b _. refl))

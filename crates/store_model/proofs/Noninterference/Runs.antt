@@ -208,6 +208,7 @@ consistent_opening content tenants slots max_blob = record {
   kept = λ l h. no_member (get-empty link_cmp l) h;
   manifests = λ l b h. nothing (get-empty link_cmp l) h;
   sessions = λ k s h. nothing (get-empty session_number_cmp k) h;
+  owners = λ k s h. nothing (get-empty session_number_cmp k) h;
   bytes = λ d b h. nothing (get-empty text_cmp d) h;
 }
 

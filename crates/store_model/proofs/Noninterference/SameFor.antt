@@ -1,6 +1,6 @@
 -- Two catalogs that are equivalent for a tenant, and the facts that are equal in both.
 use Rattle.std.proofs.Common.{T, ◌≡◌, ℕ, ◌+◌, Bool, true, false, cond, not, List, [], ◌∷◌, ◌++◌, length, map, Option, Some, None, is_some, refl, sym, ap, ◌∙◌, subst, arith}
-use Rattle.std.specs.Prelude.{◌==◌, ◌&&◌, nat_le, slice_get, slice_index}
+use Rattle.std.specs.Prelude.{◌==◌, ◌&&◌, ◌||◌, nat_le, slice_get, slice_index}
 use Rattle.std.specs.Option.{option_map, option_map_or}
 use Rattle.std.specs.Cmp.Lexicographic.{nat_list_cmp_total, same_text as text_is}
 use Rattle.std.specs.Ordering.{eq_by_cmp}
@@ -16,12 +16,14 @@ use Rattle.spec_lib.specs.Texts.{Text, text_cmp, same_text}
 use Rattle.store_model.specs.Catalog.{Link, SessionNumber, Session, Resident, Catalog, tenant_of, is_repo_of_tenant, is_repo_of, quota_of, share_of, holds, tenant_holds, held_digests, session_charge, session_charges_of, blob_share, used_bytes, open_sessions, repos_of, manifests_of, received_length, Tenant, link_cmp, session_number_cmp}
 use Rattle.store_model.specs.Sessions.{at_home}
 use Rattle.spec_lib.specs.Outcomes.{◌>>=◌, refuse}
-use Rattle.store_model.specs.Commands.{check_share, content_in, session, session_in, not_busy, chunk_length_check, length_after, lacks_room_for, referrer, refers}
+use Rattle.store_model.specs.Commands.{check_share, content_in, session, session_in, not_busy, chunk_length_check, length_after, has_links, has_manifests, has_sessions, is_in_use, lacks_room_for, referrer, refers}
 use Rattle.store_model.specs.Noninterference.{blobs_of}
 use Rattle.blob_digest.proofs.KeyOrders.{number_cmp_total, exact_number, link_cmp_total, exact_link}
 use Rattle.blob_digest.specs.declared.refusal.Refusal.TheVariants.{LimitReached}
 use Rattle.store_model.proofs.Invariant.DistinctUse.{held_digests-by_links}
 use Rattle.store_model.proofs.Invariant.Shares.{same_set}
+use Rattle.store_model.proofs.Invariant.Unused.{no_session, no_sessions, same_test}
+use Rattle.spec_lib.proofs.Options.{option_eq_some, some_same}
 use Rattle.spec_lib.proofs.Lists.{list_any_same, witness}
 use Rattle.spec_lib.proofs.Mapped.{find-over, sorted-over, map_none}
 use Rattle.spec_lib.proofs.Agreement.{AgreeOn, sum_agree, find_agree, any_agree, count_agree}
@@ -76,6 +78,7 @@ pub record AreConsistent (content : Text → Text) (ts : List Tenant) (rs : set.
   pub kept : (l : Link) → set.contains ls l ≡ true → is_some (get blobs l.1) ≡ true
   pub manifests : (l : Link) (b : Text) → get ms l ≡ Some b → set.contains rs l.0 ≡ true
   pub sessions : (k : SessionNumber) (s : Session) → get ss k ≡ Some s → set.contains rs s.repo ≡ true
+  pub owners : (k : SessionNumber) (s : Session) → get ss k ≡ Some s → tenant_of ts s.repo ≡ Some k.0
   pub bytes : (d : Text) (b : Resident) → get blobs d ≡ Some b → b.bytes ≡ content d
 
 abbrev pub Consistent : (Text → Text) → Catalog → Type 0
@@ -119,6 +122,13 @@ module _ (content : Text → Text) (C : Catalog) (consistent : Consistent conten
 
   pub blobs_are : (t : ℕ) (q : Text) → find_key text_cmp q (blobs_of C t) ≡ cond (tenant_holds C t q) (Some (content q)) None
   blobs_are t q = find-blobs C t q ∙ bytes_at t q (get C.residents q) (tenant_holds C t q) refl (held_kept t q)
+
+-- a repository of a tenant without sessions has none in a catalog whose sessions of the tenant are the same
+sessions_none : (content : Text → Text) (t : ℕ) (X Y : Catalog) → Consistent content Y → AgreeOn (λ n. n.0 == t) X.sessions Y.sessions → (r : Text) → is_repo_of Y t r ≡ true → has_sessions X r ≡ false → has_sessions Y r ≡ false
+sessions_none content t X Y consistent agree r own none = no_sessions Y.sessions r (λ k s found is.
+    let owner : tenant_of Y.tenants r ≡ Some k.0 = subst (λ (q : Text). tenant_of Y.tenants q ≡ Some k.0) is (consistent.owners k s found) in
+    let own_key : k.0 ≡ t = some_same (sym owner ∙ option_eq_some (tenant_of Y.tenants r) t own) in
+    no_session X.sessions r none k s (agree k (eq-eqb k.0 t own_key) ∙ found) is)
 
 -- ---- facts that are equal in equivalent catalogs
 
@@ -207,6 +217,23 @@ module _ (t : ℕ) (C D : Catalog) (alike : Alike t C D) where
         sorted X =
             subst T (sym (sorted-over text_cmp (λ (b : Resident). b.bytes) (where_key text_cmp (tenant_holds X t) (entries X.residents))))
             (is_sorted-where_key text_cmp (tenant_holds X t) (entries X.residents) (entries_sorted X.residents))
+
+    pub in_use_same : (r : Text) → is_repo_of C t r ≡ true → is_in_use C r ≡ is_in_use D r
+    in_use_same r own = λ i. links i || described i || opened i
+      where
+        off_key : (l : Link) → is_repo_of C t l.0 ≡ false → same_text l.0 r ≡ false
+        off_key l off = other_repo r l.0 own (same_text l.0 r) refl off
+
+        links : has_links C r ≡ has_links D r
+        links = any_agree link_cmp_total exact_link (λ l. is_repo_of C t l.0) (λ l. same_text l.0 r) C.links D.links alike.links off_key
+
+        described : has_manifests C r ≡ has_manifests D r
+        described = any_agree link_cmp_total exact_link (λ l. is_repo_of C t l.0) (λ l. same_text l.0 r) C.manifests D.manifests alike.manifests off_key
+
+        opened : has_sessions C r ≡ has_sessions D r
+        opened = same_test (has_sessions C r) (has_sessions D r)
+            (sessions_none content t C D consistent_D alike.sessions r (sym (of_same r) ∙ own))
+            (sessions_none content t D C consistent_C (λ k is. sym (alike.sessions k is)) r own)
 
     pub used_same : used_bytes C t ≡ used_bytes D t
     used_same = used_bytes-blobs C t ∙ (λ i. sum_by (λ (e : Text × Text). length e.1) (blobs_same i) + in_sessions_same i) ∙ sym (used_bytes-blobs D t)

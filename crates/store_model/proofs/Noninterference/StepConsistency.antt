@@ -11,14 +11,14 @@ use Rattle.std.proofs.lemmas.List.{length-set}
 use Rattle.std.proofs.lemmas.Map.Lookups.{exact_bytes}
 use Rattle.blob_digest.specs.declared.range.ByteRange.{ByteRange}
 use Rattle.blob_digest.specs.declared.refusal.Refusal.{Refusal}
-use Rattle.blob_digest.specs.declared.refusal.Refusal.TheVariants.{NameUnknown, DigestInvalid, SizeInvalid, BlobUnknown, ManifestInvalid, ManifestUnknown, ManifestBlobUnknown, Quota, StoreFull, LimitReached}
+use Rattle.blob_digest.specs.declared.refusal.Refusal.TheVariants.{NameUnknown, DigestInvalid, SizeInvalid, BlobUnknown, ManifestInvalid, ManifestUnknown, ManifestBlobUnknown, Quota, StoreFull, LimitReached, RepoInUse}
 use Rattle.blob_digest.specs.Digests.{sha256_text, is_digest_of}
 use Rattle.oci_manifest.specs.Manifests.{refs_of}
 use Rattle.spec_lib.specs.Texts.{Text, same_text}
 use Rattle.store_model.specs.Catalog.{SessionNumber, CheckedIn, Session, Resident, Catalog, session_number_cmp, tenant_of, is_repo_of, holds, next_number_of, received_length}
 use Rattle.store_model.specs.Commands
 use Rattle.spec_lib.specs.Outcomes.{◌>>=◌, refuse}
-use Rattle.store_model.specs.Commands.{Outcome, tenant, session_in, not_busy, length_after, with_new_session, content_in, has_same_bytes, is_digest_accepted, is_full_for, with_stored_blob, check_all_links, has_source, with_link, with_manifest, with_leased, linked_blob, check_no_referrer, is_full_of_manifests, check_quota, check_share, lacks_room_for, cannot_open}
+use Rattle.store_model.specs.Commands.{Outcome, tenant, session_in, not_busy, length_after, with_new_session, content_in, has_same_bytes, is_digest_accepted, is_full_for, with_stored_blob, check_all_links, has_source, with_link, with_manifest, with_leased, linked_blob, check_no_referrer, is_full_of_manifests, check_quota, check_repo, check_share, is_in_use, lacks_room_for, cannot_open}
 use Rattle.store_model.specs.Sessions.{at_home, with_chunk}
 use Rattle.store_model.specs.declared.mount.Mount.TheVariants as mounting
 use Rattle.store_model.specs.Runs as runs
@@ -29,7 +29,7 @@ use Rattle.spec_lib.proofs.Texts.{same_itself}
 use Rattle.spec_lib.proofs.Options.{option_eq_some}
 use Rattle.spec_lib.proofs.Outcomes.{bound_ok}
 use Rattle.spec_lib.proofs.Agreement.{AgreeOn, agree_insert, agree_remove}
-use Rattle.store_model.proofs.Noninterference.SameFor.{Alike, visible, with_repos, with_links, with_manifests, with_sessions, Consistent, of_same, holds_same, own_holds_same, tenant_holds_same, room_same, open_same, session_found, session_same, check_same, whole_same, quota_same, share_check_same, manifests_same, referrer_same, used_same}
+use Rattle.store_model.proofs.Noninterference.SameFor.{Alike, visible, with_repos, with_links, with_manifests, with_sessions, Consistent, of_same, holds_same, own_holds_same, tenant_holds_same, room_same, open_same, session_found, session_same, check_same, whole_same, quota_same, share_check_same, in_use_same, manifests_same, referrer_same, used_same}
 
 -- Two outcomes agree: equal results with equivalent catalogs, equal errors, or `StoreFull` with other tenants present.
 abbrev pub Matches : {A : Type 0} → ℕ → Outcome A → Outcome A → Type 0
@@ -243,6 +243,16 @@ module _ (content : Text → Text) (t : ℕ) (C D : Catalog) (alike : Alike t C 
     with_manifests t (visible C) (visible D) alike _ _ (agree_remove link_cmp_total exact_link (λ l. is_repo_of C t l.0) C.manifests D.manifests (r, m) alike.manifests),
   )))
 
+  -- ---- repositories
+
+  pub own_remove_repo : Matches t (Commands.remove_repo C r) (Commands.remove_repo D r)
+  own_remove_repo = with_tenant _ _ (
+      same_check t (check_repo C r) (check_repo D r) (ap (λ o. refuse (not (is_some o)) NameUnknown) (alike.repos r own)) _ _ (λ _ _.
+      same_check t (refuse (is_in_use C r) RepoInUse) (refuse (is_in_use D r) RepoInUse) (ap (λ b. refuse b RepoInUse) (in_use_same t C D alike content consistent_C consistent_D r own)) _ _ (λ _ _. (
+        refl,
+        with_repos t (visible C) (visible D) alike _ _ (agree_remove nat_list_cmp_total exact_bytes (is_repo_of C t) C.repos D.repos r alike.repos),
+      ))))
+
   -- ---- leases and closes
 
   pub own_lease : (d : Text) → Matches t (Commands.lease false C r d) (Commands.lease false D r d)
@@ -302,4 +312,5 @@ own_command content t C D a c d (runs.Delete r e) own fits = answers_match t (λ
 own_command content t C D a c d (runs.PutManifest r b) own fits = answers_match t runs.Bytes _ _ (own_put content t C D a c d r own b)
 own_command content t C D a c d (runs.GetManifest r m) own fits = own_get content t C D a c d r own m
 own_command content t C D a c d (runs.DeleteManifest r m) own fits = answers_match t (λ _. runs.Done) _ _ (own_delete_manifest content t C D a c d r own m)
+own_command content t C D a c d (runs.RemoveRepo r) own fits = answers_match t (λ _. runs.Done) _ _ (own_remove_repo content t C D a c d r own)
 own_command content t C D a c d (runs.Lease r e) own fits = answers_match t runs.Bytes _ _ (own_lease content t C D a c d r own e)

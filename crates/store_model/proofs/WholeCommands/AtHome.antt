@@ -1,14 +1,16 @@
 -- The sessions of a catalog after every hand was checked in, and the facts that this leaves unchanged.
 use Rattle.std.proofs.Common.{◌≡◌, ◌≢◌, ℕ, ◌+◌, ◌≤◌, Bool, true, false, cond, List, [], length, Option, Some, None, Ok, refl, sym, ap, ◌∙◌, subst, arith, inl, inr}
-use Rattle.std.specs.Prelude.{◌==◌, if◌then◌else◌}
+use Rattle.std.specs.Prelude.{◌==◌, nat_lt, if◌then◌else◌}
 use Rattle.std.specs.List.{AllByRecursion, sum_by}
 use Rattle.std.specs.FinMap.{entries, get, insert, remove}
 use Rattle.std.proofs.lemmas.Bool.{false≢true}
 use Rattle.blob_digest.proofs.KeyOrders.{number_cmp_total, exact_number}
-use Rattle.spec_lib.proofs.Lists.{sum_by-add}
+use Rattle.spec_lib.specs.Texts.{Text, same_text}
+use Rattle.spec_lib.proofs.Lists.{list_any_count, sum_by-add}
 use Rattle.spec_lib.proofs.Maps.{cases_key, get-insert_at, get-insert_other, get-remove_other, sum_alike, term}
 use Rattle.spec_lib.proofs.Sums.{get-remove_same}
 use Rattle.store_model.specs.Catalog.{Catalog, Chunks, CheckedIn, CheckedOutWith, SessionNumber, Session, Tenant, charged_length, open_sessions, received_length, session_charge, session_charges_of, tenant_of, used_bytes}
+use Rattle.store_model.specs.Commands.{has_sessions}
 use Rattle.store_model.specs.Sessions.{Sessions, are_checked_in, length_after, reserved_of, with_chunks}
 use Rattle.store_model.specs.WholeCommands.{CheckedOutSessions, CheckedOut}
 use Rattle.store_model.proofs.Commands.Hands.{home_charged}
@@ -124,6 +126,21 @@ module _ (hands : CheckedOutSessions) (C : Catalog) (m : Sessions) (at_home : At
       at q None (Some out) h is = absurd is
       at q (Some s) None h is = sym (ap (term (one_more t) q) is.1)
       at q (Some s) (Some out) h is = sym (ap (term (one_more t) q) is.1)
+
+  pub sessions_home : (r : Text) → has_sessions C r ≡ has_sessions home r
+  sessions_home r =
+      list_any_count (λ e. same_text e.1.repo r) (entries C.sessions)
+      ∙ ap (nat_lt 0) (sum_alike number_cmp_total exact_number one one C.sessions m (λ q. at q (get C.sessions q) (get hands q) (get m q) (at_home q)))
+      ∙ sym (list_any_count (λ e. same_text e.1.repo r) (entries m))
+    where
+      one : SessionNumber × Session → ℕ
+      one e = cond (same_text e.1.repo r) 1 0
+
+      at : (q : SessionNumber) (s : Option Session) (out : Option CheckedOut) (h : Option Session) → AreOne C.tenants C.max_blob q s out h → term one q s ≡ term one q h
+      at q None None h is = sym (ap (term one q) is)
+      at q None (Some out) h is = absurd is
+      at q (Some s) None h is = sym (ap (term one q) is.1)
+      at q (Some s) (Some out) h is = sym (ap (term one q) is.1)
 
   -- the reserved bytes are used in addition
   pub used_home : (t : ℕ) → used_bytes home t ≤ used_bytes C t

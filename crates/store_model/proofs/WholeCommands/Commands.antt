@@ -7,7 +7,7 @@ use Rattle.std.specs.List.{concat}
 use Rattle.std.proofs.lemmas.Bool.{ltb-false, ltb-true}
 use Rattle.blob_digest.specs.declared.range.ByteRange.{ByteRange}
 use Rattle.blob_digest.specs.declared.refusal.Refusal.{Refusal}
-use Rattle.blob_digest.specs.declared.refusal.Refusal.TheVariants.{Busy, DigestInvalid, LimitReached, ManifestBlobUnknown, ManifestInvalid, ManifestUnknown, Quota, SizeInvalid, TooManyReaders, UploadUnknown}
+use Rattle.blob_digest.specs.declared.refusal.Refusal.TheVariants.{Busy, DigestInvalid, LimitReached, ManifestBlobUnknown, ManifestInvalid, ManifestUnknown, Quota, RepoInUse, SizeInvalid, TooManyReaders, UploadUnknown}
 use Rattle.blob_digest.specs.Digests.{sha256_text}
 use Rattle.oci_manifest.specs.Manifests.{max_manifest, refs_of}
 use Rattle.spec_lib.specs.Outcomes.{◌>>=◌, refuse}
@@ -15,7 +15,7 @@ use Rattle.spec_lib.specs.Texts.{Text, same_text}
 use Rattle.spec_lib.proofs.Outcomes.{bound_ok}
 use Rattle.store_model.specs.Catalog.{Catalog, CheckedIn, SessionNumber, holds, Session, next_number_of, quota_of, received_length, used_bytes}
 use Rattle.store_model.specs.Commands
-use Rattle.store_model.specs.Commands.{Outcome, check_all_links, cannot_open, chunk_length_check, has_manifest, has_slot, has_source, is_digest_accepted, is_full_of_manifests, lacks_room_for, check_link, linked_blob, with_new_session, not_busy, referrer, session, session_in, with_stored_blob, tenant, check_no_referrer, content_in, with_leased, with_link, with_manifest, check_quota, check_share}
+use Rattle.store_model.specs.Commands.{Outcome, check_all_links, cannot_open, chunk_length_check, has_manifest, has_slot, has_source, is_digest_accepted, is_full_of_manifests, lacks_room_for, check_link, linked_blob, with_new_session, not_busy, referrer, session, session_in, with_stored_blob, tenant, check_no_referrer, content_in, with_leased, with_link, with_manifest, check_quota, check_repo, check_share, has_links, has_manifests, is_in_use}
 use Rattle.store_model.specs.Invariant.{WellFormed}
 use Rattle.store_model.specs.Runs as runs
 use Rattle.store_model.specs.Runs.{Answer, Command, map_outcome, outcome, reading_outcome}
@@ -26,7 +26,7 @@ use Rattle.store_model.specs.declared.mount.Mount.TheVariants as mounting
 use Rattle.store_model.proofs.Commands.Accepted.{session_found}
 use Rattle.store_model.proofs.Commands.Hands.{checked_home, home_chunks}
 use Rattle.store_model.proofs.Invariant.Sessions.{fresh}
-use Rattle.store_model.proofs.WholeCommands.AtHome.{AreOne, AtHome, found_home, found_none, insert_home, open_home, remove_home, used_home}
+use Rattle.store_model.proofs.WholeCommands.AtHome.{AreOne, AtHome, found_home, found_none, insert_home, open_home, remove_home, sessions_home, used_home}
 
 -- the same reply, unless it is an error that a checked-out hand may cause
 abbrev SameContentionFree : {A : Type 0} → Result A Refusal → Result A Refusal → Type 0
@@ -230,6 +230,11 @@ module _ (hands : CheckedOutSessions) where
     delete_manifest_same : (r name : Text) → SameAtHome hands (Commands.delete_manifest C r name) (Commands.delete_manifest D r name)
     delete_manifest_same r name = same (tenant C r) _ _ (λ _ _. same (ok_or (get C.manifests (r, name)) ManifestUnknown) _ _ (λ _ _. (m, refl, at_home)))
 
+    remove_repo_same : (r : Text) → SameAtHome hands (Commands.remove_repo C r) (Commands.remove_repo D r)
+    remove_repo_same r = same (tenant C r) _ _ (λ _ _. same (check_repo C r) _ _ (λ _ _.
+        line (refuse (is_in_use C r) RepoInUse) (refuse (is_in_use D r) RepoInUse)
+        (alike _ _ (ap (λ b. refuse (has_links C r || has_manifests C r || b) RepoInUse) (sessions_home hands C m at_home r))) _ _ (λ _ _. (m, refl, at_home))))
+
     lease_same : (crowded : Bool) (r d : Text) → SameAtHome hands (Commands.lease crowded C r d) (Commands.lease crowded D r d)
     lease_same crowded r d = same (tenant C r) _ _ (λ _ _. same (linked_blob C r d) _ _ (λ b _. same (refuse crowded TooManyReaders) _ _ (λ _ _. (m, refl, at_home))))
 
@@ -246,4 +251,5 @@ module _ (hands : CheckedOutSessions) where
     same_outcome crowded (runs.PutManifest r b) = answers runs.Bytes _ _ (put_same r b)
     same_outcome crowded (runs.GetManifest r name) = reads runs.Bytes (Commands.get_manifest C r name) (Commands.get_manifest D r name) refl
     same_outcome crowded (runs.DeleteManifest r name) = answers (λ _. runs.Done) _ _ (delete_manifest_same r name)
+    same_outcome crowded (runs.RemoveRepo r) = answers (λ _. runs.Done) _ _ (remove_repo_same r)
     same_outcome crowded (runs.Lease r d) = answers runs.Bytes _ _ (lease_same crowded r d)
