@@ -1,16 +1,18 @@
 -- The manifests of all repositories in their trees, as one map.
 use Rattle.std.proofs.Common.{◌≡◌, Bool, true, false, cond, List, [], ◌∷◌, length, map, filter, Option, Some, None, is_some, Result, Ok, Err, refl, sym, ap, ◌∙◌, subst}
 use Rattle.std.specs.Prelude.{◌&&◌, nat_le, IsSome}
+use Rattle.std.specs.declared.cmp.Ordering.{Ordering}
 use Rattle.std.specs.Ordering.{eq_by_cmp, is_lt, ordering_then}
 use Rattle.std.specs.Cmp.{tied_itself, Equal-is}
 use Rattle.std.specs.Cmp.Lexicographic.{nat_list_cmp_total, texts_ties}
 use Rattle.std.specs.List.{flat_map, find as first}
+use Rattle.std.specs.Iterator.{YieldsFirstBy}
 use Rattle.std.specs.Option.{option_map, option_map_or}
 use Rattle.std.specs.BTreeMap as tree
 use Rattle.std.proofs.lemmas.Map.Lookups.{exact_bytes}
 use Rattle.spec_lib.specs.Trees.{map_of}
 use Rattle.spec_lib.proofs.Trees.{get_is, insert_is}
-use Rattle.std.specs.FinMap.{FinMap, find, get, entries, empty, insert, remove, len, contains_key, from_entries, is_sorted, get-empty, get-entries, get-from_entries, get-insert, get-remove, len-entries, same_map}
+use Rattle.std.specs.FinMap.{FinMap, find, get, entries, empty, insert, remove, len, contains_key, from_entries, is_sorted, get-empty, get-entries, get-from_entries, get-insert, get-remove, len-entries, empty_of_len, same_map}
 use Rattle.std.specs.FinMap.Entries.{below_all, find_tied}
 use Rattle.spec_lib.specs.Rows.{IsApart}
 use Rattle.blob_digest.specs.declared.refusal.Refusal.{Refusal}
@@ -285,3 +287,23 @@ removed_none rows n r d none is = ap manifest_bytes is ∙ all_manifests-without
 pub manifest_bytes-new : (rows : tree.BTreeMap Text RepoManifestBytes) → rows.entries ≡ [] → manifest_bytes rows ≡ empty
 manifest_bytes-new rows none = same_map link_cmp_total exact_link (manifest_bytes rows) empty (λ q.
     get-all_manifests (map_of rows) q.0 q.1 ∙ ap (λ x. get (given x) q.1) (get-from_entries nat_list_cmp_total rows.entries q.0 ∙ ap (find text_cmp q.0) none) ∙ get-empty text_cmp q.1 ∙ sym (get-empty link_cmp q))
+
+nothing_left : {K X : Type 0} {R : K → K → Ordering} (m : FinMap R X) → entries m ≡ [] → m ≡ empty
+nothing_left m none = empty_of_len m (len-entries m ∙ ap length none)
+
+-- the row of a repository without manifests is dropped
+pub forgotten : (rows n : tree.BTreeMap Text RepoManifestBytes) (r : Text) → manifests_on (manifest_bytes rows) r ≡ [] → ((q : Text) → tree.get text_cmp n q ≡ cond (tree.is_at (text_cmp r) q) None (tree.get text_cmp rows q)) → manifest_bytes n ≡ manifest_bytes rows
+forgotten rows n r none gone = same_map link_cmp_total exact_link (manifest_bytes n) (manifest_bytes rows) (λ k.
+    get-all_manifests (map_of n) k.0 k.1
+    ∙ ap (λ x. get (given x) k.1) (sym (get_is n k.0) ∙ gone k.0)
+    ∙ by_tie k (tree.is_at (text_cmp r) k.0) refl
+    ∙ sym (get-all_manifests (map_of rows) k.0 k.1))
+  where
+    by_tie : (k : Link) (b : Bool) → tree.is_at (text_cmp r) k.0 ≡ b → get (given (cond b None (tree.get text_cmp rows k.0))) k.1 ≡ get (group (map_of rows) k.0) k.1
+    by_tie k true tie = ap (λ (m : RepoManifestBytes). get m k.1) (sym (ap (group (map_of rows)) (sym (tied_text r k.0 tie)) ∙ nothing_left (group (map_of rows) r) (sym (on-all_manifests (map_of rows) r) ∙ none)))
+    by_tie k false tie = ap (λ x. get (given x) k.1) (get_is rows k.0)
+
+-- an iterator that returned nothing had nothing left
+pub none_next : {S A B : Type 0} (view : A → B) (rest : S → List B) (s t : S) (r : Option A) → YieldsFirstBy view rest s r t → is_some r ≡ false → rest s ≡ []
+none_next view rest s t None ran nothing = ran.0
+none_next view rest s t (Some x) ran nothing = cc

@@ -8,12 +8,11 @@ use Rattle.std.specs.Cmp.Lexicographic.{nat_list_cmp_total}
 use Rattle.std.specs.List.{AllByRecursion}
 use Rattle.std.specs.List.Sorted.{IsStrictlySortedBy}
 use Rattle.std.specs.Map.{keys_of}
-use Rattle.std.specs.FinMap.{FinMap, entries, find, from_entries, get, get-from_entries, len, len-empty, len-entries, len-insert}
+use Rattle.std.specs.FinMap.{FinMap, find, from_entries, get, get-from_entries, len, len-empty, len-insert}
 use Rattle.std.proofs.lemmas.Bool.{lt-ltb}
 use Rattle.std.proofs.lemmas.Map.Lookups.{exact_bytes}
 use Rattle.spec_lib.specs.Texts.{Text, text_cmp}
-use Rattle.spec_lib.proofs.Lists.{sum_by-ones}
-use Rattle.spec_lib.proofs.Maps.{sum_alike, term}
+use Rattle.spec_lib.proofs.Maps.{len-same_keys}
 use Rattle.blob_digest.specs.Keys.{link_cmp}
 use Rattle.link_table.specs.Holders.{Counts, HasNoZero, count_in}
 use Rattle.link_table.specs.Linked.{Tenant, blobs, is_repo_of_tenant}
@@ -40,21 +39,6 @@ module _ {X : Type 0} where
       ∙ ap (λ o. cond (is_some o) (len (from_entries {R = text_cmp} es)) (len (from_entries {R = text_cmp} es) + 1)) (get-from_entries nat_list_cmp_total es e.0 ∙ find_below e.0 es up.0) in
       omega arith
 
--- maps with the same keys have the same size
-len-same_keys : {X Y : Type 0} (m : FinMap text_cmp X) (n : FinMap text_cmp Y) → ((d : Text) → is_some (get m d) ≡ is_some (get n d)) → len m ≡ len n
-len-same_keys {X} {Y} m n each =
-    let one : Text × X → ℕ = λ _. 1 in
-    let other : Text × Y → ℕ = λ _. 1 in
-    len-entries m ∙ sym (sum_by-ones (entries m))
-    ∙ sum_alike nat_list_cmp_total exact_bytes one other m n (λ d. at d (get m d) (get n d) (each d))
-    ∙ sum_by-ones (entries n) ∙ sym (len-entries n)
-  where
-    at : (d : Text) (x : Option X) (y : Option Y) → is_some x ≡ is_some y → term (λ (e : Text × X). 1) d x ≡ term (λ (e : Text × Y). 1) d y
-    at d None None e = refl
-    at d None (Some v) e = cc
-    at d (Some u) None e = cc
-    at d (Some u) (Some v) e = refl
-
 -- ---- the number of a tenant's digests
 
 -- a digest with a count has a count above 0
@@ -70,4 +54,4 @@ counted_key m none_zero d = by (get m d) refl
 pub len-counts : (tenants : List Tenant) (links : FinMap link_cmp ℕ) (holders : List (FinMap text_cmp ℕ)) → Counts tenants links holders → (t : ℕ) (m : FinMap text_cmp ℕ) → slice_get holders t ≡ Some m → HasNoZero m →
     len m ≡ len (blobs (is_repo_of_tenant tenants t) links)
 len-counts tenants links holders counts t m at none_zero =
-    len-same_keys m (blobs (is_repo_of_tenant tenants t) links) (λ d. counted_key m none_zero d ∙ held-counted tenants links holders counts t m at d ∙ sym (contains-blob tenants t d links))
+    len-same_keys nat_list_cmp_total exact_bytes m (blobs (is_repo_of_tenant tenants t) links) (λ d. counted_key m none_zero d ∙ held-counted tenants links holders counts t m at d ∙ sym (contains-blob tenants t d links))

@@ -1,7 +1,7 @@
 -- The state of a table of links: tenants with quotas, repositories, links with the sizes of their blobs, manifests, and charges.
-use Rattle.std.specs.Prelude.{◌≡◌, ℕ, ◌+◌, ◌-◌, ◌&&◌, not, nat_le, nat_lt, Bool, Option, Some, None, Result, Ok, Err, List, [], ◌∷◌, length, map, filter, sum_by, slice_get, slice_index, slice_set, replicate, if◌then◌else◌}
+use Rattle.std.specs.Prelude.{◌≡◌, ℕ, ◌+◌, ◌-◌, ◌&&◌, ◌||◌, not, nat_le, nat_lt, Bool, Option, Some, None, Result, Ok, Err, List, [], ◌∷◌, length, map, filter, sum_by, slice_get, slice_index, slice_set, replicate, if◌then◌else◌}
 use Rattle.std.proofs.Common.{refl}
-use Rattle.std.specs.List.{find}
+use Rattle.std.specs.List.{find, list_any}
 use Rattle.std.specs.Option.{option_map, option_map_or, ok_or}
 use Rattle.std.specs.FinMap as fmap
 use Rattle.std.specs.Coded.{Coded, code_by, coded×, coded_ℕ, coded_list}
@@ -93,6 +93,18 @@ blobs_in l repo = map (λ e. (e.0.1, e.1)) (filter (λ e. same_text e.0.0 repo) 
 -- the first of these digests that the repository does not contain
 abbrev pub first_unlinked : fmap.FinMap link_cmp ℕ → Text → List Text → Option Text
 first_unlinked links repo digests = find (λ d. not (fmap.contains_key links (repo, d))) digests
+
+-- whether a repository has a link
+abbrev pub has_links : Linked → Text → Bool
+has_links l repo = list_any (λ k. same_text k.0 repo) (fmap.keys l.links)
+
+-- whether a repository has a manifest
+abbrev pub has_manifests : Linked → Text → Bool
+has_manifests l repo = list_any (λ k. same_text k.0 repo) (fmap.keys l.manifests)
+
+-- whether a repository has a link or a manifest
+abbrev pub has_contents : Linked → Text → Bool
+has_contents l repo = has_links l repo || has_manifests l repo
 
 -- ---- changes
 

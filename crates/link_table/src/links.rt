@@ -9,7 +9,7 @@ ghost use Rattle.blob_digest.specs.declared.refusal.Refusal.TheVariants.{Memory}
 ghost use Rattle.link_table.specs.ManifestTable.{referrer_on, manifests_on, Fulfils};
 ghost use Rattle.link_table.specs.Manifests.{found_bytes, found_manifest};
 ghost use Rattle.link_table.specs.TenantRepos.{empty_tenant};
-ghost use Rattle.link_table.specs.Linked.{is_repo_of_tenant, known_tenant, name_at, used_in, quota_in, blobs_of, repos_of, blobs_in, tenant_repo_count, first_unlinked, link, unlink, passes_share, share_in, put_manifest, drop_manifest, charge, discharge, appear, vanish, IsSizeOf, HasNoLinks};
+ghost use Rattle.link_table.specs.Linked.{is_repo_of_tenant, known_tenant, name_at, used_in, quota_in, blobs_of, repos_of, blobs_in, tenant_repo_count, first_unlinked, has_contents, has_links, has_manifests, link, unlink, passes_share, share_in, put_manifest, drop_manifest, charge, discharge, appear, vanish, IsSizeOf, HasNoLinks};
 ghost use Rattle.link_table.specs.Tenancy.{Opens, AreTenants, RefusesTenants, tenants_shown};
 
 use crate::blobs::Blobs;
@@ -231,6 +231,44 @@ impl Links {
         self.repos[tenant as usize].appear(self.alloc, repo)
     }
 
+    /// Returns whether a tenant's repository exists.
+    ///
+    /// # Cost
+    ///
+    /// Logarithmic in the number of the tenant's repositories.
+    pub fn has_repo(&self, tenant: u16, repo: &RepoName) -> bool
+        requires there { tenant < length self.now.tenants }
+        requires own { is_repo_of_tenant self.now.tenants tenant repo.now ≡ true }
+        ensures { result ≡ set.contains self.now.repos repo.now }
+    {
+        self.repos[tenant as usize].has(repo)
+    }
+
+    /// Returns whether a repository has a link or a manifest.
+    ///
+    /// # Cost
+    ///
+    /// Finds the repository.
+    pub fn has_contents(&self, repo: &RepoName) -> bool
+        ensures { result ≡ has_contents self.now repo.now }
+    {
+        self.has_links(repo) || self.has_manifests(repo)
+    }
+
+    /// Returns whether a repository has a link.
+    fn has_links(&self, repo: &RepoName) -> bool
+        ensures { result ≡ has_links self.now repo.now }
+    {
+        self.blobs(repo).next().is_some()
+    }
+
+    /// Returns whether a repository has a manifest.
+    fn has_manifests(&self, repo: &RepoName) -> bool
+        ensures { result ≡ has_manifests self.now repo.now }
+    {
+        self.manifests(repo).next().is_some()
+    }
+
     /// Removes a tenant's repository, which must have no links.
     ///
     /// # Cost
@@ -247,6 +285,7 @@ impl Links {
         ensures { self.new ≡ vanish self.old repo.now }
     {
         self.repos[tenant as usize].vanish(repo);
+        self.manifests.forget(repo);
     }
 
     /// Adds a link between a tenant's repository and a blob, and returns whether the link is new.
@@ -436,7 +475,7 @@ impl Links {
     ///
     /// # Cost
     ///
-    /// Logarithmic in the number of repositories that have ever had a manifest, and in the number of the repository's
+    /// Logarithmic in the number of repositories that had a manifest since they were created, and in the number of the repository's
     /// manifests. Each reference is logarithmic in the number of the repository's references.
     pub fn put_manifest(
         &mut self,
@@ -467,7 +506,7 @@ impl Links {
     ///
     /// # Cost
     ///
-    /// Logarithmic in the number of repositories that have ever had a manifest, and in the number of the repository's
+    /// Logarithmic in the number of repositories that had a manifest since they were created, and in the number of the repository's
     /// manifests. Copies no bytes.
     pub fn manifest(&self, repo: &RepoName, digest: &Digest) -> Option<&Arc<Manifest, Global>>
         ensures { found_bytes result ≡ fmap.get self.now.manifests (repo.now, digest.now) }
@@ -479,7 +518,7 @@ impl Links {
     ///
     /// # Cost
     ///
-    /// Logarithmic in the number of repositories that have ever had a manifest, and in the number of the repository's
+    /// Logarithmic in the number of repositories that had a manifest since they were created, and in the number of the repository's
     /// references.
     pub fn referrer(&self, repo: &RepoName, digest: &Digest) -> Option<Digest>
         ensures { result ≡ referrer_on self.now.manifests repo.now digest.now }

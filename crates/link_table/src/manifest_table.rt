@@ -20,8 +20,8 @@ use std::sync::Arc;
 ///
 /// # Cost
 ///
-/// Each call is logarithmic in the number of repositories that have ever had a manifest. To this is added the cost of
-/// the call of `RepoManifests`.
+/// Each call is logarithmic in the number of repositories that had a manifest since they were created. To this is added
+/// the cost of the call of `RepoManifests`.
 #[derive(Drop)]
 pub struct ManifestTable {
     rows: BTreeMap<RepoName, RepoManifests>,
@@ -97,6 +97,17 @@ impl ManifestTable {
         match self.rows.get_mut(repo) {
             Some(group) => group.remove(digest),
             None => {}
+        }
+    }
+
+    /// Drops the row of a repository without manifests. Allocates nothing.
+    ///
+    /// Contracts see no rows. The call keeps the table from growing with each name that was ever in use.
+    pub fn forget(&mut self, repo: &RepoName)
+        ensures { self.new ≡ self.old }
+    {
+        if self.manifests(repo).next().is_none() {
+            self.rows.remove(repo);
         }
     }
 

@@ -77,6 +77,16 @@ impl TenantRepos {
         Ok(true)
     }
 
+    /// Returns whether a repository exists.
+    pub fn has(&self, repo: &RepoName) -> bool
+        ensures { result ≡ set.contains self.now.repos repo.now }
+    {
+        match place_of(self.repos.as_slice(), repo) {
+            Ok(_) => true,
+            Err(_) => false,
+        }
+    }
+
     /// Removes a repository, which must have no links.
     pub fn vanish(&mut self, repo: &RepoName)
         requires there { set.contains self.old.repos repo.now ≡ true }

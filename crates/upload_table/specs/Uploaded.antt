@@ -1,6 +1,7 @@
 -- The state of a table of upload sessions, and the changes that its calls make.
 use Rattle.std.specs.Prelude.{◌≡◌, ℕ, ◌+◌, ◌^◌, ◌≤◌, nat_le, ◌||◌, not, is_ok, Bool, Option, Some, IfSome, Result, Ok, Err, IfOk, IfErr, List, [], ◌∷◌, length, map, sum, sum_by, take, drop, replicate, slice_index, slice_set, if◌then◌else◌}
 use Rattle.std.specs.Option.{option_map_or}
+use Rattle.std.specs.List.{list_any}
 use Rattle.std.proofs.Common.{refl}
 use Rattle.std.specs.FinMap as fmap
 use Rattle.std.specs.Coded.{Coded, code_by, coded×, coded_ℕ, coded_list, coded_option}
@@ -15,7 +16,7 @@ use Rattle.blob_digest.specs.Keys.{SessionNumber}
 use Rattle.blob_digest.specs.Digests.{is_digest_of}
 use Rattle.blob_digest.specs.Outcomes.{DoesExactly, OutcomeIn}
 use Rattle.spec_lib.specs.Outcomes.{◌>>=◌, refuse}
-use Rattle.store_model.specs.Sessions.{CheckedIn, CheckedOutWith, Session, Sessions, HandRecord, after_cancel_in, chunk_length_check_in, coded_session, number_and_length, open_count_in, put_back_outcome_in, session_in, sessions_of, after_take_in, session_of_hand, hand_content, with_chunks}
+use Rattle.store_model.specs.Sessions.{CheckedIn, CheckedOutWith, Session, Sessions, HandRecord, after_cancel_in, chunk_length_check_in, coded_session, number_and_length, open_count_in, is_of_repo, put_back_outcome_in, session_in, sessions_of, after_take_in, session_of_hand, hand_content, with_chunks}
 
 -- bytes as chunks of given lengths, one after another
 abbrev pub cut_chunks : List ℕ → List ℕ → List (List ℕ)
@@ -90,6 +91,10 @@ is_checked_out u h = is_ok (session_of_hand (fmap.get u.sessions h.key) h)
 -- number and received length of each of a repository's sessions, in the order of their numbers
 abbrev pub listed_sessions : Uploaded → ℕ → Text → List (ℕ × ℕ)
 listed_sessions u t repo = map number_and_length (sessions_of u.sessions t repo)
+
+-- whether a repository has an open session
+abbrev pub has_sessions : Uploaded → ℕ → Text → Bool
+has_sessions u t repo = list_any (is_of_repo t repo) (fmap.entries u.sessions)
 
 -- ---- changes
 

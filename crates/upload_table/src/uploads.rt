@@ -7,7 +7,7 @@ ghost use Rattle.blob_digest.specs.Digests.{is_digest_of};
 ghost use Rattle.blob_digest.specs.Outcomes.{Does, DoesExactly};
 ghost use Rattle.blob_digest.specs.declared.refusal.Refusal.TheVariants.{Memory};
 ghost use Rattle.store_model.specs.Sessions.{hand_in, checked_in_length, session_charges, is_checked_in, received_in};
-ghost use Rattle.upload_table.specs.Uploaded.{ErrIs, Finishes, FirstIs, OkIs, ReopensTo, check, is_checked_out, listed_sessions, open_session, repo_session};
+ghost use Rattle.upload_table.specs.Uploaded.{ErrIs, Finishes, FirstIs, OkIs, ReopensTo, check, has_sessions, is_checked_out, listed_sessions, open_session, repo_session};
 ghost use Rattle.upload_table.specs.Uploaded.{checked_in_with, cancel_upload, initial_uploads, put_back_upload, repo_at, start_upload, take_upload, without_upload, CanReopen, reopened_table};
 ghost use Rattle.store_model.specs.Sessions.{HasNoOpenReserve};
 ghost use Rattle.upload_table.specs.Rows.{cut_buffer, found_session, HasConsistentBuffer, FitsCharge, IsConsistentBuffer};
@@ -424,6 +424,17 @@ impl Uploads {
         } else {
             RepoSessions { rest: &[], repo }
         }
+    }
+
+    /// Returns whether a repository has an open session, checked in or checked out.
+    ///
+    /// # Cost
+    ///
+    /// At most one pass over the tenant's sessions.
+    pub fn has_sessions(&self, tenant: u16, repo: &RepoName) -> bool
+        ensures { result ≡ has_sessions self.now tenant repo.now }
+    {
+        self.sessions(tenant, repo).next().is_some()
     }
 
     /// Returns a repository's session at index `i` of the list that `sessions` returns.

@@ -47,4 +47,4 @@ returns c =
     let at = owned_at tenants by_tenant c.self.invariant.1 c.args.tenant (own_within tenants c.args.tenant c.args.repo.now own) s c.index_mut.ensures.value in
     let repos = repos-remove tenants by_tenant c.self.invariant.1 c.args.tenant s at c.args.repo.now own c.vanish.new.self (ap (λ (x : OwnRepos). x.repos) c.vanish.ensures) in
     let links = links-same tenants by_tenant c.self.invariant.1 c.args.tenant s at c.vanish.new.self (ap (λ (x : OwnRepos). x.links) c.vanish.ensures) in
-    rw (← c.self.view_is) (λ i. record { tenants = tenants; repos = repos i; links = links i; manifests = c.self.inside.manifests; charges = c.self.inside.charges.items })
+    rw (← c.self.view_is) (λ i. record { tenants = tenants; repos = repos i; links = links i; manifests = c.forget.ensures i; charges = c.self.inside.charges.items })
