@@ -7,7 +7,7 @@ use Rattle.log_records.specs.declared.head.Head.{Head}
 use Rattle.log_records.specs.declared.kind.Kind.{Kind}
 use Rattle.log_records.specs.declared.kind.Kind.TheVariants as kind
 use Rattle.log_records.specs.Kinds.{IsUnknown, kind_number}
-use Rattle.log_records.specs.Changes.{Change, HaveRoom, IsChange, Parts, change_of, max_body, parts_of, RepoAdded, SessionOpened, ChunkReceived, SessionSealed, SessionDropped, BlobLinked, BlobUnlinked, ManifestPut, ManifestDeleted, NumberSet, BlobStored}
+use Rattle.log_records.specs.Changes.{Change, HaveRoom, IsChange, Parts, change_of, max_body, parts_of, RepoAdded, SessionOpened, ChunkReceived, SessionSealed, SessionDropped, BlobLinked, BlobUnlinked, ManifestPut, ManifestDeleted, NumberSet, BlobStored, RepoRemoved}
 use Rattle.log_records.specs.Records.{IsHead, head_bytes, head_for, head_of, payload_len, payload_of, record_bytes}
 use Rattle.log_records.specs.Laws.{RecordsAreApart}
 
@@ -58,7 +58,7 @@ heads_apart a b x y fa fb e =
 
 -- ---- kinds
 
-pub kind_small : (k : Kind) → kind_number k ≤ 11
+pub kind_small : (k : Kind) → kind_number k ≤ 12
 kind_small kind.RepoAdded = omega arith
 kind_small kind.SessionOpened = omega arith
 kind_small kind.ChunkReceived = omega arith
@@ -70,6 +70,7 @@ kind_small kind.ManifestPut = omega arith
 kind_small kind.ManifestDeleted = omega arith
 kind_small kind.NumberSet = omega arith
 kind_small kind.BlobStored = omega arith
+kind_small kind.RepoRemoved = omega arith
 
 kind_positive : (k : Kind) → 0 < kind_number k
 kind_positive kind.RepoAdded = omega arith
@@ -83,6 +84,7 @@ kind_positive kind.ManifestPut = omega arith
 kind_positive kind.ManifestDeleted = omega arith
 kind_positive kind.NumberSet = omega arith
 kind_positive kind.BlobStored = omega arith
+kind_positive kind.RepoRemoved = omega arith
 
 pub known : (k : Kind) → IsUnknown (kind_number k) → ⊥
 known k (inl zero) = omega (arith, zero, kind_positive k)
@@ -90,7 +92,7 @@ known k (inr large) = omega (arith, large, kind_small k)
 
 -- the kinds in the order of their numbers
 kinds : List Kind
-kinds = kind.RepoAdded ∷ kind.RepoAdded ∷ kind.SessionOpened ∷ kind.ChunkReceived ∷ kind.SessionSealed ∷ kind.SessionDropped ∷ kind.BlobLinked ∷ kind.BlobUnlinked ∷ kind.ManifestPut ∷ kind.ManifestDeleted ∷ kind.NumberSet ∷ kind.BlobStored ∷ []
+kinds = kind.RepoAdded ∷ kind.RepoAdded ∷ kind.SessionOpened ∷ kind.ChunkReceived ∷ kind.SessionSealed ∷ kind.SessionDropped ∷ kind.BlobLinked ∷ kind.BlobUnlinked ∷ kind.ManifestPut ∷ kind.ManifestDeleted ∷ kind.NumberSet ∷ kind.BlobStored ∷ kind.RepoRemoved ∷ []
 
 kind_at : ℕ → Kind
 kind_at n = get_or kinds n kind.RepoAdded
@@ -108,6 +110,7 @@ again kind.ManifestPut = refl
 again kind.ManifestDeleted = refl
 again kind.NumberSet = refl
 again kind.BlobStored = refl
+again kind.RepoRemoved = refl
 
 pub kinds_apart : (a b : Kind) → kind_number a ≡ kind_number b → a ≡ b
 kinds_apart a b e = sym (again a) ∙ ap kind_at e ∙ again b
@@ -126,6 +129,7 @@ change_again (ManifestPut repo bytes) = refl
 change_again (ManifestDeleted repo digest) = refl
 change_again (NumberSet tenant number) = refl
 change_again (BlobStored digest bytes) = refl
+change_again (RepoRemoved repo) = refl
 
 pub head_fits : (p : Parts) → HaveRoom p → IsHead (head_of p)
 head_fits p room = record {

@@ -30,6 +30,8 @@ pub data Change : Type 0 where
   NumberSet : List ℕ → ℕ → Change
   -- a blob of this digest and these bytes was stored
   BlobStored : List ℕ → List ℕ → Change
+  -- the repository of this name was removed
+  RepoRemoved : List ℕ → Change
 
 -- a borrowed change, without its place in memory
 abbrev pub change_view : BorrowedChange → Change
@@ -44,6 +46,7 @@ change_view (borrowed.ManifestPut repo bytes) = ManifestPut repo.now bytes.now
 change_view (borrowed.ManifestDeleted repo digest) = ManifestDeleted repo.now digest.now
 change_view (borrowed.NumberSet tenant number) = NumberSet tenant.now number
 change_view (borrowed.BlobStored digest bytes) = BlobStored digest.now bytes.now
+change_view (borrowed.RepoRemoved repo) = RepoRemoved repo.now
 
 -- the parts of a record
 pub record Parts : Type 0 where
@@ -72,6 +75,7 @@ parts_of (ManifestPut repo bytes) = parts kind.ManifestPut repo [] 0 bytes
 parts_of (ManifestDeleted repo digest) = parts kind.ManifestDeleted repo digest 0 []
 parts_of (NumberSet tenant number) = parts kind.NumberSet tenant [] number []
 parts_of (BlobStored digest bytes) = parts kind.BlobStored [] digest 0 bytes
+parts_of (RepoRemoved repo) = parts kind.RepoRemoved repo [] 0 []
 
 -- the change of a kind with these fields; a field that the kind does not use is ignored
 abbrev pub change_with : Kind → List ℕ → List ℕ → ℕ → List ℕ → Change
@@ -86,6 +90,7 @@ change_with kind.ManifestPut name digest number body = ManifestPut name body
 change_with kind.ManifestDeleted name digest number body = ManifestDeleted name digest
 change_with kind.NumberSet name digest number body = NumberSet name number
 change_with kind.BlobStored name digest number body = BlobStored digest body
+change_with kind.RepoRemoved name digest number body = RepoRemoved name
 
 abbrev pub change_of : Parts → Change
 change_of p = change_with p.kind p.name p.digest p.number p.body

@@ -1,7 +1,7 @@
 -- The kinds of records.
 use Rattle.std.specs.Prelude.{◌≡◌, ◌⊎◌, ◌<◌, ℕ, Bool, true, false}
 use Rattle.log_records.specs.declared.kind.Kind.{Kind}
-use Rattle.log_records.specs.declared.kind.Kind.TheVariants.{BlobLinked, BlobStored, BlobUnlinked, ChunkReceived, ManifestDeleted, ManifestPut, NumberSet, RepoAdded, SessionDropped, SessionOpened, SessionSealed}
+use Rattle.log_records.specs.declared.kind.Kind.TheVariants.{BlobLinked, BlobStored, BlobUnlinked, ChunkReceived, ManifestDeleted, ManifestPut, NumberSet, RepoAdded, RepoRemoved, SessionDropped, SessionOpened, SessionSealed}
 
 -- the number of a kind
 abbrev pub kind_number : Kind → ℕ
@@ -16,10 +16,11 @@ kind_number ManifestPut = 8
 kind_number ManifestDeleted = 9
 kind_number NumberSet = 10
 kind_number BlobStored = 11
+kind_number RepoRemoved = 12
 
 -- a number of no kind
 abbrev pub IsUnknown : ℕ → Type 0
-IsUnknown number = (number ≡ 0) ⊎ (11 < number)
+IsUnknown number = (number ≡ 0) ⊎ (12 < number)
 
 -- records of the kind have a name
 abbrev pub uses_name : Kind → Bool

@@ -84,4 +84,9 @@ pub enum Change<'a> {
         /// The blob.
         bytes: &'a [u8],
     },
+    /// A repository was removed.
+    RepoRemoved {
+        /// The name of the repository.
+        repo: &'a [u8],
+    },
 }

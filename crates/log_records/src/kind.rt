@@ -27,6 +27,8 @@ pub enum Kind {
     NumberSet,
     /// A blob was stored.
     BlobStored,
+    /// A repository was removed.
+    RepoRemoved,
 }
 
 impl Kind {
@@ -47,6 +49,7 @@ impl Kind {
             9 => Some(Kind::ManifestDeleted),
             10 => Some(Kind::NumberSet),
             11 => Some(Kind::BlobStored),
+            12 => Some(Kind::RepoRemoved),
             _ => None,
         }
     }
@@ -67,6 +70,7 @@ impl Kind {
             Kind::ManifestDeleted => 9,
             Kind::NumberSet => 10,
             Kind::BlobStored => 11,
+            Kind::RepoRemoved => 12,
         }
     }
 

@@ -52,6 +52,7 @@ pub fn parts_of<'a>(change: &Change<'a>) -> Parts<'a>
             }
             Change::NumberSet { tenant, number } => (Kind::NumberSet, tenant, b"", number, b""),
             Change::BlobStored { digest, bytes } => (Kind::BlobStored, b"", digest, 0, bytes),
+            Change::RepoRemoved { repo } => (Kind::RepoRemoved, repo, b"", 0, b""),
         };
     Parts {
         kind,
@@ -106,6 +107,7 @@ pub fn change_of<'a>(parts: &Parts<'a>) -> Change<'a>
             digest,
             bytes: body,
         },
+        Kind::RepoRemoved => Change::RepoRemoved { repo: name },
     }
 }
 

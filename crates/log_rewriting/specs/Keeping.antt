@@ -8,7 +8,7 @@ use Rattle.std.specs.BTreeSet as tree_set
 use Rattle.std.specs.Cmp.Lexicographic.{slice_cmp}
 use Rattle.std.specs.Ordering.{nat_cmp, ordering_then}
 use Rattle.blob_digest.specs.Names.{tenant_name}
-use Rattle.log_records.specs.Changes.{BlobLinked, BlobUnlinked, Change, ChunkReceived, ManifestDeleted, ManifestPut, SessionDropped, SessionOpened, SessionSealed, change_view}
+use Rattle.log_records.specs.Changes.{BlobLinked, BlobUnlinked, Change, ChunkReceived, ManifestDeleted, ManifestPut, RepoRemoved, SessionDropped, SessionOpened, SessionSealed, change_view}
 use Rattle.log_rewriting.specs.declared.blobs.Blob.{Blob}
 use Rattle.log_rewriting.specs.declared.filter.Filter.{Filter}
 use Rattle.log_rewriting.specs.declared.kept.Kept.{Kept}
@@ -110,4 +110,5 @@ kept_changes F (SessionSealed tenant number digest last) offset =
     (kept_link F (place_at F offset) digest)
 kept_changes F (BlobLinked repo digest) offset = kept_mount F (place_at F offset) repo digest
 kept_changes F (ManifestPut repo bytes) offset = kept_manifest (place_at F offset) repo bytes
+kept_changes F (RepoRemoved repo) offset = RepoRemoved repo ∷ []
 kept_changes F change offset = []

@@ -5,7 +5,7 @@ use crate::error::InventoryError;
 use crate::lengths::{digest_len, record_len};
 use blob_digest::Digest;
 use std::alloc::Global;
-use std::collections::BTreeMap;
+use std::collections::{BTreeMap, BTreeSet};
 
 /// An open session, or the one whose seal made a blob.
 #[derive(Clone, Copy, Debug, PartialEq, Eq)]
@@ -29,6 +29,28 @@ pub struct Link {
     pub len: u64,
 }
 
+/// The repository whose link to a blob the rewritten log has at the place of the last record.
+#[derive(Clone, Copy, Debug)]
+pub struct Anchor {
+    /// Number of the repository.
+    pub repo: usize,
+    /// The bytes of a record that makes or removes the link.
+    pub len: u64,
+}
+
+/// A link that is kept because the anchor of its blob was removed. The link need not exist at the end.
+#[derive(Clone, Copy, Debug)]
+pub struct Move {
+    /// Number of the repository, which is the next anchor.
+    pub repo: usize,
+    /// Offset of the record that made the link.
+    pub offset: u64,
+    /// The bytes of the records that make this link and remove that of the anchor before.
+    pub len: u64,
+    /// Whether the repository needs the record that made the link, because it was created by it and has lost the link.
+    pub creates: bool,
+}
+
 /// A blob that a tenant holds, since the seal of a session made it.
 #[derive(Drop)]
 pub struct Blob {
@@ -38,6 +60,10 @@ pub struct Blob {
     pub number: u64,
     /// The links of the tenant's repositories. There is at least one.
     pub links: BTreeMap<usize, Link>,
+    /// The repository of the session, or that of the last move.
+    pub anchor: Anchor,
+    /// The moves, in the order of their offsets.
+    pub moves: Vec<Move>,
 }
 
 /// A blob of a tenant: the tenant's number and the digest.
@@ -47,13 +73,15 @@ pub type BlobKey = (usize, Digest);
 #[derive(Drop)]
 pub struct Blobs {
     blobs: BTreeMap<BlobKey, Blob>,
+    /// For each repository the blobs whose anchor it is although it has lost the link.
+    left: BTreeMap<usize, BTreeSet<Digest>>,
     dropped: u64,
 }
 
 impl Blob {
-    /// Returns whether the repository of the session has lost its link.
+    /// Returns whether the anchor has lost its link.
     pub fn is_moved(&self) -> bool {
-        !self.links.contains_key(&self.session.repo)
+        !self.links.contains_key(&self.anchor.repo)
     }
 }
 
@@ -62,6 +90,7 @@ impl Blobs {
     pub fn new(alloc: Global) -> Blobs {
         Blobs {
             blobs: BTreeMap::new(alloc),
+            left: BTreeMap::new(alloc),
             dropped: 0,
         }
     }
@@ -78,7 +107,7 @@ impl Blobs {
         self.dropped = self.dropped.saturating_add(session.pair_len);
     }
 
-    /// Notes that a session of a tenant became a blob, by the record at an offset.
+    /// Notes that a session of a tenant became a blob, by the record at an offset. Returns whether the link is new.
     ///
     /// # Errors
     ///
@@ -90,7 +119,7 @@ impl Blobs {
         number: u64,
         session: Session,
         offset: u64,
-    ) -> Result<(), InventoryError> {
+    ) -> Result<bool, InventoryError> {
         let link = Link {
             offset,
             len: record_len(session.name_len, digest_len(&key.1), 0),
@@ -105,45 +134,108 @@ impl Blobs {
             session,
             number,
             links,
+            anchor: Anchor {
+                repo: session.repo,
+                len: link.len,
+            },
+            moves: Vec::new(alloc),
         };
         self.blobs.insert(key, blob)?;
-        Ok(())
+        Ok(true)
     }
 
-    /// Notes that a repository links a blob. A link that exists stays as it is.
+    /// Notes that a repository links a blob. A link that exists stays as it is. Returns whether the link is new.
     ///
     /// # Errors
     ///
     /// - `BlobUnknown`: the tenant does not hold the blob.
     /// - `Memory`: out of memory.
-    pub fn link(&mut self, key: BlobKey, repo: usize, link: Link) -> Result<(), InventoryError> {
+    pub fn link(&mut self, key: BlobKey, repo: usize, link: Link) -> Result<bool, InventoryError> {
         let Some(blob) = self.blobs.get_mut(&key) else {
             return Err(InventoryError::BlobUnknown);
         };
-        if !blob.links.contains_key(&repo) {
-            blob.links.insert(repo, link)?;
+        if blob.links.contains_key(&repo) {
+            return Ok(false);
         }
-        Ok(())
+        blob.links.insert(repo, link)?;
+        self.stays(repo, &key.1);
+        Ok(true)
     }
 
-    /// Notes that a repository's link to a blob was removed, and returns the link.
+    /// Notes that a repository's link to a blob was removed. Returns the link, and the blob if it was the last one.
     ///
     /// # Errors
     ///
     /// - `BlobUnknown`: there is no such link.
-    pub fn unlink(&mut self, key: BlobKey, repo: usize) -> Result<Link, InventoryError> {
+    /// - `Memory`: out of memory.
+    pub fn unlink(
+        &mut self,
+        alloc: Global,
+        key: BlobKey,
+        repo: usize,
+    ) -> Result<(Link, Option<Blob>), InventoryError> {
         let Some(blob) = self.blobs.get_mut(&key) else {
             return Err(InventoryError::BlobUnknown);
         };
         let Some(link) = blob.links.remove(&repo) else {
             return Err(InventoryError::BlobUnknown);
         };
-        if blob.links.is_empty() {
-            let session = blob.session;
-            self.blobs.remove(&key);
-            self.drop_session(&session);
+        let anchor = blob.anchor.repo;
+        if !blob.links.is_empty() {
+            if repo == anchor {
+                self.leaves(alloc, repo, key.1)?;
+            }
+            return Ok((link, None));
         }
-        Ok(link)
+        let session = blob.session;
+        self.stays(anchor, &key.1);
+        self.drop_session(&session);
+        Ok((link, self.blobs.remove(&key)))
+    }
+
+    /// Notes that the anchor of a blob has lost its link.
+    fn leaves(&mut self, alloc: Global, repo: usize, digest: Digest) -> Result<(), InventoryError> {
+        if let Some(left) = self.left.get_mut(&repo) {
+            left.insert(digest)?;
+            return Ok(());
+        }
+        let mut left = BTreeSet::new(alloc);
+        left.insert(digest)?;
+        self.left.insert(repo, left)?;
+        Ok(())
+    }
+
+    /// Notes that a repository links a blob again, or that the blob is gone.
+    fn stays(&mut self, repo: usize, digest: &Digest) {
+        if let Some(left) = self.left.get_mut(&repo) {
+            left.remove(digest);
+        }
+    }
+
+    /// Notes that a repository of a tenant was removed: the blobs whose anchor it is move to the first of their links.
+    ///
+    /// # Errors
+    ///
+    /// - `Memory`: out of memory.
+    pub fn move_from(&mut self, tenant: usize, repo: usize) -> Result<(), InventoryError> {
+        let Some(left) = self.left.remove(&repo) else {
+            return Ok(());
+        };
+        for digest in left.iter() {
+            if let Some(blob) = self.blobs.get_mut(&(tenant, *digest)) {
+                move_blob(blob, repo)?;
+            }
+        }
+        Ok(())
+    }
+
+    /// Notes that a repository was created by the record at an offset, which made a link to a blob that is removed now. Returns
+    /// whether the record is kept all the same, as a move of the blob.
+    pub fn keep_as_move(&mut self, key: &BlobKey, offset: u64) -> bool {
+        match self.blobs.get_mut(key) {
+            Some(blob) => mark_creating(blob.moves.as_mut_slice(), offset),
+            None => false,
+        }
     }
 
     /// Returns whether the tenants hold the same blobs, with the same links.
@@ -169,23 +261,77 @@ impl Blobs {
     /// Returns the bytes of the records that the rewritten log has for blobs, links, and sessions that are not kept.
     pub fn live(&self) -> u64 {
         let mut live = self.dropped;
-        for (key, blob) in self.blobs.iter() {
-            live = live.saturating_add(blob_live(blob, digest_len(&key.1)));
+        for blob in self.blobs.values() {
+            live = live.saturating_add(blob_live(blob));
         }
         live
     }
 }
 
 /// Returns the bytes of the records that the rewritten log has for a blob and its links.
-fn blob_live(blob: &Blob, digest_len: usize) -> u64 {
+fn blob_live(blob: &Blob) -> u64 {
     let mut live = blob.session.bytes;
     for (repo, link) in blob.links.iter() {
-        if *repo != blob.session.repo {
+        if *repo != blob.anchor.repo {
             live = live.saturating_add(link.len);
         }
     }
     if blob.is_moved() {
-        live = live.saturating_add(record_len(blob.session.name_len, digest_len, 0));
+        live = live.saturating_add(blob.anchor.len);
+    }
+    live.saturating_add(moves_live(blob.moves.as_slice()))
+}
+
+/// Returns the bytes of the records that the rewritten log has for moves.
+fn moves_live(moves: &[Move]) -> u64 {
+    let mut live: u64 = 0;
+    for step in moves.iter() {
+        live = live.saturating_add(step.len);
     }
     live
+}
+
+/// Moves a blob from its anchor, which has lost the link and is removed, to the first link.
+fn move_blob(blob: &mut Blob, from: usize) -> Result<(), InventoryError> {
+    if blob.anchor.repo != from || !blob.is_moved() {
+        return Ok(());
+    }
+    let Some((repo, link)) = first_link(&blob.links) else {
+        return Ok(());
+    };
+    let step = Move {
+        repo,
+        offset: link.offset,
+        len: link.len.saturating_add(blob.anchor.len),
+        creates: false,
+    };
+    blob.moves.push(step)?;
+    blob.anchor = Anchor {
+        repo,
+        len: link.len,
+    };
+    Ok(())
+}
+
+/// Marks the move at an offset as one that creates its repository. Returns whether there is one.
+fn mark_creating(moves: &mut [Move], offset: u64) -> bool {
+    for step in moves.iter_mut() {
+        if step.offset == offset {
+            step.creates = true;
+            return true;
+        }
+    }
+    false
+}
+
+/// Returns the link that was made first, with its repository.
+pub fn first_link(links: &BTreeMap<usize, Link>) -> Option<(usize, Link)> {
+    let mut first: Option<(usize, Link)> = None;
+    for (repo, link) in links.iter() {
+        first = match first {
+            Some((_, before)) if before.offset <= link.offset => first,
+            _ => Some((*repo, *link)),
+        };
+    }
+    first
 }

@@ -3,9 +3,9 @@ ghost use Rattle.std.specs.Prelude.{◌≡◌, OnOk, map};
 ghost use Rattle.std.specs.BTreeMap as tree;
 ghost use Rattle.log_rewriting.specs.Keeping.{HasSession, HasSessions, KeepsSessions, blob_session};
 
-use crate::blobs::{Blob, BlobKey, Link, Session};
+use crate::blobs::{Blob, BlobKey, Link, Move, Session, first_link};
 use crate::inventory::{SessionKey, Stored};
-use crate::names::{Repo, Tenant};
+use crate::names::{Names, Tenant};
 use crate::place::Place;
 use blob_digest::Digest;
 use std::alloc::{AllocError, Global};
@@ -48,15 +48,16 @@ pub fn add_held(
     Ok(())
 }
 
-/// Adds the places of links. The seal makes that of the session's repository.
+/// Adds the places of links. The seal, or a move, makes that of the blob's anchor.
 pub fn add_links(
     places: &mut BTreeMap<u64, Place>,
     blobs: &BTreeMap<BlobKey, Blob>,
 ) -> Result<(), AllocError> {
     for blob in blobs.values() {
-        add_links_of(places, &blob.links, blob.session.repo)?;
+        add_links_of(places, &blob.links, blob.anchor.repo)?;
+        add_moves(places, blob.moves.as_slice(), blob.session.repo)?;
         if blob.is_moved() {
-            add_move(places, &blob.links, blob.session.repo)?;
+            add_last_move(places, &blob.links, blob.anchor.repo)?;
         }
     }
     Ok(())
@@ -66,10 +67,10 @@ pub fn add_links(
 fn add_links_of(
     places: &mut BTreeMap<u64, Place>,
     links: &BTreeMap<usize, Link>,
-    sealed_in: usize,
+    anchor: usize,
 ) -> Result<(), AllocError> {
     for (repo, link) in links.iter() {
-        if *repo != sealed_in {
+        if *repo != anchor {
             let place = Place::Link {
                 repo: *repo,
                 unlinked: None,
@@ -80,32 +81,38 @@ fn add_links_of(
     Ok(())
 }
 
-/// Removes the link of the session's repository after the first of the links.
-fn add_move(
+/// Adds the places of a blob's moves. Each removes the link of the repository from which the blob moved.
+fn add_moves(
     places: &mut BTreeMap<u64, Place>,
-    links: &BTreeMap<usize, Link>,
+    moves: &[Move],
     sealed_in: usize,
 ) -> Result<(), AllocError> {
-    if let Some((repo, offset)) = first_link(links) {
+    let mut from = sealed_in;
+    for step in moves.iter() {
         let place = Place::Link {
-            repo,
-            unlinked: Some(sealed_in),
+            repo: step.repo,
+            unlinked: Some(from),
         };
-        places.insert(offset, place)?;
+        places.insert(step.offset, place)?;
+        from = step.repo;
     }
     Ok(())
 }
 
-/// Returns the link that was made first, as its repository and its offset.
-fn first_link(links: &BTreeMap<usize, Link>) -> Option<(usize, u64)> {
-    let mut first: Option<(usize, u64)> = None;
-    for (repo, link) in links.iter() {
-        first = match first {
-            Some((_, offset)) if offset <= link.offset => first,
-            _ => Some((*repo, link.offset)),
+/// Removes the link of the blob's anchor after the first of the links.
+fn add_last_move(
+    places: &mut BTreeMap<u64, Place>,
+    links: &BTreeMap<usize, Link>,
+    anchor: usize,
+) -> Result<(), AllocError> {
+    if let Some((repo, link)) = first_link(links) {
+        let place = Place::Link {
+            repo,
+            unlinked: Some(anchor),
         };
+        places.insert(link.offset, place)?;
     }
-    first
+    Ok(())
 }
 
 /// Adds the places of manifests.
@@ -120,29 +127,31 @@ pub fn add_manifests(
 }
 
 /// Adds the places of repositories whose first record is not kept.
-pub fn add_repos(
-    places: &mut BTreeMap<u64, Place>,
-    repos: &BTreeMap<Vec<u8>, Repo>,
-) -> Result<(), AllocError> {
-    for repo in repos.values() {
-        if !repo.is_made {
+pub fn add_repos(places: &mut BTreeMap<u64, Place>, names: &Names) -> Result<(), AllocError> {
+    for repo in names.repos().iter() {
+        if repo.exists && !repo.is_made {
             places.insert(repo.offset, Place::Repo)?;
         }
     }
     Ok(())
 }
 
+/// Adds the places of removed repositories whose first record is not kept.
+pub fn add_bare(places: &mut BTreeMap<u64, Place>, names: &Names) -> Result<(), AllocError> {
+    for offset in names.bare().iter() {
+        places.insert(*offset, Place::Repo)?;
+    }
+    Ok(())
+}
+
 /// Returns the names of repositories, by their numbers.
-pub fn names_of(
-    alloc: Global,
-    repos: &BTreeMap<Vec<u8>, Repo>,
-) -> Result<Vec<Vec<u8>>, AllocError> {
-    let mut names = Vec::with_capacity(alloc, repos.len())?;
-    for _ in 0..repos.len() {
+pub fn names_of(alloc: Global, ids: &BTreeMap<Vec<u8>, usize>) -> Result<Vec<Vec<u8>>, AllocError> {
+    let mut names = Vec::with_capacity(alloc, ids.len())?;
+    for _ in 0..ids.len() {
         names.push(Vec::new(alloc))?;
     }
-    for (name, repo) in repos.iter() {
-        if let Some(place) = names.get_mut(repo.id) {
+    for (name, id) in ids.iter() {
+        if let Some(place) = names.get_mut(*id) {
             *place = name.clone()?;
         }
     }

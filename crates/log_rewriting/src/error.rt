@@ -25,6 +25,10 @@ pub enum InventoryError {
     BlobUnknown,
     /// The repository has no such manifest.
     ManifestUnknown,
+    /// A repository that is removed does not exist.
+    RepoUnknown,
+    /// A repository that is removed has a link, a manifest or a session.
+    RepoInUse,
     /// The kind of the record does not occur in the log of a store.
     KindUnexpected,
 }
@@ -39,6 +43,8 @@ impl fmt::Display for InventoryError {
             InventoryError::SessionUnknown => "a session is not open",
             InventoryError::BlobUnknown => "a blob is not linked",
             InventoryError::ManifestUnknown => "a manifest does not exist",
+            InventoryError::RepoUnknown => "a repository does not exist",
+            InventoryError::RepoInUse => "a repository is in use",
             InventoryError::KindUnexpected => "a record is of an unexpected kind",
         })
     }

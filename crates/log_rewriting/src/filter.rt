@@ -33,10 +33,13 @@ impl Filter {
     /// | a chunk or a seal of a kept session | the same |
     /// | a seal of another, a link | the link, if this record made it and it exists at the end |
     /// | a manifest is put | the same, if this record put it and it exists at the end |
+    /// | a repository is removed | the same |
     /// | any other | nothing |
     ///
     /// - A session is kept if it is open at the end, or if its seal made a blob that the tenant holds from then to the end.
     /// - The repository of that session may not link the blob at the end. Then its link is removed after the first other link.
+    /// - If the repository of that session is removed before, the link is removed after the first link that exists at that time.
+    ///   This link is kept until another one takes its place in the same way.
     /// - A repository whose first record is not kept gets an empty image index, which is deleted at once.
     ///
     /// # Cost
@@ -79,6 +82,7 @@ impl Filter {
                 Some(Place::Repo) => empty_repo(repo),
                 _ => Kept::Nothing,
             },
+            Change::RepoRemoved { .. } => Kept::One(*change),
             _ => Kept::Nothing,
         }
     }

@@ -7,11 +7,10 @@ ghost use Rattle.log_rewriting.specs.Keeping.{KeepsEach};
 ghost use Rattle.log_rewriting.specs.Refused.{HasInvalidDigest, IsForeign};
 ghost use Rattle.log_rewriting.specs.declared.error.InventoryError.TheVariants.{DigestInvalid, KindUnexpected};
 
-use crate::blobs::{BlobKey, Blobs, Link, Session};
+use crate::blobs::{Blob, BlobKey, Blobs, Link, Session};
 use crate::collect::{
-    add_held, add_links, add_manifests, add_open, add_repos, names_of, numbers_of,
+    add_bare, add_held, add_links, add_manifests, add_open, add_repos, names_of, numbers_of,
 };
-use crate::empty_index::{EMPTY_INDEX, EMPTY_INDEX_DIGEST};
 use crate::error::InventoryError;
 use crate::filter::Filter;
 use crate::lengths::{change_len, digest_len, record_len};
@@ -39,8 +38,8 @@ pub struct Stored {
 ///
 /// # Memory
 ///
-/// The inventory grows with the repositories, links, manifests and open sessions that exist at a time, and not with the length
-/// of the log.
+/// The inventory grows with the links, manifests and open sessions that exist at a time, and with the names of repositories and
+/// the removals of repositories in the log. It does not grow with its length otherwise.
 #[derive(Drop)]
 pub struct Inventory {
     alloc: Global,
@@ -86,11 +85,13 @@ impl Inventory {
     /// - `SessionUnknown`: a chunk, a seal or an end of a session that is not open.
     /// - `BlobUnknown`: a link to a blob that the tenant does not hold, or the end of a link that does not exist.
     /// - `ManifestUnknown`: the end of a manifest that does not exist.
+    /// - `RepoUnknown`, `RepoInUse`: the end of a repository that does not exist, or that has a link, a manifest or a session.
     /// - `Memory`: out of memory.
     ///
     /// # Cost
     ///
-    /// Some look-ups, each logarithmic. A manifest is hashed. Memory is allocated for what is new, and for nothing else.
+    /// Some look-ups, each logarithmic. A manifest is hashed. The end of a repository visits the blobs that were uploaded to it, and
+    /// whose links it has lost. Memory is allocated for what is new, and for nothing else.
     pub fn note(&mut self, change: &Change<'_>, offset: u64) -> Result<(), InventoryError>
         ensures kinds { IsForeign (change_view change.now) → result ≡ Err KindUnexpected }
         ensures digests { HasInvalidDigest (change_view change.now) → result ≡ Err DigestInvalid }
@@ -111,6 +112,7 @@ impl Inventory {
             Change::BlobUnlinked { repo, digest } => self.note_unlinked(repo, digest),
             Change::ManifestPut { repo, bytes } => self.note_put(repo, bytes, offset, len),
             Change::ManifestDeleted { repo, digest } => self.note_deleted(repo, digest),
+            Change::RepoRemoved { repo } => self.note_removed(repo),
             Change::RepoAdded { .. } | Change::NumberSet { .. } | Change::BlobStored { .. } => {
                 Err(InventoryError::KindUnexpected)
             }
@@ -132,7 +134,7 @@ impl Inventory {
             .live()
             .saturating_add(sessions_live(&self.sessions))
             .saturating_add(manifests_live(&self.manifests))
-            .saturating_add(repos_live(&self.names))
+            .saturating_add(self.names.live())
     }
 
     /// Returns the filter for the second pass.
@@ -152,7 +154,7 @@ impl Inventory {
         add_open(&mut sessions, &self.sessions)?;
         add_held(&mut sessions, self.blobs.map())?;
         Ok(Filter {
-            names: names_of(self.alloc, self.names.repos())?,
+            names: names_of(self.alloc, self.names.ids())?,
             tenants: numbers_of(self.alloc, self.names.tenants())?,
             sessions,
             places: self.places()?,
@@ -164,7 +166,8 @@ impl Inventory {
         let mut places = BTreeMap::new(self.alloc);
         add_links(&mut places, self.blobs.map())?;
         add_manifests(&mut places, &self.manifests)?;
-        add_repos(&mut places, self.names.repos())?;
+        add_repos(&mut places, &self.names)?;
+        add_bare(&mut places, &self.names)?;
         Ok(places)
     }
 
@@ -203,6 +206,7 @@ impl Inventory {
             pair_len: repo.pair_len,
         };
         self.sessions.insert((repo.tenant, number), session)?;
+        self.names.use_repo(repo.id);
         Ok(())
     }
 
@@ -221,7 +225,10 @@ impl Inventory {
     ) -> Result<(usize, Session), InventoryError> {
         let tenant = self.known_tenant(tenant)?.id;
         match self.sessions.remove(&(tenant, number)) {
-            Some(session) => Ok((tenant, session)),
+            Some(session) => {
+                self.names.free_repo(session.repo);
+                Ok((tenant, session))
+            }
             None => Err(InventoryError::SessionUnknown),
         }
     }
@@ -252,8 +259,14 @@ impl Inventory {
         let digest = parse(digest)?;
         let (tenant, mut session) = self.close_session(tenant, number)?;
         session.bytes = session.bytes.saturating_add(len);
-        self.blobs
-            .seal(self.alloc, (tenant, digest), number, session, offset)
+        let repo = session.repo;
+        if self
+            .blobs
+            .seal(self.alloc, (tenant, digest), number, session, offset)?
+        {
+            self.names.use_repo(repo);
+        }
+        Ok(())
     }
 
     /// Notes a session that was abandoned.
@@ -276,7 +289,10 @@ impl Inventory {
         let digest = parse(digest)?;
         let repo = self.names.appear(self.alloc, name, offset)?;
         let link = Link { offset, len };
-        self.blobs.link((repo.tenant, digest), repo.id, link)
+        if self.blobs.link((repo.tenant, digest), repo.id, link)? {
+            self.names.use_repo(repo.id);
+        }
+        Ok(())
     }
 
     /// Notes the end of a link.
@@ -287,11 +303,32 @@ impl Inventory {
         let Some(repo) = self.names.repo(name) else {
             return Err(InventoryError::BlobUnknown);
         };
-        let link = self.blobs.unlink((repo.tenant, digest), repo.id)?;
-        if link.offset == repo.offset {
-            self.names.unmake(name);
+        let key = (repo.tenant, digest);
+        let (link, dropped) = self.blobs.unlink(self.alloc, key, repo.id)?;
+        self.names.free_repo(repo.id);
+        if let Some(blob) = dropped {
+            self.drop_moves(&blob)?;
+        }
+        if link.offset == repo.offset && !self.blobs.keep_as_move(&key, link.offset) {
+            self.names.unmake(repo.id, link.offset)?;
         }
         Ok(())
+    }
+
+    /// Notes that a blob is gone, so that its moves are not kept.
+    fn drop_moves(&mut self, blob: &Blob) -> Result<(), InventoryError> {
+        for step in blob.moves.iter() {
+            if step.creates {
+                self.names.unmake(step.repo, step.offset)?;
+            }
+        }
+        Ok(())
+    }
+
+    /// Notes the end of a repository.
+    fn note_removed(&mut self, name: &[u8]) -> Result<(), InventoryError> {
+        let repo = self.names.remove(name)?;
+        self.blobs.move_from(repo.tenant, repo.id)
     }
 
     /// Notes a manifest that was put.
@@ -308,6 +345,7 @@ impl Inventory {
             return Ok(());
         }
         self.manifests.insert(key, Stored { offset, len })?;
+        self.names.use_repo(repo.id);
         Ok(())
     }
 
@@ -322,8 +360,9 @@ impl Inventory {
         let Some(stored) = self.manifests.remove(&(repo.id, digest)) else {
             return Err(InventoryError::ManifestUnknown);
         };
+        self.names.free_repo(repo.id);
         if stored.offset == repo.offset {
-            self.names.unmake(name);
+            self.names.unmake(repo.id, stored.offset)?;
         }
         Ok(())
     }
@@ -343,19 +382,6 @@ fn manifests_live(manifests: &BTreeMap<(usize, Digest), Stored>) -> u64 {
     let mut live: u64 = 0;
     for stored in manifests.values() {
         live = live.saturating_add(stored.len);
-    }
-    live
-}
-
-/// Returns the bytes of the records that create repositories whose first record is not kept.
-fn repos_live(names: &Names) -> u64 {
-    let mut live: u64 = 0;
-    for (name, repo) in names.repos().iter() {
-        if !repo.is_made {
-            live = live
-                .saturating_add(record_len(name.len(), 0, EMPTY_INDEX.len()))
-                .saturating_add(record_len(name.len(), EMPTY_INDEX_DIGEST.len(), 0));
-        }
     }
     live
 }

@@ -33,6 +33,7 @@ pub fn change_len(change: &Change<'_>) -> u64 {
         Change::ManifestDeleted { repo, digest } => record_len(repo.len(), digest.len(), 0),
         Change::NumberSet { tenant, .. } => record_len(tenant.len(), 0, 0),
         Change::BlobStored { digest, bytes } => record_len(0, digest.len(), bytes.len()),
+        Change::RepoRemoved { repo } => record_len(repo.len(), 0, 0),
     }
 }
 

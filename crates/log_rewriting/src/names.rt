@@ -2,6 +2,7 @@
 ghost use Rattle.std.specs.Prelude.{◌≡◌, ◌==◌, position};
 ghost use Rattle.blob_digest.specs.Names.{tenant_name};
 
+use crate::empty_index::{EMPTY_INDEX, EMPTY_INDEX_DIGEST};
 use crate::error::InventoryError;
 use crate::lengths::record_len;
 use blob_digest::{Refusal, RepoName};
@@ -17,17 +18,23 @@ pub struct Tenant {
     pub next: u64,
 }
 
-/// What an inventory knows of a repository.
+/// What an inventory knows of a repository. A repository that was removed is kept, because its name may come back.
 #[derive(Clone, Copy, Debug)]
 pub struct Repo {
-    /// Number of the repository, in the order of appearance.
+    /// Number of the repository, in the order in which the names appeared first.
     pub id: usize,
     /// Number of its tenant.
     pub tenant: usize,
-    /// Offset of the record that created the repository.
+    /// Whether the repository exists.
+    pub exists: bool,
+    /// The number of its links, manifests and open sessions.
+    pub uses: u64,
+    /// Offset of the record that created the repository last.
     pub offset: u64,
-    /// Whether that record opened a session, or made a link or a manifest that still exists.
+    /// Whether that record opened a session, or made a link or a manifest that is kept.
     pub is_made: bool,
+    /// The length of the repository's name, in bytes.
+    pub name_len: usize,
     /// The bytes of two records: a session of the repository is opened, and it is abandoned.
     pub pair_len: u64,
 }
@@ -35,8 +42,13 @@ pub struct Repo {
 /// The repositories and tenants of a log.
 #[derive(Drop)]
 pub struct Names {
-    repos: BTreeMap<Vec<u8>, Repo>,
+    ids: BTreeMap<Vec<u8>, usize>,
+    repos: Vec<Repo>,
     tenants: BTreeMap<Vec<u8>, Tenant>,
+    /// Offsets of the records that created repositories which were removed later, if nothing of the record is kept.
+    bare: Vec<u64>,
+    /// The bytes of the records that the rewritten log has for removals, and for the repositories at these offsets.
+    removed: u64,
 }
 
 /// Parses the name of a repository.
@@ -48,18 +60,35 @@ fn parse(alloc: Global, name: &[u8]) -> Result<RepoName, InventoryError> {
     }
 }
 
+/// Returns the bytes of the records that create a repository without content.
+fn bare_len(name: usize) -> u64 {
+    record_len(name, 0, EMPTY_INDEX.len()).saturating_add(record_len(
+        name,
+        EMPTY_INDEX_DIGEST.len(),
+        0,
+    ))
+}
+
 impl Names {
     /// Returns no names. Allocates nothing.
     pub fn new(alloc: Global) -> Names {
         Names {
-            repos: BTreeMap::new(alloc),
+            ids: BTreeMap::new(alloc),
+            repos: Vec::new(alloc),
             tenants: BTreeMap::new(alloc),
+            bare: Vec::new(alloc),
+            removed: 0,
         }
     }
 
-    /// Returns the repositories with their names.
-    pub fn repos(&self) -> &BTreeMap<Vec<u8>, Repo> {
-        &self.repos
+    /// Returns the numbers of the repositories, also of removed ones, with their names.
+    pub fn ids(&self) -> &BTreeMap<Vec<u8>, usize> {
+        &self.ids
+    }
+
+    /// Returns the repositories, also removed ones, by their numbers.
+    pub fn repos(&self) -> &[Repo] {
+        self.repos.as_slice()
     }
 
     /// Returns the tenants with their names.
@@ -67,12 +96,26 @@ impl Names {
         &self.tenants
     }
 
-    /// Returns a repository, or `None` if it does not exist.
-    pub fn repo(&self, name: &[u8]) -> Option<Repo> {
-        self.repos.get(name).copied()
+    /// Returns the offsets of the records that created removed repositories, if nothing of the record is kept.
+    pub fn bare(&self) -> &[u64] {
+        self.bare.as_slice()
     }
 
-    /// Returns a tenant, or `None` if no repository of it exists.
+    /// Returns a repository of this name, also a removed one.
+    fn named(&self, name: &[u8]) -> Option<Repo> {
+        let id = self.ids.get(name).copied()?;
+        self.repos.get(id).copied()
+    }
+
+    /// Returns a repository, or `None` if it does not exist.
+    pub fn repo(&self, name: &[u8]) -> Option<Repo> {
+        match self.named(name) {
+            Some(repo) if repo.exists => Some(repo),
+            _ => None,
+        }
+    }
+
+    /// Returns a tenant, or `None` if no repository of it has appeared.
     pub fn tenant(&self, name: &[u8]) -> Option<Tenant> {
         self.tenants.get(name).copied()
     }
@@ -89,19 +132,43 @@ impl Names {
         name: &[u8],
         offset: u64,
     ) -> Result<Repo, InventoryError> {
-        if let Some(repo) = self.repo(name) {
-            return Ok(repo);
+        match self.named(name) {
+            Some(repo) if repo.exists => Ok(repo),
+            Some(repo) => Ok(self.come_back(repo, offset)),
+            None => self.add(alloc, name, offset),
         }
+    }
+
+    /// Creates a repository again that was removed.
+    fn come_back(&mut self, repo: Repo, offset: u64) -> Repo {
+        let repo = Repo {
+            exists: true,
+            offset,
+            is_made: true,
+            ..repo
+        };
+        if let Some(place) = self.repos.get_mut(repo.id) {
+            *place = repo;
+        }
+        repo
+    }
+
+    /// Creates a repository whose name is new.
+    fn add(&mut self, alloc: Global, name: &[u8], offset: u64) -> Result<Repo, InventoryError> {
         let parsed = parse(alloc, name)?;
         let tenant = parsed.tenant().as_bytes();
         let repo = Repo {
             id: self.repos.len(),
             tenant: self.tenant_appears(alloc, tenant)?,
+            exists: true,
+            uses: 0,
             offset,
             is_made: true,
+            name_len: name.len(),
             pair_len: record_len(name.len(), 0, 0).saturating_add(record_len(tenant.len(), 0, 0)),
         };
-        self.repos.insert(Vec::from_slice(alloc, name)?, repo)?;
+        self.repos.push(repo)?;
+        self.ids.insert(Vec::from_slice(alloc, name)?, repo.id)?;
         Ok(repo)
     }
 
@@ -135,25 +202,92 @@ impl Names {
         Ok(())
     }
 
-    /// Notes that the link or the manifest is gone whose record created a repository.
-    pub fn unmake(&mut self, name: &[u8]) {
-        if let Some(repo) = self.repos.get_mut(name) {
-            repo.is_made = false;
+    /// Notes one more link, manifest or session of a repository.
+    pub fn use_repo(&mut self, id: usize) {
+        if let Some(repo) = self.repos.get_mut(id) {
+            repo.uses = repo.uses.saturating_add(1);
         }
     }
 
-    /// Returns whether the repositories and the tenants are the same, in the same order of appearance, with the same numbers.
-    pub fn is_same(&self, other: &Names) -> bool {
-        self.tenants == other.tenants
-            && self.repos.len() == other.repos.len()
-            && self.repos.iter().all(|(name, repo)| other.has(name, repo))
+    /// Notes the end of a link, a manifest or a session of a repository.
+    pub fn free_repo(&mut self, id: usize) {
+        if let Some(repo) = self.repos.get_mut(id) {
+            repo.uses = repo.uses.saturating_sub(1);
+        }
     }
 
-    /// Returns whether a repository of this name, number and tenant exists.
-    fn has(&self, name: &Vec<u8>, repo: &Repo) -> bool {
-        match self.repos.get(name) {
-            Some(found) => found.id == repo.id && found.tenant == repo.tenant,
-            None => false,
+    /// Notes that the link or the manifest is not kept whose record, at this offset, created a repository.
+    ///
+    /// # Errors
+    ///
+    /// - `Memory`: out of memory.
+    pub fn unmake(&mut self, id: usize, offset: u64) -> Result<(), InventoryError> {
+        let Some(repo) = self.repos.get_mut(id) else {
+            return Ok(());
+        };
+        if repo.exists && repo.offset == offset {
+            repo.is_made = false;
+            return Ok(());
+        }
+        self.bare.push(offset)?;
+        self.removed = self.removed.saturating_add(bare_len(repo.name_len));
+        Ok(())
+    }
+
+    /// Removes a repository that is not in use, and returns it.
+    ///
+    /// # Errors
+    ///
+    /// - `RepoUnknown`: there is no such repository.
+    /// - `RepoInUse`: it has a link, a manifest or a session.
+    /// - `Memory`: out of memory.
+    pub fn remove(&mut self, name: &[u8]) -> Result<Repo, InventoryError> {
+        let Some(repo) = self.repo(name) else {
+            return Err(InventoryError::RepoUnknown);
+        };
+        if repo.uses > 0 {
+            return Err(InventoryError::RepoInUse);
+        }
+        if let Some(place) = self.repos.get_mut(repo.id) {
+            place.exists = false;
+        }
+        self.removed = self.removed.saturating_add(record_len(repo.name_len, 0, 0));
+        if !repo.is_made {
+            self.unmake(repo.id, repo.offset)?;
+        }
+        Ok(repo)
+    }
+
+    /// Returns the bytes of the records that the rewritten log has for removals, and for repositories of whose first record
+    /// nothing else is kept.
+    pub fn live(&self) -> u64 {
+        let mut live = self.removed;
+        for repo in self.repos.iter() {
+            if repo.exists && !repo.is_made {
+                live = live.saturating_add(bare_len(repo.name_len));
+            }
+        }
+        live
+    }
+
+    /// Returns whether the same repositories exist, in the same order of appearance, and the tenants have the same numbers.
+    pub fn is_same(&self, other: &Names) -> bool {
+        self.is_within(other) && other.is_within(self)
+    }
+
+    /// Returns whether each repository that exists, and each tenant that had a session, is also in the other names.
+    fn is_within(&self, other: &Names) -> bool {
+        self.tenants.iter().all(|(name, tenant)| tenant.next == 1
+            || other.tenant(name.as_slice()) == Some(*tenant))
+            && self.ids.keys().all(|name| other.has(name.as_slice(), self.repo(name.as_slice())))
+    }
+
+    /// Returns whether a repository, if there is one, exists with this name, number and tenant.
+    fn has(&self, name: &[u8], repo: Option<Repo>) -> bool {
+        match (repo, self.repo(name)) {
+            (None, _) => true,
+            (Some(repo), Some(found)) => found.id == repo.id && found.tenant == repo.tenant,
+            (Some(_), None) => false,
         }
     }
 }

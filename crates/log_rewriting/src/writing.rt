@@ -58,6 +58,7 @@ fn fits(change: &Change<'_>) -> bool
         Change::ManifestDeleted { repo, digest } => fit(repo.len(), digest.len(), 0, 0),
         Change::NumberSet { tenant, number } => fit(tenant.len(), 0, number, 0),
         Change::BlobStored { digest, bytes } => fit(0, digest.len(), 0, bytes.len()),
+        Change::RepoRemoved { repo } => fit(repo.len(), 0, 0, 0),
     }
 }
 
