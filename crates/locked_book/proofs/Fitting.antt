@@ -33,7 +33,7 @@ use Rattle.spec_lib.proofs.Outcomes.{bound_ok, not_refused, some_of_ok}
 use Rattle.store_model.specs.Catalog.{Catalog, CheckedOutWith, Chunks, HandRecord, Session, SessionNumber, Tenant, charged_length, holds, next_number_of, open_sessions, tenant_of}
 use Rattle.store_model.specs.Commands as commands
 use Rattle.store_model.specs.Commands.{Outcome}
-use Rattle.store_model.specs.Durable.{Agrees, AreReturnedAsTaken, BlobLinked, BlobStored, BlobUnlinked, Change, ChunkReceived, DurableState, ManifestDeleted, ManifestPut, NumberSet, RepoAdded, SessionDropped, SessionOpened, SessionSealed, TakenChunks, change_of, changes_of, chunk_change, command_change, filled_chunk, mount_change, session_key, taken_after_step}
+use Rattle.store_model.specs.Durable.{Agrees, AreReturnedAsTaken, BlobLinked, BlobStored, BlobUnlinked, Change, ChunkReceived, DurableState, ManifestDeleted, ManifestPut, NumberSet, RepoAdded, RepoRemoved, SessionDropped, SessionOpened, SessionSealed, TakenChunks, change_of, changes_of, chunk_change, command_change, filled_chunk, mount_change, session_key, taken_after_step}
 use Rattle.store_model.specs.Histories.{AreSteps, CommandCall, FinishCall, MayLeadTo, PutBackCall, State, Step, SweepCall, TakeCall, initial_state}
 use Rattle.store_model.specs.Invariant.{Sound, WellFormed}
 use Rattle.store_model.specs.Recovery.{FillsReserve, IsWellFormedStep}
@@ -130,6 +130,7 @@ described tenants (logged.BlobUnlinked repo digest) = BlobUnlinked repo digest
 described tenants (logged.ManifestPut repo bytes) = ManifestPut repo bytes
 described tenants (logged.ManifestDeleted repo digest) = ManifestDeleted repo digest
 described tenants (logged.RepoAdded repo) = RepoAdded repo
+described tenants (logged.RepoRemoved repo) = RepoRemoved repo
 described tenants (logged.NumberSet tenant n) = NumberSet (place tenants tenant) n
 described tenants (logged.BlobStored digest bytes) = BlobStored digest bytes
 
@@ -146,6 +147,7 @@ described_is tenants (BlobUnlinked repo digest) keyed = refl
 described_is tenants (ManifestPut repo bytes) keyed = refl
 described_is tenants (ManifestDeleted repo digest) keyed = refl
 described_is tenants (RepoAdded repo) keyed = refl
+described_is tenants (RepoRemoved repo) keyed = refl
 described_is tenants (NumberSet t n) keyed = ap (λ m. NumberSet m n) (place_owned tenants (t, n) keyed)
 described_is tenants (BlobStored digest bytes) keyed = refl
 
@@ -285,6 +287,7 @@ module _ (C : Catalog) (lawful : WellFormed C) where
       let t = bound_ok (commands.tenant C r) _ (h.0, X) h.1 in
       let there = bound_ok (commands.manifest C r m) _ (h.0, X) t.2 in
       (room kind.ManifestDeleted r m 0 [] short (manifest_short r m there.0 (some_of_ok (get C.manifests (r, m)) ManifestUnknown there.0 there.1)) (omega arith) (omega arith), tt)
+  command_fits (runs.RemoveRepo r) x X is short = (room kind.RepoRemoved r [] 0 [] short (omega arith) (omega arith) (omega arith), tt)
   command_fits (runs.Lease r d) x X is short = tt
 
   -- ---- checked-out sessions

@@ -78,6 +78,7 @@ unrecorded p tenants (call.PutManifest repo manifest result) u = absurd u
 unrecorded p tenants (call.RefuseManifest repo bytes e) u = nothing p tenants (CommandCall (PutManifest repo.now bytes.now) (Err e.now)) refl refl refl
 unrecorded p tenants (call.GetManifest repo digest result) u = reads p tenants (GetManifest repo.now digest.now) (λ m. Bytes (arc_value m)) result.now (λ a. refl) refl
 unrecorded p tenants (call.DeleteManifest repo digest result) u = absurd u
+unrecorded p tenants (call.RemoveRepo repo result) u = absurd u
 unrecorded p tenants (call.Lease repo digest result) u = reads p tenants (Lease repo.now digest.now) (λ r. Bytes (blob_bytes (arc_value r.1))) result.now (λ a. refl) refl
 unrecorded p tenants (call.Sweep swept) u = nothing p tenants (SweepCall swept.now) refl refl refl
 
@@ -95,6 +96,7 @@ small (call.PutManifest repo manifest result) s own = absurd s
 small (call.RefuseManifest repo bytes e) s own = (tt, refl)
 small (call.GetManifest repo digest result) s own = (tt, refl)
 small (call.DeleteManifest repo digest result) s own = (tt, refl)
+small (call.RemoveRepo repo result) s own = (tt, refl)
 small (call.Lease repo digest result) s own = (tt, refl)
 small (call.Sweep swept) s own = (tt, refl)
 

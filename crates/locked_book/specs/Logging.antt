@@ -7,9 +7,9 @@ use Rattle.log_records.specs.Changes as logged
 use Rattle.log_records.specs.Records.{record_bytes}
 use Rattle.spec_lib.specs.Texts.{Text}
 use Rattle.store_model.specs.Catalog.{HandRecord, Tenant}
-use Rattle.store_model.specs.Durable.{BlobLinked, BlobStored, BlobUnlinked, Change, ChunkReceived, ManifestDeleted, ManifestPut, NumberSet, RepoAdded, SessionDropped, SessionOpened, SessionSealed, change_of, session_key}
+use Rattle.store_model.specs.Durable.{BlobLinked, BlobStored, BlobUnlinked, Change, ChunkReceived, ManifestDeleted, ManifestPut, NumberSet, RepoAdded, RepoRemoved, SessionDropped, SessionOpened, SessionSealed, change_of, session_key}
 use Rattle.store_model.specs.Histories.{CommandCall, FinishCall, PutBackCall, Step}
-use Rattle.store_model.specs.Runs.{Abandon, Append, Close, Command, Delete, DeleteManifest, Mount as MountCommand, PutManifest, Start}
+use Rattle.store_model.specs.Runs.{Abandon, Append, Close, Command, Delete, DeleteManifest, Mount as MountCommand, PutManifest, RemoveRepo, Start}
 use Rattle.store_model.specs.declared.mount.Mount.{Mount}
 use Rattle.store_model.specs.declared.mount.Mount.TheVariants as mount
 use Rattle.locked_book.specs.declared.call.Call.{Call}
@@ -37,6 +37,7 @@ logged_change tenants (BlobLinked repo digest) = logged.BlobLinked repo digest
 logged_change tenants (BlobUnlinked repo digest) = logged.BlobUnlinked repo digest
 logged_change tenants (ManifestPut repo bytes) = logged.ManifestPut repo bytes
 logged_change tenants (ManifestDeleted repo digest) = logged.ManifestDeleted repo digest
+logged_change tenants (RepoRemoved repo) = logged.RepoRemoved repo
 logged_change tenants (RepoAdded repo) = logged.RepoAdded repo
 logged_change tenants (NumberSet t n) = logged.NumberSet (name_at tenants t) n
 logged_change tenants (BlobStored digest bytes) = logged.BlobStored digest bytes
@@ -70,6 +71,7 @@ is_changing (MountCommand r d from) = true
 is_changing (Delete r d) = true
 is_changing (PutManifest r b) = true
 is_changing (DeleteManifest r m) = true
+is_changing (RemoveRepo r) = true
 is_changing command = false
 
 -- whether a step changes something durable in another way than by a chunk

@@ -29,6 +29,7 @@ pub enum Call<'a> {
     RefuseManifest(&'a RepoName, &'a [u8], &'a Refusal),
     GetManifest(&'a RepoName, &'a Digest, &'a Result<Arc<Manifest, Global>, Refusal>),
     DeleteManifest(&'a RepoName, &'a Digest, &'a Result<(), Refusal>),
+    RemoveRepo(&'a RepoName, &'a Result<(), Refusal>),
     Lease(&'a RepoName, &'a Digest, &'a Result<(Pin, Arc<Blob, Global>), Refusal>),
     Sweep(&'a Swept),
 }
@@ -49,6 +50,7 @@ impl Call<'_> {
             | Call::RefuseManifest(repo, _, _)
             | Call::GetManifest(repo, _, _)
             | Call::DeleteManifest(repo, _, _)
+            | Call::RemoveRepo(repo, _)
             | Call::Lease(repo, _, _) => {
                 let _ = repo.text();
             }

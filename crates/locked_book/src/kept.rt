@@ -12,7 +12,7 @@ ghost use Rattle.store_model.specs.Invariant.{Sound};
 ghost use Rattle.store_book.specs.Pinned.{blob_bytes, blob_digest};
 ghost use Rattle.store_book.specs.SlotSteps.{HasLastGeneration, HasPin, MayPlace, IsLending, KeepsGeneration, IsUnchanged, SweepsSlot, ReadsWord};
 ghost use Rattle.store_model.specs.Histories.{FinishCall, PutBackCall};
-ghost use Rattle.store_model.specs.Runs.{Start, Status, Abandon, Mount as MountCommand, Delete, PutManifest, GetManifest, DeleteManifest, Lease, Number, Mounting, Bytes, Done};
+ghost use Rattle.store_model.specs.Runs.{Start, Status, Abandon, Mount as MountCommand, Delete, PutManifest, GetManifest, DeleteManifest, RemoveRepo, Lease, Number, Mounting, Bytes, Done};
 ghost use Rattle.locked_book.specs.Calls.{reply};
 ghost use Rattle.locked_book.specs.Performing.{ChecksIn, ChecksInUnchanged, ChecksOut, CountsStep, Finishes, IsCounted};
 ghost use Rattle.store_model.specs.Sweep.{IsSweep};
@@ -59,7 +59,7 @@ pub const LEDGER_PARTS: u64 = MAX_DESKS + 1;
 ///
 /// # Memory
 ///
-/// `status`, `abandon`, `delete`, `check_tenant`, `delete_manifest`, `sweep`, `verify`, `word`, `take`, `put_back` and
+/// `status`, `abandon`, `delete`, `check_tenant`, `delete_manifest`, `remove_repo`, `sweep`, `verify`, `word`, `take`, `put_back` and
 /// `cancel` never allocate, nor do the calls on desks and totals.
 #[derive(Drop)]
 pub struct Kept<S: Naming> {
@@ -272,6 +272,17 @@ impl<S: Naming> Kept<S> {
     {
         self.room(0)?;
         self.book.delete_manifest(repo, digest)?;
+        self.counters.add(desk, 0, 0, 0);
+        Ok(())
+    }
+
+    /// Removes a repository with `Book::remove_repo`, and counts the command.
+    pub fn remove_repo(&mut self, desk: &mut Tally<S>, repo: &RepoName) -> Result<(), Refusal>
+        ensures does { IsCounted (RemoveRepo repo.now) (reply (λ _. Done) result)
+            self.old self.new desk.old desk.new }
+    {
+        self.room(0)?;
+        self.book.remove_repo(repo)?;
         self.counters.add(desk, 0, 0, 0);
         Ok(())
     }

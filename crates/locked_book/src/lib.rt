@@ -18,6 +18,7 @@ mod desk;
 mod desks;
 mod droppable_desk;
 mod durable_state;
+mod hands;
 mod history;
 mod kept;
 pub mod laws;

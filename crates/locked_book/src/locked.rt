@@ -1,26 +1,23 @@
 //! The store's state under the lock: the book with its totals, and its history.
 
-ghost use Rattle.std.specs.Prelude.{◌≡◌, ◌≢◌, ◌⊎◌, ◌+◌, ◌<◌, None, IfErr, IfOk, OnOk, Err, [], length, sum_by};
+ghost use Rattle.std.specs.Prelude.{◌≡◌, ◌⊎◌, ◌<◌, IfErr, IfOk, OnOk, Err, [], length};
 ghost use Rattle.std.specs.Arc.{arc_value};
 ghost use Rattle.std.specs.Option.{option_copied};
 ghost use Rattle.blob_digest.specs.Digests.{sha256_text};
 ghost use Rattle.store_model.specs.Amounts.{zero_amounts};
-ghost use Rattle.store_model.specs.Hands.{filled_length};
-ghost use Rattle.store_model.specs.Histories.{SweepCall, PutBackCall, FinishCall};
-ghost use Rattle.store_model.specs.Runs.{Start, Status, Abandon, Mount as MountCommand, Delete, PutManifest, GetManifest, DeleteManifest, Lease, Number, Mounting, Bytes, Done};
-ghost use Rattle.store_model.specs.Lanes.{IsHeld};
-ghost use Rattle.store_model.specs.Sessions.{HasNoOpenReserve};
+ghost use Rattle.store_model.specs.Histories.{SweepCall};
+ghost use Rattle.store_model.specs.Runs.{Start, Status, Abandon, Mount as MountCommand, Delete, PutManifest, GetManifest, DeleteManifest, RemoveRepo, Lease, Number, Mounting, Bytes, Done};
 ghost use Rattle.store_model.specs.Sweep.{IsSweep};
 ghost use Rattle.store_book.specs.Pinned.{blob_bytes, blob_digest};
 ghost use Rattle.store_book.specs.SlotSteps.{HasPin, IsUnchanged, ReadsWord};
 ghost use Rattle.locked_book.specs.Calls.{reply};
 ghost use Rattle.locked_book.specs.Counting.{EachSlotOf, IsBalanced, KeepsCatalog, common_check};
 ghost use Rattle.locked_book.specs.Found.{IsBookOf, IsContentOf, IsSweepOf};
-ghost use Rattle.locked_book.specs.History.{IsUnread, KeepsAmounts, LogLeadsTo, Makes, MakesCheckOut, MakesFailedPut, OneBegins, SeeOneHistory, state_of};
-ghost use Rattle.locked_book.specs.Logging.{IsHandOf, bytes_if_ok, check_in_bytes, finish_bytes, manifest_bytes};
+ghost use Rattle.locked_book.specs.History.{IsUnread, KeepsAmounts, LogLeadsTo, Makes, MakesFailedPut, OneBegins, SeeOneHistory, state_of};
+ghost use Rattle.locked_book.specs.Logging.{bytes_if_ok, manifest_bytes};
 ghost use Rattle.locked_book.specs.Names.{BelongsTo, IsNewCatalog};
-ghost use Rattle.locked_book.specs.Performing.{ChecksIn, ChecksInUnchanged, ChecksOut, Finishes, Performs};
-ghost use Rattle.locked_book.specs.Results.{EndsWithRange, HashesTo, IsPinOf, PrintsBook};
+ghost use Rattle.locked_book.specs.Performing.{Performs};
+ghost use Rattle.locked_book.specs.Results.{HashesTo, IsPinOf, PrintsBook};
 
 use crate::call::Call;
 use crate::counters::Counters;
@@ -30,7 +27,7 @@ use crate::kept::Kept;
 use crate::names::{Naming, StoreLog};
 use crate::policy::LogPolicy;
 use crate::step::Step;
-use blob_digest::{Blob, ByteRange, Digest, Refusal, RepoName};
+use blob_digest::{Blob, Digest, Refusal, RepoName};
 use durable_log::Backlog;
 use oci_manifest::Manifest;
 use pin_table::{Pin, Pins};
@@ -40,7 +37,6 @@ use std::marker::Model;
 use std::snapshot::Snapshot;
 use std::sync::Arc;
 use store_book::{Book, Mount, Swept};
-use upload_table::Hand;
 
 /// The book with its totals, and its history.
 ///
@@ -74,7 +70,7 @@ impl<S: Naming> Model for LockedBook<S> {
 }
 
 /// Returns the record of a call that succeeded, or an empty one.
-fn kept_if_ok<A>(bytes: Vec<u8>, called: &Result<A, Refusal>) -> Vec<u8>
+pub(crate) fn kept_if_ok<A>(bytes: Vec<u8>, called: &Result<A, Refusal>) -> Vec<u8>
     ensures { result.items ≡ bytes_if_ok called.now bytes.items }
 {
     let mut bytes = bytes;
@@ -276,6 +272,18 @@ impl<S: Naming> LockedBook<S> {
         result
     }
 
+    /// Removes a repository with `Kept::remove_repo`.
+    pub fn remove_repo(&mut self, desk: &mut Desk<S>, repo: &RepoName) -> Result<(), Refusal>
+        ensures does { Performs S.names.opening (RemoveRepo repo.now)
+            (reply (λ _. Done) result)
+            self.old self.new desk.old desk.new }
+    {
+        let result = self.kept.remove_repo(&mut desk.tally, repo);
+        self.history
+            .add(&mut desk.writer, Call::RemoveRepo(repo, &result));
+        result
+    }
+
     /// Leases a blob of a repository with `Kept::lease`.
     pub fn lease(
         &mut self,
@@ -295,103 +303,6 @@ impl<S: Naming> LockedBook<S> {
         let result = self.kept.lease(pins, &mut desk.tally, repo, digest);
         self.history
             .add_unrecorded(&mut desk.writer, Call::Lease(repo, digest, &result));
-        result
-    }
-
-    /// Checks a session out with `Kept::take`. The command is counted at check-in.
-    pub fn take(
-        &mut self,
-        desk: &mut Desk<S>,
-        repo: &RepoName,
-        number: u32,
-        range: Option<ByteRange>,
-        len: u64,
-    ) -> Result<Hand, Refusal>
-        ensures does { ChecksOut repo.now number range len result self.old self.new }
-        ensures ends { IfOk result (λ h. EndsWithRange h len range) }
-        ensures names { IfOk result (λ h. IsHandOf S.names.setting.tenants repo.now number h) }
-        ensures makes { MakesCheckOut S.names repo.now number range len result desk.old desk.new }
-    {
-        self.kept.reveal_invariant();
-        let result = self.kept.take(repo, number, range, len);
-        self.history.add_unrecorded(
-            &mut desk.writer,
-            Call::Take(repo, number, range, len, &result),
-        );
-        result
-    }
-
-    /// Checks a session in with its new chunk by `Kept::put_back`.
-    pub fn put_back(
-        &mut self,
-        desk: &mut Desk<S>,
-        hand: Hand,
-        bytes: Vec<u8>,
-    ) -> Result<u64, Refusal>
-        requires bytes { bytes.items ≡ check_in_bytes S.names.policy S.names.setting.tenants hand }
-        requires filled { hand.last ≢ None }
-        requires held { IsHeld hand desk.old.trace.own }
-        ensures does { ChecksIn hand result self.old self.new }
-        ensures length { IfOk result (λ n. n ≡ sum_by length hand.chunks + filled_length hand) }
-        ensures makes { Makes S.names.opening (PutBackCall hand result) desk.old desk.new }
-    {
-        let _ = hand.reserved();
-        let given = Snapshot::of(&hand);
-        let result = self.kept.put_back(&mut desk.tally, hand);
-        let promised = self.history.policy().promises_chunks() && result.is_ok();
-        let bytes = kept_if_ok(bytes, &result);
-        self.history.add_recorded(
-            &mut desk.writer,
-            Call::PutBack(&given, &result),
-            bytes,
-            promised,
-        );
-        result
-    }
-
-    /// Checks a session in unchanged by `Kept::cancel`.
-    pub fn cancel(&mut self, desk: &mut Desk<S>, hand: Hand) -> Result<u64, Refusal>
-        requires unfilled { hand.last ≡ None }
-        requires held { IsHeld hand desk.old.trace.own }
-        ensures does { ChecksInUnchanged hand result self.old self.new }
-        ensures makes { Makes S.names.opening (PutBackCall hand result) desk.old desk.new }
-    {
-        let given = Snapshot::of(&hand);
-        let result = self.kept.cancel(hand);
-        self.history
-            .add_unrecorded(&mut desk.writer, Call::PutBack(&given, &result));
-        result
-    }
-
-    /// Closes a checked-out session with `Kept::finish`.
-    pub fn finish(
-        &mut self,
-        pins: &Pins,
-        desk: &mut Desk<S>,
-        hand: Hand,
-        digest: &Digest,
-        bytes: Vec<u8>,
-    ) -> Result<u64, Refusal>
-        requires bytes { bytes.items ≡ finish_bytes S.names.policy S.names.setting.tenants hand digest.now }
-        requires table { pins.now ≡ S.names.table }
-        requires full { HasNoOpenReserve hand }
-        requires held { IsHeld hand desk.old.trace.own }
-        ensures does { Finishes hand digest.now result self.old self.new }
-        ensures length { IfOk result (λ n. n ≡ sum_by length hand.chunks + filled_length hand) }
-        ensures makes { Makes S.names.opening (FinishCall hand digest.now result)
-            desk.old desk.new }
-    {
-        let _ = hand.reserved();
-        let given = Snapshot::of(&hand);
-        let result = self.kept.finish(pins, &mut desk.tally, hand, digest);
-        let promised = self.history.policy().promises_changes() && result.is_ok();
-        let bytes = kept_if_ok(bytes, &result);
-        self.history.add_recorded(
-            &mut desk.writer,
-            Call::Finish(&given, digest, &result),
-            bytes,
-            promised,
-        );
         result
     }
 

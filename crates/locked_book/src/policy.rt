@@ -54,6 +54,7 @@ pub fn is_change(call: &Call<'_>) -> bool
         Call::Delete(_, _, result) => result.is_ok(),
         Call::PutManifest(_, _, result) => result.is_ok(),
         Call::DeleteManifest(_, _, result) => result.is_ok(),
+        Call::RemoveRepo(_, result) => result.is_ok(),
         Call::Status(_, _, _)
         | Call::Take(_, _, _, _, _)
         | Call::PutBack(_, _)

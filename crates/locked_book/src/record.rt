@@ -141,6 +141,16 @@ fn append_deleted(
     append(out, &change)
 }
 
+/// Appends the record of a repository that was removed.
+fn append_removed(out: &mut Vec<u8>, repo: &RepoName) -> Result<(), Refusal>
+    ensures ok { OnOk result (out.new.items ≡ out.old.items ++ record_bytes (logged.RepoRemoved repo.now)) }
+{
+    let change = Change::RepoRemoved {
+        repo: repo.text().as_bytes(),
+    };
+    append(out, &change)
+}
+
 /// Appends the record of a call without a body, if the call changed something durable.
 pub fn append_call<S: Naming>(
     alloc: Global,
@@ -157,6 +167,7 @@ pub fn append_call<S: Naming>(
         Call::Mount(repo, digest, _, Ok(mount)) => append_mounted(alloc, out, repo, digest, mount),
         Call::Delete(repo, digest, Ok(())) => append_unlinked(alloc, out, repo, digest),
         Call::DeleteManifest(repo, digest, Ok(())) => append_deleted(alloc, out, repo, digest),
+        Call::RemoveRepo(repo, Ok(())) => append_removed(out, repo),
         _ => Ok(()),
     }
 }

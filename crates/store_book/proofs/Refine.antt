@@ -11,6 +11,7 @@ pub mod New
 pub mod Print
 pub mod PutBack
 pub mod Queries
+pub mod Repos
 pub mod Start
 pub mod Sweep
 pub mod Take

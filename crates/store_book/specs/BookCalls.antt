@@ -15,7 +15,7 @@ use Rattle.atomic_table.specs.Seated.{TableId}
 use Rattle.store_book.specs.BookState.{BookState, SlotView}
 use Rattle.store_book.specs.Pinned.{blob_bytes}
 use Rattle.store_book.specs.SlotSteps.{EachSlot, FindsNoRoom, MayPlace, Leases}
-use Rattle.store_model.specs.Commands.{start, append, close, take, put_back, finish, after_cancel, abandon, mount, delete, put_manifest, delete_manifest}
+use Rattle.store_model.specs.Commands.{start, append, close, take, put_back, finish, after_cancel, abandon, mount, delete, put_manifest, delete_manifest, remove_repo}
 use Rattle.store_model.specs.Sessions.{HandRecord, session_of_hand}
 use Rattle.store_model.specs.declared.mount.Mount.{Mount}
 
@@ -98,3 +98,9 @@ PutsManifest result old new repo bytes = Does (λ d. d) result old.catalog new.c
 -- the call performs `delete_manifest`
 abbrev pub DeletesManifest : Result (Unit {0}) Refusal → BookState → BookState → Text → Text → Type 0
 DeletesManifest result old new repo digest = DoesExactly (λ u. u) result old.catalog new.catalog (delete_manifest old.catalog repo digest)
+
+-- ---- repositories
+
+-- the call performs `remove_repo`
+abbrev pub RemovesRepo : Result (Unit {0}) Refusal → BookState → BookState → Text → Type 0
+RemovesRepo result old new repo = DoesExactly (λ u. u) result old.catalog new.catalog (remove_repo old.catalog repo)

@@ -3,9 +3,8 @@ ghost use Rattle.std.specs.Arc.{arc_value};
 ghost use Rattle.blob_digest.specs.declared.refusal.Refusal.TheVariants.{TooManyReaders, UploadUnknown};
 ghost use Rattle.store_model.specs.Commands.{status};
 ghost use Rattle.store_model.specs.Invariant.{Sound};
-ghost use Rattle.store_model.specs.Sessions.{HasNoOpenReserve};
 ghost use Rattle.store_model.specs.Sweep.{IsSweep};
-ghost use Rattle.store_book.specs.BookCalls.{Abandons, AppendsChunk, ChangesSlots, ChecksIn, ChecksOut, Closes, Deletes, FailsOnlyIfFull, Finishes, HasCheckedOut, IsNewPin, KeepsSlots, LeasesBlob, Mounts, PlacesOnly, Starts};
+ghost use Rattle.store_book.specs.BookCalls.{Abandons, AppendsChunk, ChangesSlots, Closes, Deletes, FailsOnlyIfFull, IsNewPin, KeepsSlots, LeasesBlob, Mounts, PlacesOnly, Starts};
 ghost use Rattle.store_book.specs.Openings.{OpensFrom, RefusesConfig};
 ghost use Rattle.store_book.specs.Pinned.{blob_digest};
 ghost use Rattle.store_book.specs.Printing.{PrintsCatalog};
@@ -25,7 +24,7 @@ use std::io::{self, Write};
 use std::marker::Model;
 use std::sync::Arc;
 use store_model::{Mount, Swept};
-use upload_table::{Hand, Uploads};
+use upload_table::Uploads;
 
 /// The state of a store: what each tenant's repositories contain, and the uploads in progress.
 ///
@@ -37,7 +36,7 @@ pub struct Book {
     pub(crate) links: Links,
     pub(crate) uploads: Uploads,
     pub(crate) slots: PinnedSlots,
-    max_blob: u64,
+    pub(crate) max_blob: u64,
 }
 
 impl Model for Book {
@@ -208,112 +207,6 @@ impl Book {
             Err(hand) => {
                 let _ = self.put_back(hand);
                 Err(Refusal::Memory)
-            }
-        }
-    }
-
-    /// Checks a session out and reserves `len` bytes for one more chunk.
-    ///
-    /// Until the hand is put back or finished, the session is busy, and the tenant's use includes the reserved bytes.
-    ///
-    /// # Errors
-    /// - `NameUnknown` if the tenant does not exist.
-    /// - `UploadUnknown` if the session does not exist or belongs to another repository.
-    /// - `Busy` if the session is checked out.
-    /// - `SizeInvalid` if the range's length is not `len`, or the session would pass the size limit.
-    /// - `RangeInvalid` if the range does not start at the received length.
-    /// - `Quota` if the tenant's use would pass its quota.
-    ///
-    /// # Memory
-    /// None is allocated.
-    pub fn take(
-        &mut self,
-        repo: &RepoName,
-        number: u32,
-        range: Option<ByteRange>,
-        len: u64,
-    ) -> Result<Hand, Refusal>
-        ensures does { ChecksOut result self.old self.new repo.now number range len }
-        ensures slots { KeepsSlots self.old self.new }
-    {
-        let tenant = self.links.tenant(repo)?;
-        let (_, place) = self
-            .uploads
-            .check(tenant, repo, number, range, len, self.max_blob)?;
-        self.links.charge(tenant, len)?;
-        Ok(self.uploads.take(tenant, number, place, len))
-    }
-
-    /// Checks a session in, with its new chunk if that was filled, and returns the received length.
-    ///
-    /// If the chunk was not filled, the reserved bytes are released.
-    ///
-    /// # Errors
-    /// - `UploadUnknown` if no checked-out session of this book has the hand's number and lengths. The hand is
-    ///   dropped, and nothing changes.
-    ///
-    /// # Memory
-    /// None is allocated.
-    pub fn put_back(&mut self, hand: Hand) -> Result<u64, Refusal>
-        ensures does { ChecksIn result self.old self.new hand }
-        ensures slots { KeepsSlots self.old self.new }
-    {
-        let tenant = hand.tenant();
-        let reserved = hand.reserved();
-        let spare = if hand.filled() { 0 } else { reserved };
-        let after = self.uploads.put_back(hand)?;
-        self.links.discharge(tenant, spare);
-        Ok(after)
-    }
-
-    /// Closes a checked-out session whose last chunk was filled or is empty, and returns the blob's size.
-    ///
-    /// It is the second half of `close`.
-    ///
-    /// # Errors
-    /// - `UploadUnknown` if no checked-out session of this book has the hand's number and lengths. Nothing changes.
-    /// - `DigestInvalid` if the digest is not that of the content, or the store has other bytes with it.
-    /// - `LimitReached` if the digest is new to the tenant, whose repositories contain as many distinct blobs as its share.
-    /// - `StoreFull` if the digest is new to the store and no slot is free.
-    /// - `Memory` if out of memory.
-    ///
-    /// After the last four, the session is checked in as it was before `take`.
-    ///
-    /// # Cost
-    /// No byte is copied. None is hashed, except a last chunk that `fill_last` hashed by the other algorithm.
-    pub fn finish(&mut self, pins: &Pins, hand: Hand, digest: &Digest) -> Result<u64, Refusal>
-        requires table { self.old.table ≡ pins.now }
-        requires full { HasNoOpenReserve hand }
-        ensures does { Finishes result self.old self.new hand digest.now }
-        ensures taken { IfErr result (λ e. e ≢ UploadUnknown → HasCheckedOut self.old hand) }
-        ensures slots { ChangesSlots KeepsGeneration self.old self.new }
-        ensures housed { OnOk result (PlacesOnly digest.now self.old self.new) }
-        ensures kept { OnErr result (self.new.slots ≡ self.old.slots) }
-    {
-        let tenant = hand.tenant();
-        let reserved = hand.reserved();
-        let (blob, sealed) = match self.uploads.finish(hand, digest) {
-            Ok(both) => both,
-            Err(refusal) => match refusal {
-                Refusal::UploadUnknown => return Err(refusal),
-                _ => {
-                    self.links.discharge(tenant, reserved);
-                    return Err(refusal);
-                }
-            },
-        };
-        let size = blob.bytes().len() as u64;
-        let repo = self.uploads.repo_of(&sealed);
-        match keep(&mut self.links, &mut self.slots, pins, tenant, repo, blob) {
-            Ok(()) => {
-                self.uploads.forget(sealed);
-                self.links.discharge(tenant, size);
-                Ok(size)
-            }
-            Err((refusal, blob)) => {
-                self.uploads.reopen(sealed, blob);
-                self.links.discharge(tenant, reserved);
-                Err(refusal)
             }
         }
     }

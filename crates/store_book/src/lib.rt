@@ -17,6 +17,7 @@
 
 mod book;
 mod config;
+mod hands;
 mod keep;
 pub mod laws;
 mod lease;
@@ -25,6 +26,7 @@ mod mount;
 mod pinned_slots;
 mod print;
 mod queries;
+mod repos;
 mod sweep;
 
 pub use book::{Book, MAX_BLOB};

@@ -1,7 +1,8 @@
-use Rattle.std.proofs.Common.{refl, List, OnOk, subst}
+use Rattle.std.proofs.Common.{Err, List, OnOk, refl, ap, subst, sym, ◌∙◌}
+use Rattle.std.proofs.lemmas.Result.{err_from_is_err_and}
 use Rattle.store_book.specs.BookState.{SlotView}
 use Rattle.store_book.specs.SlotSteps.{EachSlot, MayPlace}
-use Rattle.store_model.proofs.Commands.ByHand.{close_does, undone}
+use Rattle.store_model.proofs.Commands.ByHand.{close_does, close_refused, undone}
 use Rattle.store_book.proofs.book.Book.close.Goals as goal
 
 pub returns-in-Ok-clause-does : goal.returns-in-Ok-clause-does
@@ -15,3 +16,9 @@ returns-in-Err-clause-does c = (
 
 pub returns-in-Ok-clause-housed : goal.returns-in-Ok-clause-housed
 returns-in-Ok-clause-housed c = subst (λ (xs : List SlotView). OnOk c.finish.result (EachSlot (MayPlace c.args.digest.now) xs c.finish.new.self.slots)) c.in_ok-hand.ensures.slots.1 c.finish.ensures.housed
+
+pub returns-in_err-hand-clause-does : goal.returns-in_err-hand-clause-does
+returns-in_err-hand-clause-does c =
+    let p = err_from_is_err_and c.from_residual.result c.from_residual.ensures.1 in
+    let refused = c.in_err-hand.ensures.does in
+    rw p.1 (λ _. close_refused c.args.self.now.catalog c.args.repo.now c.args.number c.args.range c.args.bytes.now p.0 (refused.0 ∙ ap Err (sym p.2)) c.args.digest.now, refused.1)

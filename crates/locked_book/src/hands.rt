@@ -1,0 +1,120 @@
+//! Sessions that are checked out of the locked book.
+
+ghost use Rattle.std.specs.Prelude.{◌≡◌, ◌≢◌, ◌+◌, ◌<◌, None, IfOk, length, sum_by};
+ghost use Rattle.store_model.specs.Hands.{filled_length};
+ghost use Rattle.store_model.specs.Histories.{PutBackCall, FinishCall};
+ghost use Rattle.store_model.specs.Lanes.{IsHeld};
+ghost use Rattle.store_model.specs.Sessions.{HasNoOpenReserve};
+ghost use Rattle.locked_book.specs.History.{Makes, MakesCheckOut};
+ghost use Rattle.locked_book.specs.Logging.{IsHandOf, check_in_bytes, finish_bytes};
+ghost use Rattle.locked_book.specs.Performing.{ChecksIn, ChecksInUnchanged, ChecksOut, Finishes};
+ghost use Rattle.locked_book.specs.Results.{EndsWithRange};
+
+use crate::call::Call;
+use crate::desk::Desk;
+use crate::kept::Kept;
+use crate::locked::{LockedBook, kept_if_ok};
+use crate::names::Naming;
+use blob_digest::{ByteRange, Digest, Refusal, RepoName};
+use pin_table::Pins;
+use std::snapshot::Snapshot;
+use upload_table::Hand;
+
+impl<S: Naming> LockedBook<S> {
+    /// Checks a session out with `Kept::take`. The command is counted at check-in.
+    pub fn take(
+        &mut self,
+        desk: &mut Desk<S>,
+        repo: &RepoName,
+        number: u32,
+        range: Option<ByteRange>,
+        len: u64,
+    ) -> Result<Hand, Refusal>
+        ensures does { ChecksOut repo.now number range len result self.old self.new }
+        ensures ends { IfOk result (λ h. EndsWithRange h len range) }
+        ensures names { IfOk result (λ h. IsHandOf S.names.setting.tenants repo.now number h) }
+        ensures makes { MakesCheckOut S.names repo.now number range len result desk.old desk.new }
+    {
+        self.kept.reveal_invariant();
+        let result = self.kept.take(repo, number, range, len);
+        self.history.add_unrecorded(
+            &mut desk.writer,
+            Call::Take(repo, number, range, len, &result),
+        );
+        result
+    }
+
+    /// Checks a session in with its new chunk by `Kept::put_back`.
+    pub fn put_back(
+        &mut self,
+        desk: &mut Desk<S>,
+        hand: Hand,
+        bytes: Vec<u8>,
+    ) -> Result<u64, Refusal>
+        requires bytes { bytes.items ≡ check_in_bytes S.names.policy S.names.setting.tenants hand }
+        requires filled { hand.last ≢ None }
+        requires held { IsHeld hand desk.old.trace.own }
+        ensures does { ChecksIn hand result self.old self.new }
+        ensures length { IfOk result (λ n. n ≡ sum_by length hand.chunks + filled_length hand) }
+        ensures makes { Makes S.names.opening (PutBackCall hand result) desk.old desk.new }
+    {
+        let _ = hand.reserved();
+        let given = Snapshot::of(&hand);
+        let result = self.kept.put_back(&mut desk.tally, hand);
+        let promised = self.history.policy().promises_chunks() && result.is_ok();
+        let bytes = kept_if_ok(bytes, &result);
+        self.history.add_recorded(
+            &mut desk.writer,
+            Call::PutBack(&given, &result),
+            bytes,
+            promised,
+        );
+        result
+    }
+
+    /// Checks a session in unchanged by `Kept::cancel`.
+    pub fn cancel(&mut self, desk: &mut Desk<S>, hand: Hand) -> Result<u64, Refusal>
+        requires unfilled { hand.last ≡ None }
+        requires held { IsHeld hand desk.old.trace.own }
+        ensures does { ChecksInUnchanged hand result self.old self.new }
+        ensures makes { Makes S.names.opening (PutBackCall hand result) desk.old desk.new }
+    {
+        let given = Snapshot::of(&hand);
+        let result = self.kept.cancel(hand);
+        self.history
+            .add_unrecorded(&mut desk.writer, Call::PutBack(&given, &result));
+        result
+    }
+
+    /// Closes a checked-out session with `Kept::finish`.
+    pub fn finish(
+        &mut self,
+        pins: &Pins,
+        desk: &mut Desk<S>,
+        hand: Hand,
+        digest: &Digest,
+        bytes: Vec<u8>,
+    ) -> Result<u64, Refusal>
+        requires bytes { bytes.items ≡ finish_bytes S.names.policy S.names.setting.tenants hand digest.now }
+        requires table { pins.now ≡ S.names.table }
+        requires full { HasNoOpenReserve hand }
+        requires held { IsHeld hand desk.old.trace.own }
+        ensures does { Finishes hand digest.now result self.old self.new }
+        ensures length { IfOk result (λ n. n ≡ sum_by length hand.chunks + filled_length hand) }
+        ensures makes { Makes S.names.opening (FinishCall hand digest.now result)
+            desk.old desk.new }
+    {
+        let _ = hand.reserved();
+        let given = Snapshot::of(&hand);
+        let result = self.kept.finish(pins, &mut desk.tally, hand, digest);
+        let promised = self.history.policy().promises_changes() && result.is_ok();
+        let bytes = kept_if_ok(bytes, &result);
+        self.history.add_recorded(
+            &mut desk.writer,
+            Call::Finish(&given, digest, &result),
+            bytes,
+            promised,
+        );
+        result
+    }
+}
