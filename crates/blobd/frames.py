@@ -12,7 +12,7 @@ GREETING = b"blobd\0\1\0"
 # The numbers of the commands.
 START, STATUS, APPEND, CLOSE, ABANDON, MOUNT, DELETE, PUT_MANIFEST, GET_MANIFEST, DELETE_MANIFEST = range(1, 11)
 LEASE, READ, GIVE_BACK, SWEEP = range(11, 15)
-STAT, STAT_MANIFEST, FREE_SLOTS, USAGE, FETCH = range(17, 22)
+STAT, STAT_MANIFEST, FREE_SLOTS, USAGE, FETCH, REMOVE_REPO = range(17, 23)
 SLOT_USE, REPO_COUNT, SYNC_COUNT = range(23, 26)
 
 # The share of a tenant without one.
@@ -21,6 +21,7 @@ UNLIMITED = 2**32 - 1
 # The numbers of the refusals, and two more status codes.
 NAME_INVALID, DIGEST_INVALID, NAME_UNKNOWN, UPLOAD_UNKNOWN, SIZE_INVALID, RANGE_INVALID, BLOB_UNKNOWN = range(1, 8)
 MANIFEST_INVALID, MANIFEST_UNKNOWN, MANIFEST_BLOB_UNKNOWN, QUOTA, REFERENCED = range(8, 13)
+REPO_IN_USE = 19
 NO_LEASE, NO_COMMAND = 254, 255
 
 
@@ -127,6 +128,11 @@ CALLS = [
     (request(READ, digest=ABC, number=1), reply(body=b"abc")),
     (request(GIVE_BACK, number=1), reply()),
     (request(SWEEP), reply(first=1, second=0)),
+    # a repository is removed when it has no link, no manifest and no session
+    (request(REMOVE_REPO, ONE), reply(REPO_IN_USE)),
+    (request(REMOVE_REPO, OTHER), reply(REPO_IN_USE)),
+    (request(REMOVE_REPO, TWO), reply()),
+    (request(REMOVE_REPO, TWO), reply(NAME_UNKNOWN)),
     # a blob by its SHA-512 digest, whose lease remains at the end
     (request(START, TWO), reply(first=4)),
     (request(CLOSE, TWO, ABC_512, number=4, span=(0, 2), body=b"abc"), reply(first=3)),

@@ -71,6 +71,10 @@ GetsManifest names repo digest result old new = Performs names (runs.GetManifest
 abbrev pub DeletesManifest : {A : Type 0} → StoreNames → Text → Text → Result A Refusal → DeskView → DeskView → Type 0
 DeletesManifest names repo digest result old new = Performs names (runs.DeleteManifest repo digest) (reply (λ _. runs.Done) result) old new
 
+-- the desk makes the step that removes a repository
+abbrev pub RemovesRepo : {A : Type 0} → StoreNames → Text → Result A Refusal → DeskView → DeskView → Type 0
+RemovesRepo names repo result old new = Performs names (runs.RemoveRepo repo) (reply (λ _. runs.Done) result) old new
+
 -- the desk makes the step that leases a blob
 abbrev pub LeasesBlob : StoreNames → Text → Text → Result LeaseValue Refusal → DeskView → DeskView → Type 0
 LeasesBlob names repo digest result old new = Performs names (runs.Lease repo digest) (reply (λ l. runs.Bytes l.bytes) result) old new

@@ -17,6 +17,7 @@ mod queries;
 mod replay;
 mod store;
 mod store_backend;
+mod uploads;
 mod workers;
 
 pub use commit::SharedLogDevice;

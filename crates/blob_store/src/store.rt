@@ -1,6 +1,6 @@
 //! The store that threads share.
 
-ghost use Rattle.std.specs.Prelude.{◌≡◌, ◌⊎◌, ◌+◌, ◌<◌, Err, IfErr, IfOk, IfSome, IsSome, OnErr, OnOk, length, true, vec_len};
+ghost use Rattle.std.specs.Prelude.{◌≡◌, ◌⊎◌, ◌<◌, Err, IfErr, IfOk, IsSome, OnOk, length, true, vec_len};
 ghost use Rattle.std.specs.Arc.{arc_value};
 ghost use Rattle.blob_digest.specs.Digests.{is_digest_of, sha256_text};
 ghost use Rattle.oci_manifest.specs.Manifests.{max_manifest, refs_of};
@@ -10,10 +10,9 @@ ghost use Rattle.locked_book.specs.History.{AreFreshDesks, IsUnread, Makes, OneB
 ghost use Rattle.locked_book.specs.Logging.{manifest_bytes};
 ghost use Rattle.locked_book.specs.Found.{AreTotalsOfSome, InSomeBook, IsSweepOfSome};
 ghost use Rattle.blob_store.specs.Parts.{names_of};
-ghost use Rattle.blob_store.specs.StoreCalls.{AbandonsSession, AppendsTo, ClosesSession, DeletesBlob};
-ghost use Rattle.blob_store.specs.StoreCalls.{DeletesManifest, GetsManifest, LeasesBlob, MountsBlob};
-ghost use Rattle.blob_store.specs.StoreCalls.{PutsManifest, ReadsStatus, StartsSession};
-ghost use Rattle.blob_store.specs.StoreCalls.{AreBalancedTotals, AreSumsOfDesks, CountsCommand};
+ghost use Rattle.blob_store.specs.StoreCalls.{DeletesBlob, LeasesBlob, MountsBlob, RemovesRepo};
+ghost use Rattle.blob_store.specs.StoreCalls.{DeletesManifest, GetsManifest, PutsManifest};
+ghost use Rattle.blob_store.specs.StoreCalls.{AreBalancedTotals, AreSumsOfDesks};
 ghost use Rattle.blob_store.specs.StoreCalls.{KeepsAmounts, SeeOneHistory};
 ghost use Rattle.blob_store.specs.StoreCalls.{FailsWith, IsLengthRefusal, IsNoDeskCount, IsNoManifest};
 ghost use Rattle.blob_store.specs.StoreCalls.{IsFullLease, PrintsBook, RefusesNonManifest};
@@ -21,11 +20,10 @@ ghost use Rattle.blob_digest.specs.declared.refusal.Refusal.TheVariants.{LimitRe
 
 use crate::lease::Lease;
 use crate::parts::Parts;
-use blob_digest::{ByteRange, Digest, Refusal, RepoName};
+use blob_digest::{Digest, Refusal, RepoName};
 use durable_log::{Backlog, IdleDevice};
 use locked_book::{
-    Counters, Desk, LockedBook, LogPolicy, Naming, Settled, Step, StoreLog, Totals, chunk_record,
-    manifest_record, seal_record,
+    Counters, Desk, LockedBook, LogPolicy, Naming, Settled, Step, StoreLog, Totals, manifest_record,
 };
 use log_disk::Disk;
 use oci_manifest::{Manifest, read};
@@ -38,7 +36,6 @@ use std::sync::atomic::AtomicU64;
 use std::sync::{Arc, Mutex, MutexGuard, Wait};
 use std::time::Duration;
 use store_book::{Mount, Swept};
-use upload_table::Hashing;
 
 /// A store that threads share: the pins, and one lock around the book with the totals.
 ///
@@ -55,12 +52,12 @@ use upload_table::Hashing;
 /// `append` and `close` check their session out and in again.
 #[derive(Drop)]
 pub struct Store<S: Naming> {
-    pins: Pins,
+    pub(crate) pins: Pins,
     book: Mutex<LockedBook<S>>,
-    policy: LogPolicy,
+    pub(crate) policy: LogPolicy,
     /// Stays 0: a thread that waits for the lock sleeps on it until its pause is over.
     rest: AtomicU64,
-    alloc: Global,
+    pub(crate) alloc: Global,
 }
 
 impl<S: Naming> Model for Store<S> {
@@ -255,176 +252,6 @@ impl<S: Naming> Store<S> {
         self.locked(rt).compare(one, other);
     }
 
-    /// Opens a session in a repository, and returns its number (OCI Distribution Specification 1.1, "Pushing a blob in
-    /// chunks", the opening POST). The repository appears with its first session.
-    pub fn start(&self, rt: &impl Wait, desk: &mut Desk<S>, repo: &RepoName) -> Result<u32, Refusal>
-        ensures { StartsSession S.names repo.now result desk.old desk.new }
-    {
-        self.locked(rt).start(desk, repo)
-    }
-
-    /// Returns how many bytes a session has received (OCI Distribution Specification 1.1, "Pushing a blob in chunks",
-    /// the GET of a session's location).
-    ///
-    /// # Memory
-    ///
-    /// Allocates nothing.
-    pub fn status(
-        &self,
-        rt: &impl Wait,
-        desk: &mut Desk<S>,
-        repo: &RepoName,
-        number: u32,
-    ) -> Result<u64, Refusal>
-        ensures { ReadsStatus S.names repo.now number result desk.old desk.new }
-    {
-        self.locked(rt).status(desk, repo, number)
-    }
-
-    /// Adds a chunk to a session, and returns the received length (OCI Distribution Specification 1.1, "Pushing a blob
-    /// in chunks"). A chunk without a range goes at the end. The session is checked out, and `Busy` to other calls,
-    /// while its bytes are copied and hashed without the lock. If the call fails, the session is unchanged.
-    ///
-    /// # Cost
-    ///
-    /// Copies and hashes the chunk, without the lock. The lock is taken at most twice.
-    pub fn append(
-        &self,
-        rt: &impl Wait,
-        desk: &mut Desk<S>,
-        repo: &RepoName,
-        number: u32,
-        range: Option<ByteRange>,
-        bytes: &[u8],
-    ) -> Result<u64, Refusal>
-        ensures ok { OnOk result (CountsCommand (length bytes.now) 0 desk.old desk.new) }
-        ensures err { OnErr result (KeepsAmounts desk.old desk.new) }
-        ensures ends { IfOk result (λ n. IfSome range (λ r. n ≡ r.end + 1)) }
-        ensures steps { AppendsTo S.names repo.now number range bytes.now result desk.old desk.new }
-    {
-        self.append_by(rt, desk, repo, number, range, bytes, Hashing::Open)
-    }
-
-    /// Adds a chunk to a session as `append` does, but hashes it as `hashing` says.
-    pub fn append_by(
-        &self,
-        rt: &impl Wait,
-        desk: &mut Desk<S>,
-        repo: &RepoName,
-        number: u32,
-        range: Option<ByteRange>,
-        bytes: &[u8],
-        hashing: Hashing<'_>,
-    ) -> Result<u64, Refusal>
-        ensures ok { OnOk result (CountsCommand (length bytes.now) 0 desk.old desk.new) }
-        ensures err { OnErr result (KeepsAmounts desk.old desk.new) }
-        ensures ends { IfOk result (λ n. IfSome range (λ r. n ≡ r.end + 1)) }
-        ensures steps { AppendsTo S.names repo.now number range bytes.now result desk.old desk.new }
-    {
-        let len = bytes.len() as u64;
-        let hand = self.locked(rt).take(desk, repo, number, range, len)?;
-        let record = match chunk_record(self.alloc, self.policy, repo, number, bytes) {
-            Ok(record) => record,
-            Err(refusal) => {
-                let _ = self.locked(rt).cancel(desk, hand);
-                return Err(refusal);
-            }
-        };
-        match hand.fill_by(bytes, hashing) {
-            Ok(hand) => self.locked(rt).put_back(desk, hand, record),
-            Err(hand) => {
-                let _ = self.locked(rt).cancel(desk, hand);
-                Err(Refusal::Memory)
-            }
-        }
-    }
-
-    /// Closes a session with its last chunk, which may be empty, and returns the blob's size (OCI Distribution
-    /// Specification 1.1, "Pushing a blob in chunks", the closing PUT). The session's bytes become the blob of this
-    /// digest, linked in the repository. The session is checked out, and `Busy` to other calls, while the last chunk is
-    /// copied and hashed without the lock. If the call fails, the session is unchanged, without the last chunk.
-    ///
-    /// # Cost
-    ///
-    /// Copies and hashes only the last chunk, without the lock: the session's bytes move into the blob. The lock is
-    /// taken at most twice.
-    pub fn close(
-        &self,
-        rt: &impl Wait,
-        desk: &mut Desk<S>,
-        repo: &RepoName,
-        number: u32,
-        digest: &Digest,
-        range: Option<ByteRange>,
-        bytes: &[u8],
-    ) -> Result<u64, Refusal>
-        ensures ok { IfOk result (λ n. CountsCommand (length bytes.now) n desk.old desk.new) }
-        ensures err { OnErr result (KeepsAmounts desk.old desk.new) }
-        ensures ends { IfOk result (λ n. IfSome range (λ r. n ≡ r.end + 1)) }
-        ensures steps { ClosesSession S.names repo.now number digest.now range bytes.now
-            result desk.old desk.new }
-    {
-        let hashing = Hashing::Last(digest.algorithm());
-        self.close_by(rt, desk, repo, number, digest, range, bytes, hashing)
-    }
-
-    /// Closes a session as `close` does, but hashes its bytes as `hashing` says. If they were not hashed by the algorithm
-    /// of the digest before the lock is taken again, they are hashed under the lock.
-    pub fn close_by(
-        &self,
-        rt: &impl Wait,
-        desk: &mut Desk<S>,
-        repo: &RepoName,
-        number: u32,
-        digest: &Digest,
-        range: Option<ByteRange>,
-        bytes: &[u8],
-        hashing: Hashing<'_>,
-    ) -> Result<u64, Refusal>
-        ensures ok { IfOk result (λ n. CountsCommand (length bytes.now) n desk.old desk.new) }
-        ensures err { OnErr result (KeepsAmounts desk.old desk.new) }
-        ensures ends { IfOk result (λ n. IfSome range (λ r. n ≡ r.end + 1)) }
-        ensures steps { ClosesSession S.names repo.now number digest.now range bytes.now
-            result desk.old desk.new }
-    {
-        let len = bytes.len() as u64;
-        let hand = self.locked(rt).take(desk, repo, number, range, len)?;
-        let record = match seal_record(self.alloc, self.policy, repo, number, digest, bytes) {
-            Ok(record) => record,
-            Err(refusal) => {
-                let _ = self.locked(rt).cancel(desk, hand);
-                return Err(refusal);
-            }
-        };
-        let filled = hand.fill_by(bytes, hashing);
-        match filled {
-            Ok(hand) => self
-                .locked(rt)
-                .finish(&self.pins, desk, hand, digest, record),
-            Err(hand) => {
-                let _ = self.locked(rt).cancel(desk, hand);
-                Err(Refusal::Memory)
-            }
-        }
-    }
-
-    /// Abandons a session with its bytes, and returns how many it had received. Its number is never used again.
-    ///
-    /// # Memory
-    ///
-    /// Allocates nothing.
-    pub fn abandon(
-        &self,
-        rt: &impl Wait,
-        desk: &mut Desk<S>,
-        repo: &RepoName,
-        number: u32,
-    ) -> Result<u64, Refusal>
-        ensures { AbandonsSession S.names repo.now number result desk.old desk.new }
-    {
-        self.locked(rt).abandon(desk, repo, number)
-    }
-
     /// Links a blob that the tenant has in the source repository, without an upload (OCI Distribution Specification
     /// 1.1, "Mounting a blob from another repository"). Without a source, any repository of the tenant may supply the
     /// blob. If the blob is not there, or the source is another tenant's, the call opens a session, as `start` does.
@@ -529,6 +356,22 @@ impl<S: Naming> Store<S> {
         ensures { DeletesManifest S.names repo.now digest.now result desk.old desk.new }
     {
         self.locked(rt).delete_manifest(desk, repo, digest)
+    }
+
+    /// Removes a repository that has no link, no manifest and no session. Its name no longer counts for the limit of 1,024.
+    ///
+    /// # Memory
+    ///
+    /// Allocates nothing.
+    pub fn remove_repo(
+        &self,
+        rt: &impl Wait,
+        desk: &mut Desk<S>,
+        repo: &RepoName,
+    ) -> Result<(), Refusal>
+        ensures { RemovesRepo S.names repo.now result desk.old desk.new }
+    {
+        self.locked(rt).remove_repo(desk, repo)
     }
 
     /// Leases a blob that a repository has. No sweep frees the blob's slot before the lease is given back.

@@ -99,6 +99,10 @@ impl<'s, W: Wait, S: Naming> Backend for StoreBackend<'s, W, S> {
             .delete_manifest(self.rt, &mut self.desk, repo, digest)
     }
 
+    fn remove_repo(&mut self, repo: &RepoName) -> Result<(), Refusal> {
+        self.store.remove_repo(self.rt, &mut self.desk, repo)
+    }
+
     fn lease(&mut self, repo: &RepoName, digest: &Digest) -> Result<Lease<'s, S>, Refusal> {
         let store = self.store;
         store.lease(self.rt, &mut self.desk, repo, digest)

@@ -10,7 +10,7 @@ use Rattle.store_model.specs.Catalog.{Catalog}
 use Rattle.store_book.specs.BookState.{BookState, SlotView}
 use Rattle.store_book.specs.SlotSteps.{EachSlot, HasLastGeneration}
 use Rattle.store_api.specs.Answers.{Answer, Session, Received, Stored, Abandoned, Mounted, Deleted, Manifest, Body, Leased, Bytes, Shared, Verified, GivenBack, Swept, NoLease, NameTaken, Refused}
-use Rattle.store_api.specs.Commands.{Command, Start, Status, Append, Close, Abandon, Mount, Delete, PutManifest, GetManifest, DeleteManifest, Lease, StoreRequest, Calls, Verifies, Sweeps}
+use Rattle.store_api.specs.Commands.{Command, Start, Status, Append, Close, Abandon, Mount, Delete, PutManifest, GetManifest, DeleteManifest, RemoveRepo, Lease, StoreRequest, Calls, Verifies, Sweeps}
 use Rattle.script_player.specs.RowCommands.{command_of}
 use Rattle.store_api.specs.LeaseViews.{LeaseView}
 use Rattle.script_player.specs.Leases.{Leases, no_leases}
@@ -50,6 +50,7 @@ none_crowded_out n slots (Delete repo digest) refusal low few out = out
 none_crowded_out n slots (PutManifest repo bytes) refusal low few out = out
 none_crowded_out n slots (GetManifest repo digest) refusal low few out = out
 none_crowded_out n slots (DeleteManifest repo digest) refusal low few out = out
+none_crowded_out n slots (RemoveRepo repo) refusal low few out = out
 
 not_last : (n : ℕ) (slots : List SlotView) → AreLow n slots → n ≤ 65537 → ¬ HasLastGeneration slots
 not_last n slots low few last = omega (arith, (low last.0 last.1 last.2).0, few, last.3)

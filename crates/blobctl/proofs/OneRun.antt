@@ -17,11 +17,11 @@ use Rattle.oci_manifest.specs.Manifests.{refs_of, max_manifest}
 use Rattle.std.specs.Option.{ok_or}
 use Rattle.store_model.specs.Catalog.{Catalog, Resident, opening}
 use Rattle.store_model.specs.Runs as runs
-use Rattle.store_model.specs.Commands.{Outcome, tenant, start, append, close, abandon, mount, delete, put_manifest, delete_manifest, with_stored_blob, was_leased, has_source, mounted_outcome, started_outcome, has_manifest, add_manifest, chunk_length_check, session, not_busy, check_no_referrer, referrer, check_all_links, manifest, check_link, is_digest_accepted, has_slot, check_quota, check_share, content_in, lacks_room_for, cannot_open, is_full_of_manifests}
+use Rattle.store_model.specs.Commands.{Outcome, tenant, start, append, close, abandon, mount, delete, put_manifest, delete_manifest, remove_repo, check_repo, is_in_use, with_stored_blob, was_leased, has_source, mounted_outcome, started_outcome, has_manifest, add_manifest, chunk_length_check, session, not_busy, check_no_referrer, referrer, check_all_links, manifest, check_link, is_digest_accepted, has_slot, check_quota, check_share, content_in, lacks_room_for, cannot_open, is_full_of_manifests}
 use Rattle.store_model.specs.Sweep.{IsAfterSweep, IsSweep, is_orphan}
 use Rattle.store_model.specs.declared.swept.Swept.{Swept as SweptCounts}
 use Rattle.store_api.specs.Answers.{Answer, Swept}
-use Rattle.store_api.specs.Commands.{Command, Start, Status, Append, Close, Abandon, Mount, Delete, PutManifest, GetManifest, DeleteManifest, Lease, Sweeps, is_lease, uses_repo}
+use Rattle.store_api.specs.Commands.{Command, Start, Status, Append, Close, Abandon, Mount, Delete, PutManifest, GetManifest, DeleteManifest, RemoveRepo, Lease, Sweeps, is_lease, uses_repo}
 use Rattle.script_player.specs.RowCommands.{command_of}
 use Rattle.blobctl.specs.Played.{CatalogLeads, command_outcome, outcome_result}
 use Rattle.store_api.specs.CommandAnswers.{command_answer}
@@ -156,6 +156,7 @@ module _ (C : Catalog) (none : LentNone C) where
       answered_keeps _ (put_manifest C repo bytes) (bind_keeps (tenant C repo) _ (λ t _. bind_keeps (refuse (nat_lt max_manifest (length bytes)) no.SizeInvalid) _ (λ _ _. bind_keeps (ok_or (refs_of bytes) no.ManifestInvalid) _ (λ refs _. bind_keeps (check_all_links C repo refs) _ (λ _ _. if_keeps (has_manifest C repo (sha256_text bytes)) _ (add_manifest C t repo bytes) (ok_keeps _ _ none) (bind_keeps (refuse (lacks_room_for C t repo) no.LimitReached) _ (λ _ _. bind_keeps (refuse (is_full_of_manifests C repo) no.LimitReached) _ (λ _ _. ok_keeps _ _ none))))))))
   run_keeps (GetManifest repo digest) no_lease = read_keeps _ _
   run_keeps (DeleteManifest repo digest) no_lease = answered_keeps _ (delete_manifest C repo digest) (bind_keeps (tenant C repo) _ (λ t _. bind_keeps (manifest C repo digest) _ (λ _ _. ok_keeps _ _ none)))
+  run_keeps (RemoveRepo repo) no_lease = answered_keeps _ (remove_repo C repo) (bind_keeps (tenant C repo) _ (λ t _. bind_keeps (check_repo C repo) _ (λ _ _. bind_keeps (refuse (is_in_use C repo) no.RepoInUse) _ (λ _ _. ok_keeps _ _ none))))
   run_keeps (Lease repo digest) no_lease = absurd (false≢true (sym no_lease))
 
   outcome_keeps : (c : Command) → is_lease c ≡ false → Keeps (command_outcome C c)
@@ -196,6 +197,7 @@ module _ (s t : State Catalog) (line : RowView) (a : Answer) where
   of_store verb.PutManifest uses other h = h
   of_store verb.GetManifest uses other h = h
   of_store verb.DeleteManifest uses other h = h
+  of_store verb.RemoveRepo uses other h = h
   of_store verb.Lease uses other h = absurd (other refl)
   of_store verb.Read uses other h = absurd (false≢true uses)
   of_store verb.Share uses other h = absurd (false≢true uses)
@@ -239,6 +241,7 @@ module _ (s t u : State Catalog) (line : RowView) (a b : Answer) where
   rows_same none verb.PutManifest h k = store_rows h k
   rows_same none verb.GetManifest h k = store_rows h k
   rows_same none verb.DeleteManifest h k = store_rows h k
+  rows_same none verb.RemoveRepo h k = store_rows h k
   rows_same none verb.Lease h k = absurd h
   rows_same none verb.Read h k = λ i. ((h.0 ∙ sym k.0) i, (h.1 ∙ sym k.1) i)
   rows_same none verb.Share h k = let p = h.0 ∙ sym k.0 in λ i. ((p i).0, ((h.1 ∙ sym k.1) i, (p i).1))
@@ -265,6 +268,7 @@ module _ (s t : State Catalog) (line : RowView) (a : Answer) (none : LentNone s.
   row_none verb.PutManifest h = store_none s.0 none (command_of line) t.0 a h.0
   row_none verb.GetManifest h = store_none s.0 none (command_of line) t.0 a h.0
   row_none verb.DeleteManifest h = store_none s.0 none (command_of line) t.0 a h.0
+  row_none verb.RemoveRepo h = store_none s.0 none (command_of line) t.0 a h.0
   row_none verb.Lease h = absurd h
   row_none verb.Read h = subst LentNone (sym (ap (λ (x : State Catalog). x.0) h.1)) none
   row_none verb.Share h = subst LentNone (sym h.1) none

@@ -12,7 +12,7 @@ use Rattle.store_model.specs.Runs as runs
 use Rattle.store_model.specs.Commands.{Outcome}
 use Rattle.store_model.specs.declared.mount.Mount.TheVariants as mounting
 use Rattle.store_api.specs.Answers.{Answer, Bytes, Leased, NameTaken, Refused, result_answer}
-use Rattle.store_api.specs.Commands.{Command, Start, Status, Append, Close, Abandon, Mount, Delete, PutManifest, GetManifest, DeleteManifest, Lease, is_lease, uses_repo}
+use Rattle.store_api.specs.Commands.{Command, Start, Status, Append, Close, Abandon, Mount, Delete, PutManifest, GetManifest, DeleteManifest, RemoveRepo, Lease, is_lease, uses_repo}
 use Rattle.script_player.specs.RowCommands.{command_of}
 use Rattle.store_api.specs.LeaseViews.{LeaseView}
 use Rattle.script_player.specs.Plays.{LendsIfNameFree, Plays, RowStep, State, VerifiesLease, named_lease as lease_named}
@@ -48,6 +48,7 @@ plain_shown (Delete repo digest) (Ok a) none = refl
 plain_shown (PutManifest repo bytes) (Ok a) none = refl
 plain_shown (GetManifest repo digest) (Ok a) none = refl
 plain_shown (DeleteManifest repo digest) (Ok a) none = refl
+plain_shown (RemoveRepo repo) (Ok a) none = refl
 plain_shown (Lease repo digest) (Ok a) none = absurd (false≢true (sym none))
 
 module _ (repo digest : Text) where

@@ -4,7 +4,7 @@ use Rattle.std.specs.Prelude.{is_some, option_and_then, map}
 use Rattle.std.proofs.lemmas.Bool.{false≢true, and_parts}
 use Rattle.spec_lib.specs.Texts.{Text}
 use Rattle.blob_digest.specs.declared.range.ByteRange.{ByteRange}
-use Rattle.store_api.specs.Commands.{Command, Start, Status, Append, Close, Abandon, Mount, Delete, PutManifest, GetManifest, DeleteManifest, Lease, command_of_verb, digest_in, is_lease, repo_in, uses_digest, uses_repo, uses_session, used_field}
+use Rattle.store_api.specs.Commands.{Command, Start, Status, Append, Close, Abandon, Mount, Delete, PutManifest, GetManifest, DeleteManifest, RemoveRepo, Lease, command_of_verb, digest_in, is_lease, repo_in, uses_digest, uses_repo, uses_session, used_field}
 use Rattle.script_player.specs.RowCommands.{command_of}
 use Rattle.script_player.specs.Rows.{RowView, has_needed_fields, session_number}
 use Rattle.store_api.specs.declared.verb.Verb.{Verb}
@@ -63,6 +63,7 @@ module _ (line : RowView) where
     commanded verb.PutManifest uses other fit = (PutManifest repo line.body, refl, refl)
     commanded verb.GetManifest uses other fit = (GetManifest repo digest, refl, refl)
     commanded verb.DeleteManifest uses other fit = (DeleteManifest repo digest, refl, refl)
+    commanded verb.RemoveRepo uses other fit = (RemoveRepo repo, refl, refl)
     commanded verb.Lease uses other fit = absurd (other refl)
     commanded _ uses other fit = absurd (false≢true uses)
 

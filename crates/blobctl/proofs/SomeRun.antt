@@ -21,7 +21,7 @@ use Rattle.store_model.specs.declared.mount.Mount.{Mount as Mounting}
 use Rattle.store_model.specs.declared.mount.Mount.TheVariants as mounting
 use Rattle.store_model.proofs.Commands.SomeSweep.{after, some_sweep, swept}
 use Rattle.store_api.specs.Answers.{Answer, Leased, Shared, Verified, NoLease, NameTaken, Swept, Refused, mount_answer}
-use Rattle.store_api.specs.Commands.{Command, Start, Status, Append, Close, Abandon, Mount, Delete, PutManifest, GetManifest, DeleteManifest, Lease, digest_in, range_of_tests, range_of_ends, repo_in, source_in, uses_digest, uses_range, uses_repo, uses_source, used_field}
+use Rattle.store_api.specs.Commands.{Command, Start, Status, Append, Close, Abandon, Mount, Delete, PutManifest, GetManifest, DeleteManifest, RemoveRepo, Lease, digest_in, range_of_tests, range_of_ends, repo_in, source_in, uses_digest, uses_range, uses_repo, uses_source, used_field}
 use Rattle.script_player.specs.RowCommands.{command_of, range_in}
 use Rattle.store_api.specs.LeaseViews.{LeaseView, half_lease, new_lease}
 use Rattle.script_player.specs.Leases.{Leases, Name}
@@ -164,6 +164,9 @@ module _ (C : Catalog) where
   drop_fine : (repo name : Text) → Fine (steps.delete_manifest C repo name)
   drop_fine repo name = bind_fine (steps.tenant C repo) _ (tenant_fine repo) (λ _. bind_fine (steps.manifest C repo name) _ (ok_or_fine _ _ refl) (λ _. tt))
 
+  vanish_fine : (repo : Text) → Fine (steps.remove_repo C repo)
+  vanish_fine repo = bind_fine (steps.tenant C repo) _ (tenant_fine repo) (λ _. bind_fine (steps.check_repo C repo) _ (refuse_fine _ _ refl) (λ _. bind_fine (refuse (steps.is_in_use C repo) no.RepoInUse) _ (refuse_fine _ _ refl) (λ _. tt)))
+
   lease_fine : (repo digest : Text) → Fine (steps.lease false C repo digest)
   lease_fine repo digest =
       bind_fine (steps.tenant C repo) _ (tenant_fine repo) (λ _. bind_fine (steps.linked_blob C repo digest) _ (bind_fine (steps.check_link C repo digest) _ (refuse_fine _ _ refl) (λ _. ok_or_fine _ _ refl)) (λ b. tt))
@@ -207,6 +210,7 @@ module _ (C : Catalog) where
   outcome_good (PutManifest repo bytes) = told_good runs.Bytes (command_answer (PutManifest repo bytes)) (λ _. tt) (steps.put_manifest C repo bytes) (put_fine C repo bytes)
   outcome_good (GetManifest repo digest) = read_good runs.Bytes (command_answer (GetManifest repo digest)) (λ _. tt) (steps.get_manifest C repo digest) (get_fine C repo digest)
   outcome_good (DeleteManifest repo digest) = told_good (λ _. runs.Done) (command_answer (DeleteManifest repo digest)) (λ _. tt) (steps.delete_manifest C repo digest) (drop_fine C repo digest)
+  outcome_good (RemoveRepo repo) = told_good (λ _. runs.Done) (command_answer (RemoveRepo repo)) (λ _. tt) (steps.remove_repo C repo) (vanish_fine C repo)
   outcome_good (Lease repo digest) = told_good runs.Bytes (command_answer (Lease repo digest)) (λ _. tt) (steps.lease false C repo digest) (lease_fine C repo digest)
 
   result_good : (o : steps.Outcome Answer) → Told o → Good (outcome_result C o).0
@@ -292,6 +296,7 @@ module _ (s : State Catalog) (line : RowView) where
   step fit verb.PutManifest is = of_store fit verb.PutManifest is refl (λ e. absurd (let h = e in cc))
   step fit verb.GetManifest is = of_store fit verb.GetManifest is refl (λ e. absurd (let h = e in cc))
   step fit verb.DeleteManifest is = of_store fit verb.DeleteManifest is refl (λ e. absurd (let h = e in cc))
+  step fit verb.RemoveRepo is = of_store fit verb.RemoveRepo is refl (λ e. absurd (let h = e in cc))
 
 -- rows that fit their commands have replies, and leave some catalog
 pub some_run : (s : State Catalog) (lines : List RowView) → AllFit lines → (answers : List Answer) × (t : State Catalog) × Plays CatalogLeads s lines answers t

@@ -93,6 +93,10 @@ impl<'p, N: PinsName> Backend for PinnedBook<'p, N> {
         self.book.delete_manifest(repo, digest)
     }
 
+    fn remove_repo(&mut self, repo: &RepoName) -> Result<(), Refusal> {
+        self.book.remove_repo(repo)
+    }
+
     fn lease(&mut self, repo: &RepoName, digest: &Digest) -> Result<Lease<'p, N>, Refusal> {
         let pins = self.pins;
         let (pin, blob) = self.book.lease(pins, repo, digest)?;

@@ -75,6 +75,7 @@ module _ (repo digest body : Text) (from : Option Text) (range : Option ByteRang
   named_by verb.PutManifest number e = sym (same_Some _ _ (ap (option_map repo_of) e))
   named_by verb.GetManifest number e = sym (same_Some _ _ (ap (option_map repo_of) e))
   named_by verb.DeleteManifest number e = sym (same_Some _ _ (ap (option_map repo_of) e))
+  named_by verb.RemoveRepo number e = sym (same_Some _ _ (ap (option_map repo_of) e))
   named_by verb.Lease number e = sym (same_Some _ _ (ap (option_map repo_of) e))
   named_by verb.Status None e = absurd (let h = e in cc)
   named_by verb.Append None e = absurd (let h = e in cc)

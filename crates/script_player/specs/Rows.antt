@@ -5,7 +5,7 @@ use Rattle.spec_lib.specs.Texts.{Text}
 use Rattle.blob_digest.specs.Names.{is_alnum}
 use Rattle.blob_digest.specs.Ranges.{number_of}
 use Rattle.store_api.specs.declared.verb.Verb.{Verb}
-use Rattle.store_api.specs.declared.verb.Verb.TheVariants.{Start, Status, Append, Close, Abandon, Mount, Delete, PutManifest, GetManifest, DeleteManifest, Lease, Read, Share, Verify, GiveBack, Sweep}
+use Rattle.store_api.specs.declared.verb.Verb.TheVariants.{Start, Status, Append, Close, Abandon, Mount, Delete, PutManifest, GetManifest, DeleteManifest, RemoveRepo, Lease, Read, Share, Verify, GiveBack, Sweep}
 
 -- a row; its key is a session's number, a source or the name of a lease
 pub record RowView : Type 0 where
@@ -50,6 +50,7 @@ has_needed_fields Delete repo key digest range body = is_empty key && is_empty r
 has_needed_fields PutManifest repo key digest range body = is_empty key && is_empty digest && is_empty range
 has_needed_fields GetManifest repo key digest range body = is_empty key && is_empty range && is_empty body
 has_needed_fields DeleteManifest repo key digest range body = is_empty key && is_empty range && is_empty body
+has_needed_fields RemoveRepo repo key digest range body = is_empty key && is_empty digest && is_empty range && is_empty body
 has_needed_fields Lease repo key digest range body = is_lease_name key && is_empty range && is_empty body
 has_needed_fields Read repo key digest range body = is_lease_name key && is_empty repo && is_empty digest && is_empty body
 has_needed_fields Share repo key digest range body = is_lease_name key && is_lease_name body && is_empty repo && is_empty digest && is_empty range

@@ -57,7 +57,7 @@ pub fn has_fields(
     ensures { result ≡ has_needed_fields verb repo.now key.now digest.now range.now body.now }
 {
     match verb {
-        Verb::Start => {
+        Verb::Start | Verb::RemoveRepo => {
             key.is_empty() && digest.is_empty() && range.is_empty() && body.is_empty()
         }
         Verb::Status | Verb::Abandon => {

@@ -17,3 +17,4 @@ no_lease (command.Delete repo digest) = refl
 no_lease (command.PutManifest repo bytes) = refl
 no_lease (command.GetManifest repo digest) = refl
 no_lease (command.DeleteManifest repo digest) = refl
+no_lease (command.RemoveRepo repo) = refl

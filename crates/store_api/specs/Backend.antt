@@ -10,7 +10,7 @@ use Rattle.blob_digest.specs.declared.refusal.Refusal.{Refusal}
 use Rattle.blob_digest.specs.declared.refusal.Refusal.TheVariants.{Memory, WeightSpent}
 use Rattle.store_model.specs.declared.mount.Mount.{Mount as MountResult}
 use Rattle.store_api.specs.Answers.{Answer, Abandoned, Body, Bytes, Deleted, Manifest, Received, Refused, Session, Stored, Verified, answer_of, result_answer, mount_answer}
-use Rattle.store_api.specs.Commands.{Command, StoreRequest, Calls, Verifies, Start, Status, Append, Close, Abandon, Mount, Delete, PutManifest, GetManifest, DeleteManifest, Lease}
+use Rattle.store_api.specs.Commands.{Command, StoreRequest, Calls, Verifies, Start, Status, Append, Close, Abandon, Mount, Delete, PutManifest, GetManifest, DeleteManifest, RemoveRepo, Lease}
 use Rattle.store_api.specs.LeaseViews.{LeaseView, bytes_between, half_lease}
 use Rattle.store_api.specs.declared.reply.Reply.{Reply}
 
@@ -56,6 +56,10 @@ module _ {S : Type 0} (acts : S → StoreRequest → Answer → S → Type 0) wh
   -- a manifest is removed from a repository
   abbrev pub DeletesManifest : S → Text → Text → Result (Unit {0}) Refusal → S → Type 0
   DeletesManifest old repo digest result new = acts old (Calls (DeleteManifest repo digest)) (result_answer (λ _. Deleted) result) new
+
+  -- a repository is removed
+  abbrev pub RemovesRepo : S → Text → Result (Unit {0}) Refusal → S → Type 0
+  RemovesRepo old repo result new = acts old (Calls (RemoveRepo repo)) (result_answer (λ _. Deleted) result) new
 
   -- a command is done, and its reply or its refusal is returned
   abbrev pub PerformsCommand : S → Command → Result Reply Refusal → S → Type 0

@@ -5,7 +5,7 @@ use Rattle.blob_digest.specs.declared.refusal.Refusal.{Refusal}
 use Rattle.store_api.specs.declared.command.Command.{Command}
 use Rattle.store_api.specs.declared.command.Fields.{Fields}
 use Rattle.store_api.specs.declared.verb.Verb.{Verb}
-use Rattle.store_api.specs.declared.command.Command.TheVariants.{Start, Status, Append, Close, Abandon, Mount, Delete, PutManifest, GetManifest, DeleteManifest}
+use Rattle.store_api.specs.declared.command.Command.TheVariants.{Start, Status, Append, Close, Abandon, Mount, Delete, PutManifest, GetManifest, DeleteManifest, RemoveRepo}
 
 -- the view of a command
 abbrev pub command_view : Command → commands.Command
@@ -19,6 +19,7 @@ command_view (Delete repo digest) = commands.Delete repo digest
 command_view (PutManifest repo bytes) = commands.PutManifest repo bytes.now
 command_view (GetManifest repo digest) = commands.GetManifest repo digest
 command_view (DeleteManifest repo digest) = commands.DeleteManifest repo digest
+command_view (RemoveRepo repo) = commands.RemoveRepo repo
 
 -- the command that a verb's fields spell, or the refusal of the first of them that is malformed
 abbrev pub command_of_fields : Verb → Fields → Result (Option commands.Command) Refusal

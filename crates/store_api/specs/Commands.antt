@@ -10,7 +10,7 @@ use Rattle.spec_lib.specs.Outcomes.{◌>>=◌}
 use Rattle.blob_digest.specs.declared.range.ByteRange.{ByteRange}
 use Rattle.blob_digest.specs.declared.refusal.Refusal.{Refusal}
 use Rattle.blob_digest.specs.declared.refusal.Refusal.TheVariants.{NameInvalid, DigestInvalid, SizeInvalid}
-pub use Rattle.store_model.specs.Runs.{Command, Start, Status, Append, Close, Abandon, Mount, Delete, PutManifest, GetManifest, DeleteManifest, Lease}
+pub use Rattle.store_model.specs.Runs.{Command, Start, Status, Append, Close, Abandon, Mount, Delete, PutManifest, GetManifest, DeleteManifest, RemoveRepo, Lease}
 use Rattle.store_api.specs.declared.verb.Verb.{Verb}
 use Rattle.store_api.specs.declared.verb.Verb.TheVariants as verb
 
@@ -115,6 +115,7 @@ command_of_verb verb.Delete repo from digest range number body = Some (Delete re
 command_of_verb verb.PutManifest repo from digest range number body = Some (PutManifest repo body)
 command_of_verb verb.GetManifest repo from digest range number body = Some (GetManifest repo digest)
 command_of_verb verb.DeleteManifest repo from digest range number body = Some (DeleteManifest repo digest)
+command_of_verb verb.RemoveRepo repo from digest range number body = Some (RemoveRepo repo)
 command_of_verb verb.Lease repo from digest range number body = Some (Lease repo digest)
 command_of_verb _ repo from digest range number body = None
 

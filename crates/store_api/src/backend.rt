@@ -1,7 +1,7 @@
 //! The backends of a store.
 ghost use Rattle.std.specs.Prelude.{◌≡◌, ◌^◌, ◌<◌, ◌≤◌, length};
 ghost use Rattle.store_api.specs.Answers.{Answer, Swept as SweptAnswer};
-ghost use Rattle.store_api.specs.Backend.{Abandons, Appends, Closes, ConfirmsLease, DeletesLink, DeletesManifest, GetsManifest, LeasesBlob, Mounts, PerformsCommand, PutsManifest, ReadsPiece, ReportsStatus, SplitsLease, Starts};
+ghost use Rattle.store_api.specs.Backend.{Abandons, Appends, Closes, ConfirmsLease, DeletesLink, DeletesManifest, GetsManifest, LeasesBlob, Mounts, PerformsCommand, PutsManifest, ReadsPiece, RemovesRepo, ReportsStatus, SplitsLease, Starts};
 ghost use Rattle.store_api.specs.CommandViews.{command_view};
 ghost use Rattle.store_api.specs.Commands.{StoreRequest, Sweeps};
 ghost use Rattle.store_api.specs.LeaseViews.{LeaseView};
@@ -92,6 +92,10 @@ pub trait Backend {
     fn delete_manifest(&mut self, repo: &RepoName, digest: &Digest) -> Result<(), Refusal>
         ensures { DeletesManifest acts self.old repo.now digest.now result self.new };
 
+    /// Removes a repository that has no link, no manifest and no session.
+    fn remove_repo(&mut self, repo: &RepoName) -> Result<(), Refusal>
+        ensures { RemovesRepo acts self.old repo.now result self.new };
+
     /// Returns a new lease, of weight 1,024, of a blob that is linked in a repository.
     fn lease(&mut self, repo: &RepoName, digest: &Digest) -> Result<Self::Lease, Refusal>
         ensures { LeasesBlob acts lent self.old repo.now digest.now result self.new };
@@ -177,6 +181,10 @@ pub fn perform<B: Backend>(backend: &mut B, command: &Command<'_>) -> Result<Rep
         }
         Command::DeleteManifest { repo, digest } => {
             backend.delete_manifest(repo, digest)?;
+            Ok(Reply::Deleted)
+        }
+        Command::RemoveRepo { repo } => {
+            backend.remove_repo(repo)?;
             Ok(Reply::Deleted)
         }
     }

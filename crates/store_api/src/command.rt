@@ -69,6 +69,10 @@ pub enum Command<'r> {
         repo: RepoName,
         digest: Digest,
     },
+    /// Removes a repository that is not in use.
+    RemoveRepo {
+        repo: RepoName,
+    },
 }
 
 /// Returns the repository name that a field spells.
@@ -202,6 +206,7 @@ pub fn command_from<'r>(
             repo,
             digest: digest_in(digest)?,
         }),
+        Verb::RemoveRepo => Ok(Command::RemoveRepo { repo }),
         _ => unreachable!(),
     }
 }

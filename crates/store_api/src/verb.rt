@@ -23,6 +23,8 @@ pub enum Verb {
     GetManifest,
     /// Removes a manifest from a repository.
     DeleteManifest,
+    /// Removes a repository that is not in use.
+    RemoveRepo,
     /// Leases a blob under a name.
     Lease,
     /// Reads a piece of a leased blob.

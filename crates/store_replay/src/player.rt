@@ -220,6 +220,15 @@ impl<'s, W: Wait, S: Naming> Player<'s, W, S> {
         }
     }
 
+    /// Removes a repository.
+    fn remove_repo(&self, desk: &mut Desk<S>, repo: &[u8]) -> Result<(), Cause> {
+        let repo = self.repo_of(repo)?;
+        match self.store.remove_repo(self.rt, desk, &repo) {
+            Ok(()) => Ok(()),
+            Err(refusal) => Err(self.refused(repo.text(), refusal)),
+        }
+    }
+
     /// Makes a change at the desk. After the removal of a link, and if the store is full, it sweeps. If the change closes a
     /// session, `hashed` may be a blob with its content, so that the content need not be hashed.
     ///
@@ -253,6 +262,7 @@ impl<'s, W: Wait, S: Naming> Player<'s, W, S> {
             Change::BlobUnlinked { repo, digest } => self.unlink(desk, repo, digest),
             Change::ManifestPut { repo, bytes } => self.put_manifest(desk, repo, bytes),
             Change::ManifestDeleted { repo, digest } => self.delete_manifest(desk, repo, digest),
+            Change::RepoRemoved { repo } => self.remove_repo(desk, repo),
             Change::RepoAdded { .. } | Change::NumberSet { .. } | Change::BlobStored { .. } => {
                 Err(Cause::Rewritten)
             }

@@ -126,6 +126,7 @@ module _ {S T U V : Type 0} (shown : S → U) (lent : T → V)
   verb_through (Some verb.PutManifest) old new head payload outcome h = command_through _ old new outcome h
   verb_through (Some verb.GetManifest) old new head payload outcome h = command_through _ old new outcome h
   verb_through (Some verb.DeleteManifest) old new head payload outcome h = command_through _ old new outcome h
+  verb_through (Some verb.RemoveRepo) old new head payload outcome h = command_through _ old new outcome h
   verb_through (Some verb.Share) old new head payload outcome h = command_through (request_command verb.Share head payload) old new outcome h
   verb_through (Some verb.Verify) old new head payload outcome h = command_through (request_command verb.Verify head payload) old new outcome h
 

@@ -3,7 +3,7 @@ use Rattle.std.specs.Prelude.{◌≡◌, ◌⊎◌, ℕ, List, [], ◌++◌, len
 use Rattle.std.specs.Io.KnownBytes.{Appends}
 use Rattle.std.specs.Int.{w32, w64, to_le_bytes}
 use Rattle.blob_digest.specs.declared.refusal.Refusal.{Refusal}
-use Rattle.blob_digest.specs.declared.refusal.Refusal.TheVariants.{NameInvalid, DigestInvalid, NameUnknown, UploadUnknown, SizeInvalid, RangeInvalid, BlobUnknown, ManifestInvalid, ManifestUnknown, ManifestBlobUnknown, Quota, Referenced, StoreFull, TooManyReaders, LimitReached, WeightSpent, Memory, Busy}
+use Rattle.blob_digest.specs.declared.refusal.Refusal.TheVariants.{NameInvalid, DigestInvalid, NameUnknown, UploadUnknown, SizeInvalid, RangeInvalid, BlobUnknown, ManifestInvalid, ManifestUnknown, ManifestBlobUnknown, Quota, Referenced, StoreFull, TooManyReaders, LimitReached, WeightSpent, Memory, Busy, RepoInUse}
 
 -- a reply: a status, two numbers, the text of a digest, and a body
 pub record Reply : Type 0 where
@@ -45,6 +45,7 @@ refusal_reply LimitReached = numbers_reply 15 0 0
 refusal_reply WeightSpent = numbers_reply 16 0 0
 refusal_reply Memory = numbers_reply 17 0 0
 refusal_reply Busy = numbers_reply 18 0 0
+refusal_reply RepoInUse = numbers_reply 19 0 0
 
 -- the reply that reports out of memory
 abbrev pub memory_reply : Reply

@@ -68,6 +68,7 @@ pub fn write_refusal<W: Write>(alloc: Global, out: &mut W, refusal: &Refusal) ->
         Refusal::WeightSpent => write_numbers(out, 16, 0, 0),
         Refusal::Memory => write_numbers(out, 17, 0, 0),
         Refusal::Busy => write_numbers(out, 18, 0, 0),
+        Refusal::RepoInUse => write_numbers(out, 19, 0, 0),
     }
 }
 

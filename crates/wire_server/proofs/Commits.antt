@@ -90,6 +90,7 @@ module _ {S T : Type 0} (acts : S → StoreRequest → Answer → S → Type 0) 
   verb_committed (Some verb.PutManifest) head payload outcome h = command_committed _ outcome h
   verb_committed (Some verb.GetManifest) head payload outcome h = command_committed _ outcome h
   verb_committed (Some verb.DeleteManifest) head payload outcome h = command_committed _ outcome h
+  verb_committed (Some verb.RemoveRepo) head payload outcome h = command_committed _ outcome h
   verb_committed (Some verb.Share) head payload outcome h = command_committed (request_command verb.Share head payload) outcome h
   verb_committed (Some verb.Verify) head payload outcome h = command_committed (request_command verb.Verify head payload) outcome h
 

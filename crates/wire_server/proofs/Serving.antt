@@ -7,7 +7,7 @@ use Rattle.std.proofs.KnownBytes.{Appends-nil, Appends-trans, Consumes-nil, Cons
 use Rattle.std.specs.Io.KnownBytes.{Appends, Consumes}
 use Rattle.wire_format.specs.Frames.{request_bytes}
 use Rattle.blob_digest.specs.declared.refusal.Refusal.{Refusal}
-use Rattle.blob_digest.specs.declared.refusal.Refusal.TheVariants.{NameInvalid, DigestInvalid, NameUnknown, UploadUnknown, SizeInvalid, RangeInvalid, BlobUnknown, ManifestInvalid, ManifestUnknown, ManifestBlobUnknown, Quota, Referenced, StoreFull, TooManyReaders, LimitReached, WeightSpent, Memory, Busy}
+use Rattle.blob_digest.specs.declared.refusal.Refusal.TheVariants.{NameInvalid, DigestInvalid, NameUnknown, UploadUnknown, SizeInvalid, RangeInvalid, BlobUnknown, ManifestInvalid, ManifestUnknown, ManifestBlobUnknown, Quota, Referenced, StoreFull, TooManyReaders, LimitReached, WeightSpent, Memory, Busy, RepoInUse}
 use Rattle.wire_format.specs.Replies.{Reply, ReportsRefusal, refusal_reply, reply_bytes}
 use Rattle.store_api.specs.Answers.{Answer}
 use Rattle.store_api.specs.Answers as answers
@@ -72,6 +72,7 @@ reports_refusal LimitReached = refl
 reports_refusal WeightSpent = refl
 reports_refusal Memory = refl
 reports_refusal Busy = refl
+reports_refusal RepoInUse = refl
 
 -- each answer has a reply
 reports_answer : (answer : Answer) → ReportsAnswer answer (answer_reply answer)

@@ -27,6 +27,7 @@ verb_of n =
     else if n == 12 then Some verb.Read
     else if n == 13 then Some verb.GiveBack
     else if n == 14 then Some verb.Sweep
+    else if n == 22 then Some verb.RemoveRepo
     else None
 
 -- whether a request for the verb has a field to spell

@@ -30,6 +30,7 @@ pub fn verb_of(byte: u8) -> Option<Verb>
         12 => Some(Verb::Read),
         13 => Some(Verb::GiveBack),
         14 => Some(Verb::Sweep),
+        22 => Some(Verb::RemoveRepo),
         _ => None,
     }
 }

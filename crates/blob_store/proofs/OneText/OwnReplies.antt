@@ -56,6 +56,7 @@ module _ (tenants : List Tenant) where
   no_outcome crowded C (runs.PutManifest r b) none = rw none refl
   no_outcome crowded C (runs.GetManifest r m) none = rw none refl
   no_outcome crowded C (runs.DeleteManifest r m) none = rw none refl
+  no_outcome crowded C (runs.RemoveRepo r) none = rw none refl
   no_outcome crowded C (runs.Lease r d) none = rw none refl
 
   none_there : (C : Catalog) (r : Text) → C.tenants ≡ tenants → tenant_of tenants r ≡ None → tenant_of C.tenants r ≡ None

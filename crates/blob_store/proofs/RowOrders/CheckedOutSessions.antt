@@ -16,7 +16,7 @@ use Rattle.store_model.specs.Sessions.{are_checked_in}
 use Rattle.store_model.proofs.Commands.Accepted.{session_found}
 use Rattle.store_model.proofs.Commands.Hands.{Checked, checked_home, home_chunks}
 use Rattle.store_model.proofs.Invariant.Sessions.{fresh}
-use Rattle.store_model.proofs.Noninterference.LocalRespect.{Leaves, answers_leave, close_leaves, delete_leaves, delete_manifest_leaves, lease_leaves, mount_leaves, of_tenant, past, put_leaves, reading_leave, start_leaves}
+use Rattle.store_model.proofs.Noninterference.LocalRespect.{Leaves, answers_leave, close_leaves, delete_leaves, delete_manifest_leaves, lease_leaves, mount_leaves, of_tenant, past, put_leaves, reading_leave, remove_repo_leaves, start_leaves}
 
 module _ (C : Catalog) (lawful : WellFormed C) (k : SessionNumber) (s : Session) (found : get C.sessions k ≡ Some s) (out : are_checked_in s.chunks ≡ false) where
   abbrev Keeps : Catalog → Type 0
@@ -61,6 +61,7 @@ module _ (C : Catalog) (lawful : WellFormed C) (k : SessionNumber) (s : Session)
   command_keeps (runs.PutManifest r b) = answers_leave Keeps runs.Bytes _ (put_leaves Keeps C r b found (λ t _. found))
   command_keeps (runs.GetManifest r m) = reading_leave Keeps runs.Bytes C (Commands.get_manifest C r m) found
   command_keeps (runs.DeleteManifest r m) = answers_leave Keeps (λ _. runs.Done) _ (delete_manifest_leaves Keeps C r m found)
+  command_keeps (runs.RemoveRepo r) = answers_leave Keeps (λ _. runs.Done) _ (remove_repo_leaves Keeps C r (λ _ _. found))
   command_keeps (runs.Lease r d) = answers_leave Keeps runs.Bytes _ (lease_leaves Keeps C r false d (λ b _. found))
 
   pub stays_in_hand : (X : Catalog) (command : Command) (a : Answer) → outcome false C command ≡ Ok (a, X) → get X.sessions k ≡ Some s

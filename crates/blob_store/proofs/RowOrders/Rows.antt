@@ -18,7 +18,7 @@ use Rattle.store_model.specs.Sweep.{IsSweep}
 use Rattle.store_model.specs.WholeCommands.{CorrespondsTo, CheckedOutSessions, IsContentionFree, IsUpload, CheckedOut as Out, length_reply}
 use Rattle.store_api.specs.Answers.{Answer, Bytes, Received, Refused, Stored, result_answer}
 use Rattle.store_api.specs.CommandAnswers.{command_answer}
-use Rattle.store_api.specs.Commands.{Abandon, Append, Calls, Close, Command, Delete, DeleteManifest, GetManifest, Lease, Mount, PutManifest, StoreRequest, Start, Status, Sweeps, Verifies, command_of_verb as command_by, repo_in}
+use Rattle.store_api.specs.Commands.{Abandon, Append, Calls, Close, Command, Delete, DeleteManifest, GetManifest, Lease, Mount, PutManifest, RemoveRepo, StoreRequest, Start, Status, Sweeps, Verifies, command_of_verb as command_by, repo_in}
 use Rattle.script_player.specs.RowCommands.{command_of}
 use Rattle.script_player.specs.Counts.{chunk_size}
 use Rattle.store_api.specs.LeaseViews.{LeaseView}
@@ -151,6 +151,7 @@ request_comes (Calls (Delete repo digest)) answer steps short fine are = perform
 request_comes (Calls (PutManifest repo bytes)) answer steps short fine are = performed (PutManifest repo bytes) answer short steps are
 request_comes (Calls (GetManifest repo digest)) answer steps short fine are = performed (GetManifest repo digest) answer short steps are
 request_comes (Calls (DeleteManifest repo digest)) answer steps short fine are = performed (DeleteManifest repo digest) answer short steps are
+request_comes (Calls (RemoveRepo repo)) answer steps short fine are = performed (RemoveRepo repo) answer short steps are
 request_comes (Calls (Lease repo digest)) answer steps short fine are = performed (Lease repo digest) answer short steps are
 request_comes (Verifies size) answer steps short fine are = inl (are.1, record { named = tt; small = tt; mild = λ calm. tt; leads = λ C C' run. (are.0, run) })
 request_comes Sweeps answer steps short fine are =
@@ -195,6 +196,7 @@ module _ (row : RowView) (command : Command) where
   chunk_fits verb.PutManifest repo from digest range number is = as_long (PutManifest repo row.body) (omega arith) is
   chunk_fits verb.GetManifest repo from digest range number is = as_long (GetManifest repo digest) (omega arith) is
   chunk_fits verb.DeleteManifest repo from digest range number is = as_long (DeleteManifest repo digest) (omega arith) is
+  chunk_fits verb.RemoveRepo repo from digest range number is = as_long (RemoveRepo repo) (omega arith) is
   chunk_fits verb.Lease repo from digest range number is = as_long (Lease repo digest) (omega arith) is
   chunk_fits _ repo from digest range number is = absurd (let h = is in cc)
 
