@@ -1,4 +1,5 @@
-/* Uploads `abc` in two chunks, with a chunk at a wrong offset that fails, fetches the blob, and reads it under a lease. */
+/* Uploads `abc` in two chunks, with a chunk at a wrong offset that fails, fetches the blob, and reads it under a lease. Then removes
+ * the repository. */
 #include "blobd.h"
 #include <stdio.h>
 #include <string.h>
@@ -47,6 +48,8 @@ int main(int count, char **arguments) {
     printf("give back: status %d\n", reply.status);
     call(other, BLOBD_SWEEP, (struct blobd_request){0});
     printf("sweep: status %d, freed %llu, held %llu\n", reply.status, (unsigned long long)reply.first, (unsigned long long)reply.second);
+    call(connection, BLOBD_REMOVE_REPO, (struct blobd_request){.repo = "acme/one"});
+    printf("remove: status %d\n", reply.status);
     printf("exit: %d\n", blobd_close(store));
     return 0;
 }

@@ -31,7 +31,7 @@ def restarts(room):
             client.promises_all()
         ends_well("an end", blobd)
     kinds = set().union(*(client.kinds for client in everybody))
-    compares("the number of kinds of calls", len(kinds), 14)
+    compares("the number of kinds of calls", len(kinds), 17)
     before = log_length(folder)
     for number in range(3):
         compares("a restart without a call", room.runs(folder)[:2], (0, GREETING))

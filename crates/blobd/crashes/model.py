@@ -8,12 +8,15 @@ import time
 
 from data_folder import Ended
 from frames import ABANDON, APPEND, BLOB_UNKNOWN, CLOSE, DELETE, DELETE_MANIFEST, DIGEST_INVALID, FETCH, GET_MANIFEST, GIVE_BACK, LEASE
-from frames import MANIFEST_UNKNOWN, MOUNT, PUT_MANIFEST, READ, REFERENCED, SLOT_USE, START, STATUS, SWEEP, UNLIMITED, UPLOAD_UNKNOWN, USAGE, reply, request
-from frames import sha256
+from frames import MANIFEST_UNKNOWN, MOUNT, NAME_UNKNOWN, PUT_MANIFEST, READ, REFERENCED, REMOVE_REPO, REPO_COUNT, REPO_IN_USE, SLOT_USE
+from frames import START, STATUS, SWEEP, UNLIMITED, UPLOAD_UNKNOWN, USAGE, reply, request, sha256
 
 MIB = 1 << 20
 QUOTA = 1 << 40
-REPOSITORIES = ("one", "two")
+
+# The repositories of a tenant. A client seldom uses RARE, and soon deletes what is there, so that it can often be removed.
+REPOSITORIES = ("one", "two", "rare")
+RARE = "/rare"
 
 # The number of links, of manifests and of sessions that a client keeps at most, and of removed ones that it still looks for.
 MOST_LINKS, MOST_MANIFESTS, MOST_SESSIONS, MOST_GONE = 30, 6, 8, 20
@@ -36,15 +39,16 @@ def digests_in(manifest):
 class State:
     """What a client may find in its tenant."""
 
-    def __init__(self, tenant, links=(), manifests=(), sessions=(), following=1):
+    def __init__(self, tenant, links=(), manifests=(), sessions=(), following=1, repositories=()):
         self.tenant = tenant
         self.links = dict(links)  # the content of each repository and digest
         self.manifests = dict(manifests)  # the same
         self.sessions = dict(sessions)  # the repository and the bytes of each number
         self.following = following  # the number of the next session
+        self.repositories = set(repositories)  # those that exist, also without content
 
     def copy(self):
-        return State(self.tenant, self.links, self.manifests, self.sessions, self.following)
+        return State(self.tenant, self.links, self.manifests, self.sessions, self.following, self.repositories)
 
     def use(self):
         """Returns the tenant's use."""
@@ -56,6 +60,7 @@ class State:
         after = self.copy()
         after.sessions[self.following] = repository, b""
         after.following += 1
+        after.repositories.add(repository)
         return Step(request(kind, repository, digest, source), reply(first=self.following), after, CHANGE)
 
     def appends(self, number, body):
@@ -89,6 +94,7 @@ class State:
             return self.starts(repository, MOUNT, digest, source)
         after = self.copy()
         after.links[repository, digest] = data
+        after.repositories.add(repository)
         kind = READS if (repository, digest) in self.links else CHANGE
         return Step(request(MOUNT, repository, digest, source), reply(), after, kind)
 
@@ -114,6 +120,20 @@ class State:
         after = self.copy()
         del after.manifests[repository, digest]
         return Step(request(DELETE_MANIFEST, repository, digest), reply(), after, CHANGE)
+
+    def uses(self, repository):
+        """Returns whether a repository has a link, a manifest or a session."""
+        return any(place == repository for _, place, _ in self.names())
+
+    def removes(self, repository):
+        sent = request(REMOVE_REPO, repository)
+        if repository not in self.repositories:
+            return Step(sent, reply(NAME_UNKNOWN), self, READS)
+        if self.uses(repository):
+            return Step(sent, reply(REPO_IN_USE), self, READS)
+        after = self.copy()
+        after.repositories.remove(repository)
+        return Step(sent, reply(), after, CHANGE)
 
     def fetches(self, repository, digest):
         """Returns the steps that read a blob in pieces of at most a MiB. If there is no such blob, it is one piece."""
@@ -153,9 +173,13 @@ class State:
         blobs = len({digest for _, digest in self.links})
         return Step(request(SLOT_USE, f"{self.tenant}/one"), reply(first=blobs, second=UNLIMITED), self, READS)
 
+    def counts_repositories(self):
+        return Step(request(REPO_COUNT, f"{self.tenant}/one"), reply(first=len(self.repositories)), self, READS)
+
     def observed(self, names):
-        """Returns all steps that read what has these names, the use and the number of blobs."""
-        return [self.counts_use(), self.counts_blobs()] + [step for name in sorted(names, key=str) for step in self.finds(name)]
+        """Returns all steps that read what has these names, the use, and the numbers of blobs and of repositories."""
+        counted = [self.counts_use(), self.counts_blobs(), self.counts_repositories()]
+        return counted + [step for name in sorted(names, key=str) for step in self.finds(name)]
 
 
 def some_bytes(rng):
@@ -222,7 +246,20 @@ class Client:
         self.receives(connection, step, promise)
 
     def repository(self):
-        return f"{self.tenant}/{self.rng.choice(REPOSITORIES)}"
+        """Returns a repository for a new link or session."""
+        return f"{self.tenant}/{self.rng.choices(REPOSITORIES, [5, 5, 1])[0]}"
+
+    def removed(self, keys):
+        """Returns the one of the links or manifests that is deleted next."""
+        return self.rng.choice([key for key in keys if key[0].endswith(RARE)] or keys)
+
+    def removal(self):
+        """Returns the name and the step of the removal of a repository."""
+        repository = f"{self.tenant}/{self.rng.choices(REPOSITORIES, [1, 1, 8])[0]}"
+        step = self.state.removes(repository)
+        if step.kind == CHANGE:
+            return "removal", step
+        return "removal of nothing" if repository not in self.state.repositories else "removal in use", step
 
     def chosen(self):
         """Returns the name and the step of a random call that is possible now."""
@@ -241,9 +278,9 @@ class Client:
             }
             return kind, make[kind]()
         if len(links) > MOST_LINKS or links and draw < 0.55:
-            return "delete", state.deletes(*rng.choice(links))
+            return "delete", state.deletes(*self.removed(links))
         if len(manifests) > MOST_MANIFESTS or manifests and draw < 0.59:
-            return "delete of a manifest", state.deletes_manifest(*rng.choice(manifests))
+            return "delete of a manifest", state.deletes_manifest(*self.removed(manifests))
         if links and draw < 0.66:
             repository = rng.choice(links)[0]
             digests = [digest for place, digest in links if place == repository]
@@ -253,6 +290,8 @@ class Client:
             return "mount", state.mounts(self.repository(), digest, rng.choice([source, ""]))
         if draw < 0.76:
             return "mount of nothing", state.mounts(self.repository(), sha256(rng.randbytes(8)), "")
+        if draw < 0.82:
+            return self.removal()
         return "start", state.starts(self.repository())
 
     def leases(self, connection):
@@ -352,10 +391,12 @@ class Client:
             self.plays(connection, self.state.closes(number, b"the last bytes"))
 
     def empties(self, connection):
-        """Removes everything from the tenant."""
+        """Removes everything from the tenant, its repositories too."""
         while self.state.sessions:
             self.plays(connection, self.state.abandons(min(self.state.sessions)))
         while self.state.manifests:
             self.plays(connection, self.state.deletes_manifest(*min(self.state.manifests)))
         while self.state.links:
             self.plays(connection, self.state.deletes(*min(self.state.links)))
+        while self.state.repositories:
+            self.plays(connection, self.state.removes(min(self.state.repositories)))
