@@ -4,7 +4,7 @@ use crate::metrics::CONTENT_TYPE as METRICS_TYPE;
 use crate::path::query_value;
 use crate::registry::{with_body, HandlerResult, Registry};
 use crate::store::{StoreUnavailable, SweepResult};
-use crate::tags::NamedManifest;
+use crate::tags::{Referrer, TagOverview};
 use hyper::{Method, StatusCode};
 use serde_json::{json, Value};
 use sha2::{Digest, Sha256};
@@ -20,6 +20,9 @@ const MAX_REPOSITORIES: usize = 100;
 
 /// The maximum number of tags of a repository in a reply.
 const MAX_TAGS: usize = 20;
+
+/// The maximum number of referrers of a tag in a reply.
+const MAX_REFERRERS: usize = 8;
 
 /// The number of sweeps that are remembered.
 const MAX_SWEEPS: usize = 10;
@@ -194,13 +197,26 @@ impl Registry {
     }
 
     fn repository_json(&self, name: &str) -> Value {
-        let overview = self.tags.overview(name, MAX_TAGS);
-        let tag = |(tag, named): &(String, NamedManifest)| {
-            json!({ "name": tag, "digest": named.digest, "media_type": named.media_type })
-        };
-        let tags: Vec<Value> = overview.tags.iter().map(tag).collect();
+        let overview = self.tags.overview(name, MAX_TAGS, MAX_REFERRERS);
+        let tags: Vec<Value> = overview.tags.iter().map(tag_json).collect();
         json!({ "name": name, "manifests": overview.manifests, "tags": tags, "more_tags": overview.more })
     }
+}
+
+fn tag_json(tag: &TagOverview) -> Value {
+    let TagOverview { name, manifest, referrers } = tag;
+    let items: Vec<Value> = referrers.items.iter().map(referrer_json).collect();
+    json!({
+        "name": name,
+        "digest": manifest.digest,
+        "media_type": manifest.media_type,
+        "referrers": items,
+        "more_referrers": referrers.more,
+    })
+}
+
+fn referrer_json(referrer: &Referrer) -> Value {
+    json!({ "digest": referrer.digest, "media_type": referrer.media_type, "artifact_type": referrer.artifact_type })
 }
 
 #[cfg(test)]

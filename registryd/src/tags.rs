@@ -77,6 +77,13 @@ pub struct Referrer {
     pub size: u64,
 }
 
+impl Referrer {
+    fn of(digest: &str, facts: &Facts) -> Referrer {
+        let Facts { media_type, artifact_type, size, .. } = facts;
+        Referrer { digest: digest.to_string(), media_type: media_type.clone(), artifact_type: artifact_type.clone(), size: *size }
+    }
+}
+
 /// The condition on which a manifest is deleted.
 #[derive(Clone, Copy, Debug)]
 pub enum Removal {
@@ -113,10 +120,19 @@ pub struct Untagged {
 pub struct Overview {
     /// The number of manifests.
     pub manifests: usize,
-    /// The first tags in order, each with its manifest.
-    pub tags: Vec<(String, NamedManifest)>,
+    /// The first tags in order.
+    pub tags: Vec<TagOverview>,
     /// Whether more tags follow.
     pub more: bool,
+}
+
+/// What a tag names.
+#[derive(Debug, PartialEq, Eq)]
+pub struct TagOverview {
+    pub name: String,
+    pub manifest: NamedManifest,
+    /// The first manifests, in the order of their digests, whose subject is the tag's manifest.
+    pub referrers: Page<Referrer>,
 }
 
 /// Returns whether a text is a tag (OCI Distribution Specification 1.1, "Pulling manifests").
@@ -192,6 +208,20 @@ impl Repository {
         facts.lists.iter().for_each(|named| self.listed.remove(named, digest));
         facts.subject.iter().for_each(|named| self.referrers.remove(named, digest));
         Some(facts)
+    }
+
+    /// Returns the manifests after `last` in the order of their digests whose subject is a digest, with their facts.
+    fn referrers_after<'r>(&'r self, subject: &str, last: &str) -> impl Iterator<Item = (&'r String, &'r Facts)> {
+        let all = self.referrers.after(subject, last);
+        all.filter_map(|digest| Some((digest, &self.manifest(digest)?.facts)))
+    }
+
+    /// Returns a tag with its manifest and the first referrers of that.
+    fn tag_overview(&self, tag: &str, manifest: NamedManifest, most: usize) -> TagOverview {
+        let mut all = self.referrers_after(&manifest.digest, "");
+        let items = all.by_ref().take(most).map(|(digest, facts)| Referrer::of(digest, facts)).collect();
+        let more = all.next().is_some();
+        TagOverview { name: tag.to_string(), manifest, referrers: Page { items, more } }
     }
 
     /// Adds a tag, or moves it.
@@ -541,9 +571,8 @@ impl Tags {
     ) -> Page<Referrer> {
         let page = |repo: &mut Repository| {
             let mut bytes = 0_u64;
-            let all = repo.referrers.after(subject, last);
-            let visible = all.filter_map(|digest| Some((digest, &repo.manifest(digest)?.facts)));
-            let mut wanted = visible
+            let mut wanted = repo
+                .referrers_after(subject, last)
                 .filter(|(_, facts)| artifact_type.map_or(true, |wanted| facts.artifact_type.as_deref() == Some(wanted)))
                 .peekable();
             let mut items = Vec::new();
@@ -552,19 +581,18 @@ impl Tags {
                 items.len() < most.min(MAX_PAGE) && has_room
             }) {
                 bytes = bytes.saturating_add(facts.size);
-                let (media_type, artifact_type) = (facts.media_type.clone(), facts.artifact_type.clone());
-                items.push(Referrer { digest: digest.clone(), media_type, artifact_type, size: facts.size });
+                items.push(Referrer::of(digest, facts));
             }
             Page { more: wanted.peek().is_some(), items }
         };
         self.with(repo, page).unwrap_or(Page { items: Vec::new(), more: false })
     }
 
-    /// Returns what a repository has, with at most `most` tags.
-    pub fn overview(&self, repo: &str, most: usize) -> Overview {
+    /// Returns what a repository has, with at most `most` tags, and at most `most_referrers` referrers of each.
+    pub fn overview(&self, repo: &str, most: usize, most_referrers: usize) -> Overview {
         let overview = |repo: &mut Repository| {
-            let mut visible = repo.tags.iter().filter_map(|(tag, digest)| Some((tag.clone(), repo.named(digest)?)));
-            let tags = visible.by_ref().take(most).collect();
+            let mut visible = repo.tags.iter().filter_map(|(tag, digest)| Some((tag, repo.named(digest)?)));
+            let tags = visible.by_ref().take(most).map(|(tag, named)| repo.tag_overview(tag, named, most_referrers)).collect();
             let more = visible.next().is_some();
             Overview { manifests: repo.manifests.values().filter(|manifest| !manifest.is_leaving).count(), tags, more }
         };
@@ -733,10 +761,10 @@ mod tests {
         assert_eq!(tags.by_tag("acme/web", "v1"), None);
         assert_eq!(tags.by_digest("acme/web", "sha256:a"), None);
         assert_eq!(tags.page("acme/web", "", 9).unwrap().items, ["v2"]);
-        let overview = tags.overview("acme/web", 9);
-        assert_eq!((overview.manifests, overview.tags.len(), &*overview.tags[0].0, overview.more), (1, 1, "v2", false));
-        assert_eq!(tags.overview("acme/web", 0), Overview { manifests: 1, tags: vec![], more: true });
-        assert_eq!(tags.overview("acme/none", 9), Overview::default());
+        let overview = tags.overview("acme/web", 9, 9);
+        assert_eq!((overview.manifests, overview.tags.len(), &*overview.tags[0].name, overview.more), (1, 1, "v2", false));
+        assert_eq!(tags.overview("acme/web", 0, 9), Overview { manifests: 1, tags: vec![], more: true });
+        assert_eq!(tags.overview("acme/none", 9, 9), Overview::default());
         assert!(!tags.remove_tag("acme/web", "v1", 2));
         // Its tag may be moved to another manifest meanwhile, and then belongs to that one.
         tags.add("sha256:b", TYPE, Some("v1"));

@@ -4,6 +4,7 @@ registry has, which must not become markup. With `--screenshot FILE` it writes a
 import contextlib, html, http.server, json, re, shutil, subprocess, sys, tempfile, threading
 
 from playing import play, until
+from referrers import descriptor, index, put
 from restarts import folder, pushed
 from server import serving, sha256
 
@@ -31,16 +32,18 @@ def a_registry():
         client = server.client()
         old, new = (pushed(client, "acme/web", tag, layer) for tag, layer in (("v1", b"one" * 5000), ("v2", b"two" * 5000)))
         pushed(client, "acme/tools/build", "latest", b"three" * 9000)
+        report = index(subject=descriptor(new), artifactType="application/spdx+json")
+        put(client, "acme/web", report)
         for what in (f"manifests/{sha256(old)}", f"blobs/{sha256(b'one' * 5000)}"):
             assert client.ask("DELETE", f"/v2/acme/web/{what}").status == 202
         assert until(lambda: server.metric("registryd_freed_slots_total") == 1)
-        yield server, sha256(new)
+        yield server, sha256(new), sha256(report)
 
 
 def what_was_pushed_is_shown():
-    with a_registry() as (server, manifest):
+    with a_registry() as (server, manifest, report):
         text = shown(chromium(server.address, "--dump-dom"))
-        for word in ("acme", "60.0 kB of 100.0 kB", "3 blobs", "0 of 7 blobs", "2 repositories", "acme/web", "acme/tools/build", f"v2 {manifest}", "1 manifest", "other",
+        for word in ("acme", "60.0 kB of 100.0 kB", "3 blobs", "0 of 7 blobs", "2 repositories", "acme/web", "acme/tools/build", f"v2 {manifest}", f"referrer {report} application/spdx+json", "1 manifest", "2 manifests", "other",
                      "No repository.", "freed 1 slots", "Free slots 4093 of 4096", "Data durable", "Store not verified" if "NOT VERIFIED" in server.logged() else "Store verified",
                      "Last commit of tags", "Last sync of the log"):
             assert word in text, (word, text)
@@ -52,7 +55,8 @@ class Hostile(http.server.BaseHTTPRequestHandler):
     page = policy = None
 
     def do_GET(self):
-        tag = {"name": HOSTILE, "digest": HOSTILE, "media_type": HOSTILE}
+        referrer = {"digest": HOSTILE, "media_type": HOSTILE, "artifact_type": None}
+        tag = {"name": HOSTILE, "digest": HOSTILE, "media_type": HOSTILE, "referrers": [referrer], "more_referrers": True}
         state = {"version": HOSTILE, "time": 1, "started": 0, "durable": True, "slots": 1, "free_slots": 1, "uploads": 0, "folder": None, "store": {"verified": False},
                  "collector": {"sweeps": 0, "freed": 0, "held": 0, "last": []},
                  "tenants": [{"name": HOSTILE, "used": 0, "quota": 0, "blobs": 0, "share": None, "repositories": 1}]}
@@ -79,12 +83,12 @@ def names_are_no_markup():
             dom = chromium("%s:%d" % fake.server_address, "--dump-dom")
             fake.shutdown()
         assert "<title>registryd</title>" in dom and "<img" not in dom, dom
-        assert shown(dom).count(HOSTILE) == 6, shown(dom)
+        assert shown(dom).count(HOSTILE) == 8, shown(dom)
 
 
 def main():
     if sys.argv[1:2] == ["--screenshot"]:
-        with a_registry() as (server, _), tempfile.TemporaryDirectory() as place:
+        with a_registry() as (server, *_), tempfile.TemporaryDirectory() as place:
             chromium(server.address, "--window-size=1000,900", f"--screenshot={place}/page.png")
             shutil.move(f"{place}/page.png", sys.argv[2])
         return

@@ -7,8 +7,9 @@ import server as servers
 from crash.paths import log_of
 from limits import CHEAP, basic, users
 from playing import play, until
+from referrers import descriptor, index, put
 from restarts import by_signal, folder, opened, push, pushed
-from server import MANIFEST, TOP, serving, sha256
+from server import INDEX, MANIFEST, TOP, serving, sha256
 
 VIEWS = ["/", "/status", "/status?tenant=acme", "/metrics"]
 
@@ -39,7 +40,7 @@ def the_state_is_that_of_the_store():
         assert status["bounds"] == {"manifests": None, "manifest_bytes": None, "tags": None}
         assert status["folder"] is None and abs(status["time"] - time.time()) < 5 and status["time"] - status["started"] < 60
         acme = status_of(client, "?tenant=acme")
-        tag = {"name": "v1", "digest": sha256(image), "media_type": MANIFEST}
+        tag = {"name": "v1", "digest": sha256(image), "media_type": MANIFEST, "referrers": [], "more_referrers": False}
         assert acme == {"tenant": "acme", "more": False, "repositories": [
             {"name": "acme/one", "manifests": 1, "tags": [tag], "more_tags": False},
             {"name": "acme/two", "manifests": 0, "tags": [], "more_tags": False}]}, acme
@@ -91,6 +92,28 @@ def repositories_have_pages():
         assert ([repo["name"] for repo in second["repositories"]], second["more"]) == (["acme/r100", "acme/r101", "acme/r102"], False)
         two = status_of(client, "?tenant=acme&last=acme%2Fr001&n=2")
         assert ([repo["name"] for repo in two["repositories"]], two["more"]) == (["acme/r002", "acme/r003"], True)
+
+
+def tags_have_referrers():
+    with serving() as server:
+        client = server.client()
+        image = pushed(client, "acme/one")
+        push(client, "acme/one", b"{}")
+        report = index(subject=descriptor(image), artifactType="application/spdx+json")
+        put(client, "acme/one", report)
+        reports = [{"digest": sha256(report), "media_type": INDEX, "artifact_type": "application/spdx+json"}]
+        tag = {"name": "v1", "digest": sha256(image), "media_type": MANIFEST, "referrers": reports, "more_referrers": False}
+        assert status_of(client, "?tenant=acme")["repositories"][0]["tags"] == [tag]
+        digests = [sha256(report)]
+        for number in range(8):
+            content = index(subject=descriptor(image), annotations={"number": str(number)})
+            put(client, "acme/one", content)
+            digests.append(sha256(content))
+        tag = status_of(client, "?tenant=acme")["repositories"][0]["tags"][0]
+        assert [one["digest"] for one in tag["referrers"]] == sorted(digests)[:8] and tag["more_referrers"]
+        assert client.ask("DELETE", f"/v2/acme/one/manifests/{digests[0]}").status == 202
+        tag = status_of(client, "?tenant=acme")["repositories"][0]["tags"][0]
+        assert [one["digest"] for one in tag["referrers"]] == sorted(digests[1:]) and not tag["more_referrers"]
 
 
 def the_page_runs_its_own_script_alone():
@@ -163,6 +186,7 @@ def the_dashboard_shows_metrics_that_exist():
 def main():
     play("views", [
         the_state_is_that_of_the_store, what_the_collector_freed_is_shown, a_folder_has_commits_and_lengths, repositories_have_pages,
+        tags_have_referrers,
         the_page_runs_its_own_script_alone, the_store_is_verified_if_a_record_names_its_program, only_the_administrator_may_read,
         the_dashboard_shows_metrics_that_exist])
 
