@@ -1,10 +1,10 @@
 #!/usr/bin/env python3
 """A client with a local store makes an image from files, pushes it, and pulls it by tag and by digest, while the collector
 sweeps. The files pulled have to equal those pushed. After the image is deleted, the store has to be empty.
-clients.py podman|buildah|docker, as root. The status is 3 if docker's daemon cannot be started."""
+clients.py podman|buildah|docker|ctr, as root. The status is 3 if the client's daemon cannot be started."""
 import json, os, random, subprocess, sys, tempfile, time
 
-from images import image
+from images import image, same_blobs
 from server import serving
 
 SIZES = [1000, 300_000, 5_000_000]
@@ -78,6 +78,27 @@ class Buildah:
         pass
 
 
+def start_daemon(folder, command, probe):
+    """Starts a client's daemon, and returns it once the probe succeeds. If it ends before, the status is 3."""
+    with open(f"{folder}/log", "w") as log:
+        daemon = subprocess.Popen(command, stdout=log, stderr=log)
+    for _ in range(200):
+        if daemon.poll() is not None:
+            break
+        if subprocess.run(probe, stdout=subprocess.DEVNULL, stderr=subprocess.DEVNULL).returncode == 0:
+            return daemon
+        time.sleep(0.1)
+    end_daemon(daemon)
+    with open(f"{folder}/log") as log:
+        print(f"{command[0]}:", log.read().strip().rsplit("\n", 1)[-1])
+    sys.exit(3)
+
+
+def end_daemon(daemon):
+    daemon.terminate()
+    daemon.wait()
+
+
 class Docker:
     """Imports an archive as an image by its own daemon. The registry has a loopback address, so the daemon requires no TLS."""
 
@@ -86,18 +107,7 @@ class Docker:
         self.words = ["docker", "--config", folder, "-H", socket]
         places = ["--data-root", f"{folder}/data", "--exec-root", f"{folder}/exec", "--pidfile", f"{folder}/pid", "-H", socket]
         command = ["dockerd", "--bridge=none", "--iptables=false", "--ip6tables=false", "--storage-driver=vfs", *places]
-        with open(f"{folder}/log", "w") as log:
-            self.daemon = subprocess.Popen(command, stdout=log, stderr=log)
-        for _ in range(200):
-            if self.daemon.poll() is not None:
-                break
-            if subprocess.run([*self.words, "info"], stdout=subprocess.DEVNULL, stderr=subprocess.DEVNULL).returncode == 0:
-                return
-            time.sleep(0.1)
-        self.end()
-        with open(f"{folder}/log") as log:
-            print("dockerd:", log.read().strip().rsplit("\n", 1)[-1])
-        sys.exit(3)
+        self.daemon = start_daemon(folder, command, [*self.words, "info"])
 
     def push(self, at):
         run("tar", "-C", self.folder, "-cf", f"{self.folder}/archive", "files")
@@ -116,8 +126,46 @@ class Docker:
         run(*self.words, "image", "prune", "-a", "-f")
 
     def end(self):
-        self.daemon.terminate()
-        self.daemon.wait()
+        end_daemon(self.daemon)
+
+
+class Ctr:
+    """Imports an OCI layout into a containerd of its own. The blobs in its store have to equal those of the layout."""
+
+    def __init__(self, folder):
+        self.folder, socket = folder, f"{folder}/socket"
+        with open(f"{folder}/config.toml", "w") as config:
+            config.write('version = 2\ndisabled_plugins = ["io.containerd.grpc.v1.cri"]\n')
+        places = ["--root", f"{folder}/root", "--state", f"{folder}/state", "--address", socket]
+        self.words = ["ctr", "-a", socket]
+        command = ["containerd", *places, "-c", f"{folder}/config.toml"]
+        self.daemon = start_daemon(folder, command, [*self.words, "version"])
+
+    def push(self, at):
+        base, tag = at.rsplit(":", 1)
+        image(f"{self.folder}/image", SIZES, 0, tag)
+        run("tar", "-C", f"{self.folder}/image", "-cf", f"{self.folder}/archive", ".")
+        run(*self.words, "images", "import", "--no-unpack", "--base-name", base, f"{self.folder}/archive")
+        run(*self.words, "images", "push", "--plain-http", at)
+
+    def pull(self, name):
+        run(*self.words, "images", "pull", "--plain-http", "--snapshotter", "native", name)
+        same_blobs(f"{self.folder}/image", f"{self.folder}/root/io.containerd.content.v1.content")
+        place = tempfile.mkdtemp(dir=self.folder)
+        run(*self.words, "images", "mount", "--snapshotter", "native", name, place)
+        try:
+            return files_of(place)
+        finally:
+            run(*self.words, "images", "unmount", "--rm", place)
+
+    def forget(self):
+        """Removes the images and waits until their blobs are removed too."""
+        run(*self.words, "images", "remove", "--sync", *run(*self.words, "images", "list", "-q").splitlines())
+        left = run(*self.words, "content", "list", "-q")
+        assert not left, f"containerd keeps {left}"
+
+    def end(self):
+        end_daemon(self.daemon)
 
 
 def play(client, server, repo, files):
@@ -145,7 +193,7 @@ def main():
         for file, data in files.items():
             with open(f"{folder}/files/{file}", "wb") as out:
                 out.write(data)
-        client = {"podman": Podman, "buildah": Buildah, "docker": Docker}[name](folder)
+        client = {"podman": Podman, "buildah": Buildah, "docker": Docker, "ctr": Ctr}[name](folder)
         try:
             with serving("--slots", "128", "--sweep-ms", "0") as server:
                 play(client, server, f"acme/{name}", files)
