@@ -171,7 +171,9 @@ async fn short_body(call: &Call, leased: LeasedBlob, digest: &str, start: u64, e
 
 /// end-10: removes a blob from a repository.
 pub async fn delete(call: &Call, digest: &str) -> HandlerResult {
-    call.registry.store.delete(&call.repo, digest).await??;
+    let deleted = call.registry.store.delete(&call.repo, digest).await;
+    call.registry.end_delete(&call.repo, &deleted).await;
+    deleted??;
     empty(StatusCode::ACCEPTED, &[])
 }
 

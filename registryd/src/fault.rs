@@ -132,7 +132,7 @@ impl Fault {
                 format!("tenant {tenant} has {most} open uploads, which is the maximum: finish or delete one")
             }
             Limit::Repositories => {
-                format!("tenant {tenant} has {most} repositories, which is the maximum: none is removed before the exit")
+                format!("tenant {tenant} has {most} repositories, which is the maximum: delete all that one of them has")
             }
             Limit::Manifests => {
                 format!("repository {repo} has {most} manifests, which is the maximum: delete one")
@@ -212,7 +212,7 @@ impl From<Refusal> for Fault {
             Reason::DigestInvalid => {
                 Fault::new(StatusCode::BAD_REQUEST, "DIGEST_INVALID", "the digest is invalid, or differs from the content's")
             }
-            Reason::NameUnknown => Fault::new(StatusCode::NOT_FOUND, "NAME_UNKNOWN", "there is no such tenant"),
+            Reason::NameUnknown => Fault::new(StatusCode::NOT_FOUND, "NAME_UNKNOWN", "there is no such tenant or repository"),
             Reason::UploadUnknown => Fault::upload_unknown(),
             Reason::SizeInvalid => {
                 Fault::new(StatusCode::PAYLOAD_TOO_LARGE, "SIZE_INVALID", "the content is longer than the maximum of a blob")
@@ -239,6 +239,7 @@ impl From<Refusal> for Fault {
             Reason::Memory => Fault::new(StatusCode::SERVICE_UNAVAILABLE, "UNSUPPORTED", "out of memory")
                 .with_header("Retry-After", "1"),
             Reason::Busy => soon("TOOMANYREQUESTS", "another request is appending to the upload"),
+            Reason::RepoInUse => Fault::new(StatusCode::CONFLICT, "DENIED", "the repository is in use"),
             Reason::WeightSpent | Reason::Other(_) => {
                 Fault::new(StatusCode::INTERNAL_SERVER_ERROR, "UNSUPPORTED", "the store sent an unexpected reply")
             }

@@ -34,6 +34,7 @@ pub enum Command {
     FreeSlots = 19,
     Usage = 20,
     Fetch = 21,
+    RemoveRepo = 22,
     SlotUse = 23,
     SyncCount = 25,
 }
@@ -129,6 +130,7 @@ pub enum Reason {
     WeightSpent,
     Memory,
     Busy,
+    RepoInUse,
     /// A status that this program does not know.
     Other(u32),
 }
@@ -155,6 +157,7 @@ impl Reason {
             16 => Reason::WeightSpent,
             17 => Reason::Memory,
             18 => Reason::Busy,
+            19 => Reason::RepoInUse,
             other => Reason::Other(other),
         }
     }
@@ -208,7 +211,7 @@ mod tests {
         assert_eq!((head.status, head.digest_len, head.second), (11, 71, 0));
         assert_eq!((head.first, head.body_len), (0x0300_0000_0000_0201, 1 << 56));
         assert_eq!(Reason::of_status(head.status), Reason::Quota);
-        assert_eq!(Reason::of_status(19), Reason::Other(19));
+        assert_eq!(Reason::of_status(20), Reason::Other(20));
     }
 
     #[test]

@@ -162,11 +162,12 @@ impl Registry {
     pub async fn unlink_loose(&self, time: Duration) {
         for key in self.loose.unasked(time) {
             let (repo, digest) = (&key.0, &key.1);
-            let _turn = self.loose.turns.take(repo, digest).await;
+            let turn = self.loose.turns.take(repo, digest).await;
             if !self.loose.begin_unlink(&key, time) {
                 continue;
             }
-            match self.store.delete(repo, digest).await {
+            let deleted = self.store.delete(repo, digest).await;
+            match &deleted {
                 Ok(Ok(())) => {
                     tracing::info!(repo = %repo, digest = %digest, "deleted a blob that no manifest refers to");
                     self.loose.remove(repo, digest);
@@ -176,6 +177,8 @@ impl Registry {
                 // The store may still unlink it. It stays marked, and the store is asked again.
                 Err(StoreUnavailable) => {}
             }
+            drop(turn);
+            self.end_delete(repo, &deleted).await;
         }
     }
 }

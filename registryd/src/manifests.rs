@@ -9,7 +9,7 @@ use crate::limits::{tenant_of, Limit};
 use crate::media_type::{media_type_of, MediaType};
 use crate::pages::{page_response, WantedPage};
 use crate::registry::{empty, with_body, Call, HandlerResult, Registry};
-use crate::store::Answer;
+use crate::store::{Answer, StoreUnavailable};
 use crate::tags::{is_tag, Kept, NamedManifest, Removal};
 use bytes::Bytes;
 use hyper::{Body, StatusCode};
@@ -54,6 +54,7 @@ async fn adopt(call: &Call, digest: &str) -> Result<NamedManifest, Fault> {
         let content = [call.registry.store.get_manifest(&call.repo, digest).await??];
         let facts = tokio::task::block_in_place(|| facts_of_stored(&content)).ok_or_else(Fault::manifest_unknown)?;
         tags.put(&call.repo, digest, facts, None).await?;
+        call.registry.repositories.add(&call.repo);
         tracing::info!(repo = %call.repo, digest, "found a manifest whose push was interrupted");
     }
     tags.by_digest(&call.repo, digest).ok_or_else(Fault::manifest_unknown)
@@ -131,13 +132,14 @@ pub async fn put(call: &Call, reference: &str, content: &mut RequestContent) -> 
     let turn = call.registry.turns.take(&call.repo, &digest).await;
     let facts = facts_to_store(call, &digest, document, given, size_of(&bytes))?;
     let room = tags.reserve(&call.repo, (&digest, facts.size), tag, bounds).map_err(exceeds)?;
+    let changing = call.registry.repositories.begin_change(&call.repo);
     call.check_limit(call.registry.store.put_manifest(&call.repo, &bytes).await?, Limit::Manifests)?;
     let (subject, missing) = (facts.subject.clone(), tags.count_missing(&call.repo, &facts.lists));
     tags.put(&call.repo, &digest, facts, tag).await?;
     drop(room);
     // With a database, the repository is recorded there from now on.
     call.registry.repositories.add(&call.repo);
-    drop(turn);
+    drop((changing, turn));
     accepted(call, &digest, subject.as_deref(), missing)
 }
 
@@ -217,7 +219,7 @@ pub async fn delete(call: &Call, reference: &str) -> HandlerResult {
 }
 
 /// Deletes a manifest and its tags. They are hidden from now on, and are shown again if the store does not delete it. Nothing
-/// is deleted if the manifest is to be kept.
+/// is deleted if the manifest is to be kept. The repository is removed if it is empty then.
 pub async fn delete_manifest(
     registry: &Registry,
     repo: &str,
@@ -225,27 +227,25 @@ pub async fn delete_manifest(
     removal: Removal,
 ) -> Result<Result<(), Kept>, Fault> {
     let Registry { store, tags, turns, .. } = registry;
-    let _turn = turns.take(repo, digest).await;
+    let turn = turns.take(repo, digest).await;
     let blobs = registry.blobs_to_loosen(repo, digest).await?;
     let removed = match tags.begin_removal(repo, digest, removal).await? {
         Ok(removed) => removed,
         Err(kept) => return Ok(Err(kept)),
     };
-    match store.delete_manifest(repo, digest).await? {
-        Ok(()) => {
+    let deleted = store.delete_manifest(repo, digest).await;
+    match &deleted {
+        Ok(Ok(())) => {
             tags.remove_manifest(repo, digest, now());
             registry.loosen(repo, &blobs);
         }
-        Err(refusal @ Refusal { reason: Reason::ManifestUnknown, .. }) => {
-            tags.remove_manifest(repo, digest, now());
-            return Err(refusal.into());
-        }
-        Err(refusal) => {
-            tags.undo_removal(repo, digest, removed).await?;
-            return Err(refusal.into());
-        }
+        Ok(Err(Refusal { reason: Reason::ManifestUnknown, .. })) => tags.remove_manifest(repo, digest, now()),
+        Ok(Err(_)) => tags.undo_removal(repo, digest, removed).await?,
+        Err(StoreUnavailable) => {}
     }
-    Ok(Ok(()))
+    drop(turn);
+    registry.end_delete(repo, &deleted).await;
+    Ok(Ok(deleted??))
 }
 
 /// end-8: returns a page of the tags.

@@ -185,7 +185,7 @@ impl Call {
         if let Ok(number) = store.start_upload(&self.repo).await? {
             let name = uploads.add(&self.repo, number);
             repositories.begin_numbers(&self.repo, number.saturating_sub(1)).await?;
-            if store.abandon(&self.repo, number).await?.is_ok() {
+            if self.registry.abandon_session(&self.repo, number).await?.is_ok() {
                 uploads.remove(&name);
             }
         }
@@ -194,10 +194,11 @@ impl Call {
 
     /// Returns the result of a call that opens an upload and that `enter_repository` began.
     pub fn check_entered<T>(&self, answer: Result<T, Refusal>, entering: &mut Option<Entering<'_>>) -> Result<T, Fault> {
-        match (&answer, entering) {
-            (Err(_), Some(entering)) => entering.refused(),
-            (Err(_), None) => {}
-            (Ok(_), _) => self.registry.repositories.add(&self.repo),
+        if answer.is_ok() {
+            self.registry.repositories.add(&self.repo);
+        }
+        if let Some(entering) = entering {
+            entering.settle();
         }
         self.check_limit(answer, Limit::Uploads)
     }
@@ -407,7 +408,7 @@ impl Registry {
     /// Abandons an upload. If the store fails to, the upload is tried again later.
     async fn abandon(&self, name: Uuid, upload: Upload) -> Result<(), StoreUnavailable> {
         let repo = &upload.repo;
-        match self.store.abandon(repo, upload.session).await {
+        match self.abandon_session(repo, upload.session).await {
             Ok(Ok(())) => {
                 tracing::info!(repo, "abandoned an unused upload");
                 self.uploads.forget(upload);

@@ -1,7 +1,8 @@
 //! The start of a registry with a folder: reads the database, and compares it with the store.
 //!
 //! The store is asked about each manifest and each open upload. So after any crash no tag and no list of referrers names a
-//! missing manifest, and each open upload has a name and is abandoned if nobody continues it.
+//! missing manifest, and each open upload has a name and is abandoned if nobody continues it. Empty repositories are
+//! removed.
 use crate::clock::now;
 use crate::database::{Database, ManifestRow, Rows, UploadRow};
 use crate::document::{self, Facts};
@@ -72,9 +73,11 @@ pub async fn recover(store: &Store, folder: PathBuf, is_synced: bool, had_log: b
     findings.changes.extend(missing.iter().map(ManifestRow::removal));
     drop_missing(&mut rows, &missing);
     findings.changes.extend(complete(store, &mut rows.manifests).await.map_err(unavailable)?);
+    rows.add_probes(store);
     for (tenant, repos) in by_tenant(store, &rows.repositories) {
         find_uploads(store, tenant, &repos, &rows, &mut findings).await.map_err(unavailable)?;
     }
+    findings.changes.extend(remove_unused(store, &mut rows.repositories).await.map_err(unavailable)?);
     if !missing.is_empty() {
         tracing::warn!(count = missing.len(), "dropped manifests that the store does not have, with their tags");
     }
@@ -109,6 +112,17 @@ async fn blocking<T: Send + 'static>(work: impl FnOnce() -> Result<T, Failure> +
 impl ManifestRow {
     fn removal(&self) -> Change {
         Change::RemoveManifest { repo: self.repo.clone(), digest: self.digest.clone() }
+    }
+}
+
+impl Rows {
+    /// Adds a repository of each tenant that has a recorded number and no repository: without one the tenant's next
+    /// number cannot be found. It is empty, so it is removed again.
+    fn add_probes(&mut self, store: &Store) {
+        let with_repos: HashSet<&str> = self.repositories.iter().map(|repo| tenant_of(repo)).collect();
+        let bare = self.recorded.keys().filter(|tenant| store.has_tenant(tenant) && !with_repos.contains(&***tenant));
+        let probes: Vec<String> = bare.cloned().collect();
+        self.repositories.extend(probes);
     }
 }
 
@@ -222,6 +236,27 @@ async fn find_uploads(
     }
     findings.recorded.push((tenant.to_string(), next.unwrap_or(last)));
     Ok(())
+}
+
+/// Removes the repositories that are empty, or that the store does not have. A crash may leave them, and so does the
+/// search for uploads. Returns the changes that remove their records. Those of other tenants stay.
+async fn remove_unused(store: &Store, repos: &mut Vec<String>) -> Result<Vec<Change>, StoreUnavailable> {
+    let (own, other): (Vec<String>, Vec<String>) = repos.drain(..).partition(|repo| store.has_tenant(repo));
+    let requests: Vec<Request<'_>> =
+        own.iter().map(|repo| Request { repo, ..Request::new(Command::RemoveRepo) }).collect();
+    let answers = store.ask_each(&requests).await?;
+    *repos = other;
+    let mut changes = Vec::new();
+    for (repo, answer) in own.into_iter().zip(answers) {
+        match answer {
+            Ok(_) | Err(Refusal { reason: Reason::NameUnknown, .. }) => changes.push(Change::RemoveRepository { repo }),
+            Err(_) => repos.push(repo),
+        }
+    }
+    if !changes.is_empty() {
+        tracing::info!(count = changes.len(), "removed empty repositories");
+    }
+    Ok(changes)
 }
 
 fn status_request(repo: &str, number: u32) -> Request<'_> {

@@ -384,6 +384,12 @@ impl Store {
         Ok(answer.map(|_| ()))
     }
 
+    /// Removes a repository that has no link, no manifest and no session.
+    pub async fn remove_repo(&self, repo: &str) -> Answer<()> {
+        let answer = self.ask(Request { repo, ..Request::new(Command::RemoveRepo) }).await?;
+        Ok(answer.map(|_| ()))
+    }
+
     /// Returns the size of a blob that is linked in a repository.
     pub async fn stat(&self, repo: &str, digest: &str) -> Answer<u64> {
         let answer = self.ask(Request { repo, digest, ..Request::new(Command::Stat) }).await?;

@@ -26,8 +26,9 @@ pub async fn open(call: &Call, content: &mut RequestContent) -> HandlerResult {
             loose.end_link(&call.repo, &digest, &mounted);
         }
         drop(turn);
-        let mounted = mounted?;
-        return match call.check_entered(mounted, &mut entering)? {
+        let mounted = call.check_entered(mounted?, &mut entering)?;
+        drop(entering);
+        return match mounted {
             MountResult::Linked => stored_response(call, &digest),
             MountResult::Session(session) => mounted_response(call, session).await,
         };
@@ -44,7 +45,7 @@ pub async fn open(call: &Call, content: &mut RequestContent) -> HandlerResult {
     let uploads = &call.registry.uploads;
     let mut adding = uploads.enter(&call.repo, uploads.add(&call.repo, session))?.add();
     let closed = take_and_close(call, &mut adding, Place { start: 0, len: content.len }, &digest, content).await;
-    if closed.is_ok() || store.abandon(&call.repo, session).await?.is_ok() {
+    if closed.is_ok() || call.registry.abandon_session(&call.repo, session).await?.is_ok() {
         uploads.remove(&adding.upload.name);
     }
     closed?;
@@ -88,7 +89,7 @@ pub async fn close(call: &Call, name: &str, content: &mut RequestContent) -> Han
 /// end-14: abandons an upload.
 pub async fn abandon(call: &Call, name: &str) -> HandlerResult {
     let upload = find(call, name)?;
-    call.registry.store.abandon(&call.repo, upload.session).await??;
+    call.registry.abandon_session(&call.repo, upload.session).await??;
     call.registry.uploads.remove(&upload.name);
     empty(StatusCode::NO_CONTENT, &[])
 }
@@ -109,7 +110,7 @@ fn opened_response(call: &Call, session: u32) -> HandlerResult {
 async fn mounted_response(call: &Call, session: u32) -> HandlerResult {
     let name = call.registry.uploads.add(&call.repo, session);
     if let Err(fault) = call.check_disk() {
-        if call.registry.store.abandon(&call.repo, session).await?.is_ok() {
+        if call.registry.abandon_session(&call.repo, session).await?.is_ok() {
             call.registry.uploads.remove(&name);
         }
         return Err(fault);

@@ -11,7 +11,7 @@ STUBS = {
     "registryd/build": '#!/bin/sh\necho "$(dirname "$0")/../stub"\n',
     "package/unproved": '#!/bin/sh\nmkdir -p "${1%/*}"\necho unproved > "$1"\nchmod +x "$1"\n"${0%/*}/sources" > "$1.sources"\necho built\n',
     # A proof ends when the file `go` is there, and fails without the file `provable`.
-    "bin/rt": '#!/bin/sh\ncase $1 in\nversion) echo kit 1 ;;\n*) top=$PWD/../..\n   while [ ! -e "$top/go" ]; do sleep 0.02; done\n'
+    "bin/rt": '#!/bin/sh\ncase $1 in\nversion) echo kit 1 ;;\n*) top=$PWD/../..\n   while [ -e "$top" ] && [ ! -e "$top/go" ]; do sleep 0.02; done\n'
               '   [ -e "$top/provable" ] || exit 1\n   echo proved > out/blobd\n   chmod +x out/blobd ;;\nesac\n',
     "crates/blobd/source": "1\n", "crates.txt": "blobd:\n", "HANDLES": "\n", "go": "", "provable": "", ".gitignore": "out/\ntarget/\n",
 }

@@ -2,11 +2,14 @@
 """Plays every flow of the OCI Distribution Specification 1.1 that the registry supports, one request after the other, and
 checks the specified status, headers and code. flows.py [HOST:PORT] plays them on a running registry with the tenants acme,
 other, and poor with 1,000,000 bytes. Without an address it starts one."""
-import random, sys, uuid
+import json, os, random, sys, uuid
 
-from server import Client, MANIFEST, manifest_of, serving, sha256, sha512
+from server import Client, INDEX, MANIFEST, manifest_of, serving, sha256, sha512
 
 PATCH = {"Content-Type": "application/octet-stream"}
+
+# The greatest number of repositories of a tenant.
+MOST_NAMES = 1024
 
 
 class Flows:
@@ -140,6 +143,54 @@ def manifests(flows):
     play("but not where it was mounted", "GET", f"acme/three/blobs/{sha256(abc)}", 200, content=abc)
 
 
+def names(flows):
+    """An empty repository is removed, so more names than a tenant may have at once can be used one after the other. With a
+    folder each request waits for the disk, so it is only a few."""
+    play, one, kind = flows.play, b"one", {"Content-Type": INDEX}
+    index = b'{"schemaVersion":2,"manifests":[]}'
+    opening, blob = f"blobs/uploads/?digest={sha256(one)}", f"blobs/{sha256(one)}"
+    numbers = range(6 if "WITH_FOLDER" in os.environ else MOST_NAMES + 6)
+
+    def count():
+        tenants = json.loads(flows.client.ask("GET", "/status").body)["tenants"]
+        return next(tenant["repositories"] for tenant in tenants if tenant["name"] == "poor")
+
+    def counts(name, wanted):
+        found = count()
+        flows.good, flows.wrong = flows.good + (found == wanted), flows.wrong + (found != wanted)
+        if found != wanted:
+            print(f"WRONG {name}: {found} repositories for {wanted}")
+
+    before = count()
+    for number in numbers:
+        play("a blob of a new name", "POST", f"poor/n{number}/{opening}", 201, one, PATCH)
+        play("the last blob of a name", "DELETE", f"poor/n{number}/{blob}", 202)
+    counts("after deletes of blobs", before)
+    for number in numbers:
+        play("the upload of a new name", "DELETE", flows.opened(f"poor/u{number}"), 204)
+    counts("after deletes of uploads", before)
+    play("an index alone", "PUT", f"poor/kept/manifests/{sha256(index)}", 201, index, kind)
+    play("a blob", "POST", f"poor/kept/{opening}", 201, one, PATCH)
+    upload = flows.opened("poor/kept")
+    play("a manifest and an upload are left", "DELETE", f"poor/kept/{blob}", 202)
+    counts("with a manifest and an upload", before + 1)
+    play("an upload is left", "DELETE", f"poor/kept/manifests/{sha256(index)}", 202)
+    counts("with an upload", before + 1)
+    play("a blob again", "POST", f"poor/kept/{opening}", 201, one, PATCH)
+    play("a blob is left", "DELETE", upload, 204)
+    counts("with a blob", before + 1)
+    play("nothing is left", "DELETE", f"poor/kept/{blob}", 202)
+    counts("with nothing", before)
+    for path, code in ((blob, "BLOB_UNKNOWN"), (f"manifests/{sha256(index)}", "MANIFEST_UNKNOWN"), ("tags/list", "NAME_UNKNOWN")):
+        play("of a removed repository", "GET", f"poor/kept/{path}", 404, code=code)
+    play("a blob of a removed repository", "DELETE", f"poor/kept/{blob}", 404, code="BLOB_UNKNOWN")
+    play("a monolithic upload that is refused", "POST", f"poor/bad/blobs/uploads/?digest={sha256(b'two')}", 400, one, PATCH, code="DIGEST_INVALID")
+    counts("after a refused upload", before)
+    play("the name can be used again", "POST", f"poor/kept/{opening}", 201, one, PATCH)
+    play("and is removed again", "DELETE", f"poor/kept/{blob}", 202)
+    counts("at the end", before)
+
+
 def refusals(flows):
     play, big = flows.play, random.Random(1).randbytes(3_000_000)
     play("a bad name", "POST", "Acme/one/blobs/uploads/", 400, code="NAME_INVALID")
@@ -161,7 +212,7 @@ def refusals(flows):
 def main():
     def play(address):
         flows = Flows(address)
-        for part in (blobs, manifests, refusals):
+        for part in (blobs, manifests, names, refusals):
             part(flows)
         print(f"flows: {flows.good} passed, {flows.wrong} failed")
         return flows.wrong == 0

@@ -432,6 +432,33 @@ def refused_uploads_leave_no_repository():
             assert rows.execute("SELECT name FROM repositories").fetchall() == [("acme/full",)]
 
 
+def a_start_removes_empty_repositories():
+    """A crash may leave the record of a repository that is empty, or that the store does not have. Also a start without any other one finds
+    the next number of an upload."""
+    with folder() as path:
+        with serving("--data", path) as server:
+            assert server.client().ask("DELETE", opened(server.client(), "acme/gone")).status == 204
+            by_signal(server)
+        for _ in range(2):
+            with database(path) as rows:
+                assert rows.execute("SELECT name FROM repositories").fetchall() == []
+                rows.execute("INSERT INTO repositories (name) VALUES ('acme/a'), ('acme/z')")
+            with serving("--data", path) as server:
+                assert repositories_of(server, "acme") == []
+                by_signal(server)
+        with serving("--data", path) as server:
+            pushed(server.client(), "acme/kept")
+            opened(server.client(), "acme/open")
+            by_kill_of_both(server)
+        with serving("--data", path) as server:
+            assert repositories_of(server, "acme") == ["acme/kept", "acme/open"]
+
+
+def repositories_of(server, tenant):
+    page = json.loads(server.client().ask("GET", f"/status?tenant={tenant}").body)
+    return [repo["name"] for repo in page["repositories"]]
+
+
 def a_registry_that_is_never_synced_survives_the_end_of_the_programs():
     with folder() as path:
         for way in WAYS:
@@ -478,7 +505,7 @@ def main():
         a_name_is_made_by_this_registry_alone, a_manifest_without_its_tag_is_found, a_tag_without_its_manifest_is_dropped,
         referrers_are_the_same_after_a_restart, a_database_of_version_1_is_taken_over, an_interrupted_push_of_a_referrer_is_found,
         a_database_that_is_lost_costs_the_tags, numbers_that_return_get_other_names,
-        a_tag_that_many_move_at_once_is_the_same_after_a_restart, refused_uploads_leave_no_repository,
+        a_tag_that_many_move_at_once_is_the_same_after_a_restart, refused_uploads_leave_no_repository, a_start_removes_empty_repositories,
         a_registry_that_is_never_synced_survives_the_end_of_the_programs, the_folder_is_measured])
 
 

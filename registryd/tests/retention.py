@@ -151,6 +151,9 @@ def blobs_go_with_the_last_manifest():
         assert client.ask("DELETE", f"/v2/{repo}/manifests/{sha256(second)}").status == 202
         assert until(lambda: free() == 64, 3 * SECONDS), free()
         assert server.left() is None
+        # Both repositories are empty, so they are removed.
+        repositories = lambda: json.loads(client.ask("GET", "/status?tenant=acme").body)["repositories"]
+        assert until(lambda: repositories() == [], SECONDS), repositories()
 
 
 def a_push_waits_for_the_unlink_of_its_blob():

@@ -2,6 +2,7 @@
 import collections
 import contextlib
 import http.client
+import json
 import random
 import shutil
 import signal
@@ -313,6 +314,8 @@ class Lane:
         """Returns what is left in the store after everything was deleted."""
         left = {tenant: server.metric(f'registryd_tenant_used_bytes{{tenant="{tenant}"}}') for tenant in self.folder.facts.tenants}
         left["uploads"] = server.metric("registryd_uploads")
+        status = json.loads(server.client().ask("GET", "/status").body)
+        left["repositories"] = sum(one["repositories"] for one in status["tenants"] if one["name"] in self.folder.facts.tenants)
         if not self.folder.has_podman:
             left["slots"] = SLOTS - server.metric("registryd_free_slots")
         return {name: value for name, value in left.items() if value}
