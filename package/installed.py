@@ -195,7 +195,9 @@ def run_in_podman(image, folder):
     podman = ["podman", *places, "--cgroup-manager", "cgroupfs", "--events-backend", "none"]
     if not shutil.which("podman"):
         return "no podman"
-    made = run(*podman, "pull", "--quiet", image).strip()
+    # Podman makes a name of the path, and a name has no capital letters.
+    kind, place, version = image.split(":", 2)
+    made = run(*podman, "pull", "--quiet", f"{kind}:{os.path.basename(place)}:{version}", cwd=os.path.dirname(place)).strip()
     address = f"127.0.0.1:{free_port()}"
     # Podman's own limits need CAP_SYS_RESOURCE.
     limits = ["--ulimit", "nofile=4096:4096", "--ulimit", "nproc=4096:4096"]
