@@ -127,9 +127,8 @@ impl Users {
             if line.is_empty() || line.starts_with('#') {
                 continue;
             }
-            let (user, hash) = parse_line(line, &mut tried).map_err(|why| {
-                io::Error::new(io::ErrorKind::InvalidData, format!("line {}: {why}", at + 1))
-            })?;
+            let (user, hash) = parse_line(line, &mut tried)
+                .map_err(|why| io::Error::new(io::ErrorKind::InvalidData, format!("line {}: {why}", at + 1)))?;
             hashes.insert(user.to_string(), hash.to_string());
         }
         Ok(Users::of(hashes))
@@ -236,9 +235,7 @@ fn crypt_hash(password: &str, hash: &str) -> Option<Vec<u8>> {
     let (phrase, setting) = (CString::new(password).ok()?, CString::new(hash).ok()?);
     let mut data = vec![0u64; CRYPT_LEN / 8];
     // SAFETY: both texts end with a zero byte, and `data` has `CRYPT_LEN` zero bytes.
-    let found = unsafe {
-        crypt_rn(phrase.as_ptr(), setting.as_ptr(), data.as_mut_ptr().cast(), CRYPT_LEN as libc::c_int)
-    };
+    let found = unsafe { crypt_rn(phrase.as_ptr(), setting.as_ptr(), data.as_mut_ptr().cast(), CRYPT_LEN as libc::c_int) };
     if found.is_null() {
         return None;
     }
@@ -473,7 +470,9 @@ mod tests {
         assert_eq!(of(b"Basic Og=="), Credentials::Missing);
         assert_eq!((of(b"Basic YTo="), of(b"Basic OmI=")), (sent("a", ""), sent("", "b")));
         assert_eq!(of(b"bearer  a.b.c "), Credentials::Token("a.b.c".to_string()));
-        for text in [&b""[..], b"Basic", b"Basic ", b"Basic !", b"Basic YQ==", b"Basic /w==", b"Bearer", b"Digest a", b"\xff \xff"] {
+        for text in
+            [&b""[..], b"Basic", b"Basic ", b"Basic !", b"Basic YQ==", b"Basic /w==", b"Bearer", b"Digest a", b"\xff \xff"]
+        {
             assert_eq!(of(text), Credentials::Invalid, "{text:?}");
         }
     }

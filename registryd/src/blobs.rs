@@ -3,11 +3,11 @@ use crate::conditional::{entity_tag, has_content, is_range_wanted, not_modified}
 use crate::content::HELD_LEN;
 use crate::fault::Fault;
 use crate::frames::Refusal;
-use crate::store_connection::WHOLE_LEN;
 use crate::memory::Reserved;
 use crate::range::{requested_range, Part, RequestedRange, MAX_PLACE};
-use crate::registry::{empty, with_body, Call, Registry, HandlerResult};
+use crate::registry::{empty, with_body, Call, HandlerResult, Registry};
 use crate::store::{Answer, FetchResult, LeasedBlob, StoreUnavailable, MAX_FETCHED};
+use crate::store_connection::WHOLE_LEN;
 use bytes::Bytes;
 use hyper::body::Sender;
 use hyper::{Body, StatusCode};

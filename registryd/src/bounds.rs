@@ -63,9 +63,8 @@ impl Bounds {
     ///
     /// Fails with the first bound that would be exceeded: manifests, their bytes, tags.
     pub fn check(&self, used: Totals, added: Totals) -> Result<(), Excess> {
-        let exceeded = |most: Option<u64>, used: u64, added: u64| {
-            most.filter(|most| added > 0 && added > most.saturating_sub(used))
-        };
+        let exceeded =
+            |most: Option<u64>, used: u64, added: u64| most.filter(|most| added > 0 && added > most.saturating_sub(used));
         if let Some(most) = exceeded(self.manifests, used.manifests, added.manifests) {
             return Err(Excess::Manifests { most });
         }
@@ -96,7 +95,7 @@ mod tests {
         let excess = Excess::ManifestBytes { used: 60, added: 41, most: 100 };
         assert_eq!(bounds.check(totals(1, 60, 3), totals(1, 41, 1)), Err(excess));
         assert_eq!(bounds.check(totals(1, 60, 3), totals(1, 40, 1)), Err(Excess::Tags { most: 3 }));
-        assert_eq!(bounds.check(totals(1, 0, 0), totals(1, u64::MAX, 0)).is_err(), true);
+        assert!(bounds.check(totals(1, 0, 0), totals(1, u64::MAX, 0)).is_err());
     }
 
     #[test]

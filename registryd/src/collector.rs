@@ -31,7 +31,12 @@ impl SweepRequests {
         let next = self.begun.load(Ordering::SeqCst) + 1;
         self.asked.notify_one();
         let has_ended = async {
-            while *ended.borrow_and_update() < next && ended.changed().await.is_ok() {}
+            loop {
+                let seen = *ended.borrow_and_update();
+                if seen >= next || ended.changed().await.is_err() {
+                    break;
+                }
+            }
         };
         let _ = timeout(limit, has_ended).await;
     }

@@ -7,9 +7,9 @@ use std::time::Duration;
 
 use crate::exchange::Exchange;
 use crate::fault::Fault;
-use crate::store_connection::WHOLE_LEN;
 use crate::memory::{self, Memory, Reserved};
 use crate::metrics::Metrics;
+use crate::store_connection::WHOLE_LEN;
 
 /// The maximum length of a piece. A request holds the pieces that are being sent, one that waits, and one that is being
 /// read.

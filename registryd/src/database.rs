@@ -206,8 +206,7 @@ impl Database {
 
     /// Returns the secret of the names of uploads, and makes it if there is none.
     fn secret(&mut self) -> rusqlite::Result<Secret> {
-        let found: Vec<Vec<u8>> =
-            all(&self.connection, "SELECT value FROM settings WHERE name = 'secret'", |row| row.get(0))?;
+        let found: Vec<Vec<u8>> = all(&self.connection, "SELECT value FROM settings WHERE name = 'secret'", |row| row.get(0))?;
         if let Some(Ok(bytes)) = found.first().map(|bytes| <[u8; SECRET_LEN]>::try_from(&bytes[..])) {
             return Ok(Secret(bytes));
         }
@@ -217,8 +216,7 @@ impl Database {
     /// Makes another secret. Names that were made with the one before are unknown from now on.
     pub fn renew_secret(&mut self) -> rusqlite::Result<Secret> {
         let secret = Secret::random().map_err(|error| rusqlite::Error::ToSqlConversionFailure(error.into()))?;
-        self.connection
-            .execute("INSERT OR REPLACE INTO settings (name, value) VALUES ('secret', ?1)", params![&secret.0[..]])?;
+        self.connection.execute("INSERT OR REPLACE INTO settings (name, value) VALUES ('secret', ?1)", params![&secret.0[..]])?;
         Ok(secret)
     }
 

@@ -43,7 +43,10 @@ enum Part {
     #[default]
     Null,
     Text(String),
-    Descriptor { media_type: Option<String>, digest: Option<String> },
+    Descriptor {
+        media_type: Option<String>,
+        digest: Option<String>,
+    },
     /// The digests of the descriptors in an array.
     Digests(Vec<String>),
     Other,
@@ -396,7 +399,18 @@ mod tests {
             assert!(is_digest(text), "{text}");
         }
         for text in [
-            "", ":", "sha256", "sha256:", "sha256:0", "SHA256:00", "sha512:00", "a+:b", "+a:b", "a:b c", "a:b:c", "a:",
+            "",
+            ":",
+            "sha256",
+            "sha256:",
+            "sha256:0",
+            "SHA256:00",
+            "sha512:00",
+            "a+:b",
+            "+a:b",
+            "a:b c",
+            "a:b:c",
+            "a:",
             &*format!("sha256:{}", hex("0A", 32)),
             &format!("sha256:{}", hex("0", 65)),
             &format!("{longest}b"),

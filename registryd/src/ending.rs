@@ -27,10 +27,11 @@ impl Failure {
             (Some(5), _) => (1, "out of memory: give the store more, or lower --slots, --max-blob or the quotas"),
             (Some(6), _) => (6, "the folder of --data or a file in it cannot be used: see to its rights and its disk"),
             (Some(7), _) => (7, "another process has the folder of --data: end that one"),
-            (Some(8), _) => {
-                (8, "the log in the folder of --data is damaged, or is no log of this version: restore a backup, or accept \
-                     the loss with --accept-loss-after and the byte that blobd names")
-            }
+            (Some(8), _) => (
+                8,
+                "the log in the folder of --data is damaged, or is no log of this version: restore a backup, or accept \
+                     the loss with --accept-loss-after and the byte that blobd names",
+            ),
             (Some(9), _) => (9, "the log cannot be written any more: make room or replace the disk, and start again"),
             (Some(10), _) => {
                 (10, "the log needs other settings: start with the tenant, quota, share, --slots or --max-blob that blobd names")

@@ -152,13 +152,10 @@ impl Fault {
     pub fn bound(excess: Excess, tenant: &str) -> Fault {
         let has_maximum = |most: u64, what: &str| format!("tenant {tenant} may have at most {most} {what}: delete one");
         let (message, detail) = match excess {
-            Excess::Manifests { most } => {
-                (has_maximum(most, "manifests"), json!({ "limit": "tenant_manifests", "most": most }))
-            }
+            Excess::Manifests { most } => (has_maximum(most, "manifests"), json!({ "limit": "tenant_manifests", "most": most })),
             Excess::Tags { most } => (has_maximum(most, "tags"), json!({ "limit": "tenant_tags", "most": most })),
             Excess::ManifestBytes { used, added, most } => {
-                let message =
-                    format!("tenant {tenant} has {used} bytes of manifests: {added} more exceed the maximum of {most}");
+                let message = format!("tenant {tenant} has {used} bytes of manifests: {added} more exceed the maximum of {most}");
                 (message, json!({ "limit": "tenant_manifest_bytes", "most": most, "used": used }))
             }
         };
@@ -204,9 +201,7 @@ impl From<DatabaseUnavailable> for Fault {
 impl From<Refusal> for Fault {
     fn from(refusal: Refusal) -> Fault {
         let Refusal { reason, first, second, digest } = refusal;
-        let soon = |code, message: &str| {
-            Fault::new(StatusCode::TOO_MANY_REQUESTS, code, message).with_header("Retry-After", "1")
-        };
+        let soon = |code, message: &str| Fault::new(StatusCode::TOO_MANY_REQUESTS, code, message).with_header("Retry-After", "1");
         match reason {
             Reason::NameInvalid => Fault::new(StatusCode::BAD_REQUEST, "NAME_INVALID", "the repository name is invalid"),
             Reason::DigestInvalid => {
@@ -229,15 +224,14 @@ impl From<Refusal> for Fault {
                 .with_detail(json!({ "used": first, "quota": second })),
             Reason::Referenced => Fault::new(StatusCode::FORBIDDEN, "DENIED", "a manifest refers to the blob")
                 .with_detail(json!({ "manifest": digest })),
-            Reason::StoreFull => {
-                Fault::new(StatusCode::INSUFFICIENT_STORAGE, "UNSUPPORTED", "the store has no free slot")
-                    .with_header("Retry-After", "1")
-            }
+            Reason::StoreFull => Fault::new(StatusCode::INSUFFICIENT_STORAGE, "UNSUPPORTED", "the store has no free slot")
+                .with_header("Retry-After", "1"),
             Reason::TooManyReaders => soon("TOOMANYREQUESTS", "the blob has too many readers"),
             // Limits are named by `Fault::limit` and `Fault::full_share`, except those of totals that no store reaches.
             Reason::LimitReached => Fault::new(StatusCode::FORBIDDEN, "DENIED", "a limit of the store is reached"),
-            Reason::Memory => Fault::new(StatusCode::SERVICE_UNAVAILABLE, "UNSUPPORTED", "out of memory")
-                .with_header("Retry-After", "1"),
+            Reason::Memory => {
+                Fault::new(StatusCode::SERVICE_UNAVAILABLE, "UNSUPPORTED", "out of memory").with_header("Retry-After", "1")
+            }
             Reason::Busy => soon("TOOMANYREQUESTS", "another request is appending to the upload"),
             Reason::RepoInUse => Fault::new(StatusCode::CONFLICT, "DENIED", "the repository is in use"),
             Reason::WeightSpent | Reason::Other(_) => {

@@ -42,7 +42,7 @@ fn free_bytes(path: &Path) -> io::Result<u64> {
     let mut room: libc::statvfs = unsafe { std::mem::zeroed() };
     // SAFETY: the path ends with a zero byte, and `room` has room for the struct that the call writes.
     match unsafe { libc::statvfs(path.as_ptr(), &mut room) } {
-        0 => Ok(u64::from(room.f_bavail).saturating_mul(u64::from(room.f_frsize))),
+        0 => Ok(room.f_bavail.saturating_mul(room.f_frsize)),
         _ => Err(io::Error::last_os_error()),
     }
 }

@@ -187,16 +187,8 @@ mod tests {
     #[test]
     fn a_request_has_the_bytes_that_are_written_down() {
         let body = [Bytes::from_static(b"abc")];
-        let request = Request {
-            repo: "acme/web",
-            number: 7,
-            range: Some((0, 2)),
-            body: &body,
-            ..Request::new(Command::Append)
-        };
-        let head = [
-            3, 1, 8, 0, 0, 0, 0, 0, 7, 0, 0, 0, 3, 0, 0, 0, 0, 0, 0, 0, 0, 0, 0, 0, 2, 0, 0, 0, 0, 0, 0, 0,
-        ];
+        let request = Request { repo: "acme/web", number: 7, range: Some((0, 2)), body: &body, ..Request::new(Command::Append) };
+        let head = [3, 1, 8, 0, 0, 0, 0, 0, 7, 0, 0, 0, 3, 0, 0, 0, 0, 0, 0, 0, 0, 0, 0, 0, 2, 0, 0, 0, 0, 0, 0, 0];
         assert_eq!(request.head(), [&head[..], b"acme/web"].concat());
     }
 

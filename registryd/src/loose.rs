@@ -197,7 +197,7 @@ mod tests {
         assert_eq!((loose.unasked(ALWAYS), loose.unasked(NEVER)), (vec![key.clone()], vec![]));
         let time = Duration::from_millis(200);
         std::thread::sleep(time);
-        assert_eq!(loose.unasked(time), [key.clone()]);
+        assert_eq!(loose.unasked(time), vec![key.clone()]);
         assert!(loose.ask(&key.0, &key.1).is_ok() && loose.ask("acme/web", "sha256:b").is_ok());
         assert!(!loose.begin_unlink(&key, time) && loose.unasked(time).is_empty());
     }
@@ -227,7 +227,7 @@ mod tests {
         assert!(loose.ask(&key.0, &key.1).is_err());
         loose.keep_linked(&key, time);
         assert!(loose.ask(&key.0, &key.1).is_ok());
-        assert_eq!(loose.unasked(ALWAYS), [key.clone()]);
+        assert_eq!(loose.unasked(ALWAYS), vec![key.clone()]);
         loose.keep_linked(&key, ALWAYS);
         assert!(loose.unasked(ALWAYS).is_empty());
     }

@@ -90,8 +90,7 @@ pub async fn get(call: &Call, reference: &str) -> HandlerResult {
     if has_content(call, &digest) {
         return not_modified(&digest);
     }
-    let headers =
-        [("Content-Type", &*media_type), ("Docker-Content-Digest", &*digest), ("ETag", &*entity_tag(&digest))];
+    let headers = [("Content-Type", &*media_type), ("Docker-Content-Digest", &*digest), ("ETag", &*entity_tag(&digest))];
     with_body(StatusCode::OK, &headers, Body::from(bytes))
 }
 
@@ -103,12 +102,8 @@ pub async fn head(call: &Call, reference: &str) -> HandlerResult {
         return not_modified(&digest);
     }
     let (size, tag) = (size.to_string(), entity_tag(&digest));
-    let headers = [
-        ("Content-Type", &*media_type),
-        ("Docker-Content-Digest", &*digest),
-        ("ETag", &*tag),
-        ("Content-Length", &*size),
-    ];
+    let headers =
+        [("Content-Type", &*media_type), ("Docker-Content-Digest", &*digest), ("ETag", &*tag), ("Content-Length", &*size)];
     empty(StatusCode::OK, &headers)
 }
 
@@ -220,12 +215,7 @@ pub async fn delete(call: &Call, reference: &str) -> HandlerResult {
 
 /// Deletes a manifest and its tags. They are hidden from now on, and are shown again if the store does not delete it. Nothing
 /// is deleted if the manifest is to be kept. The repository is removed if it is empty then.
-pub async fn delete_manifest(
-    registry: &Registry,
-    repo: &str,
-    digest: &str,
-    removal: Removal,
-) -> Result<Result<(), Kept>, Fault> {
+pub async fn delete_manifest(registry: &Registry, repo: &str, digest: &str, removal: Removal) -> Result<Result<(), Kept>, Fault> {
     let Registry { store, tags, turns, .. } = registry;
     let turn = turns.take(repo, digest).await;
     let blobs = registry.blobs_to_loosen(repo, digest).await?;
@@ -252,9 +242,7 @@ pub async fn delete_manifest(
 pub async fn tags(call: &Call) -> HandlerResult {
     let wanted = WantedPage::of(call.head.uri.query())?;
     let page = call.registry.tags.page(&call.repo, &wanted.last, wanted.most);
-    let page = page.ok_or_else(|| {
-        Fault::new(StatusCode::NOT_FOUND, "NAME_UNKNOWN", "the repository has no manifests")
-    })?;
+    let page = page.ok_or_else(|| Fault::new(StatusCode::NOT_FOUND, "NAME_UNKNOWN", "the repository has no manifests"))?;
     let last = page.items.last().filter(|_| page.more);
     let link = last.map(|last| wanted.next(&format!("/v2/{}/tags/list", call.repo), last, &[]));
     page_response(&json!({ "name": call.repo, "tags": page.items }), link)

@@ -11,8 +11,7 @@ const IMAGE_TYPES: [&str; 2] =
 pub const INDEX_TYPE: &str = "application/vnd.oci.image.index.v1+json";
 
 /// The media types of an image index, the standard's first.
-const INDEX_TYPES: [&str; 2] =
-    [INDEX_TYPE, "application/vnd.docker.distribution.manifest.list.v2+json"];
+const INDEX_TYPES: [&str; 2] = [INDEX_TYPE, "application/vnd.docker.distribution.manifest.list.v2+json"];
 
 /// The media type of a manifest.
 #[derive(Debug, PartialEq, Eq)]

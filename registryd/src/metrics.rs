@@ -1,13 +1,15 @@
 //! The metrics for Prometheus.
 use hyper::{Method, StatusCode};
-use prometheus::{Encoder, HistogramOpts, HistogramVec, IntCounter, IntCounterVec, IntGauge, IntGaugeVec, Opts, Registry, TextEncoder};
+use prometheus::{
+    Encoder, HistogramOpts, HistogramVec, IntCounter, IntCounterVec, IntGauge, IntGaugeVec, Opts, Registry, TextEncoder,
+};
 use std::sync::atomic::{AtomicU64, Ordering};
 use std::sync::Arc;
 use std::time::Duration;
 
 use crate::folder::Folder;
 use crate::status::now;
-use crate::store::{StoreUnavailable, Store, SweepResult};
+use crate::store::{Store, StoreUnavailable, SweepResult};
 
 /// The media type of the text that Prometheus reads.
 pub const CONTENT_TYPE: &str = "text/plain; version=0.0.4";
@@ -239,13 +241,7 @@ impl Metrics {
     }
 
     /// Returns the text of all metrics. It asks the store for the free slots, and for each tenant's use, quota, blobs and share.
-    pub async fn text(
-        &self,
-        store: &Store,
-        tenants: &[String],
-        slots: u32,
-        uploads: usize,
-    ) -> Result<String, StoreUnavailable> {
+    pub async fn text(&self, store: &Store, tenants: &[String], slots: u32, uploads: usize) -> Result<String, StoreUnavailable> {
         let Inner { registry, free_slots, used, quota, blobs, share, .. } = &*self.0;
         self.0.uploads.set(uploads as i64);
         self.0.slots.set(i64::from(slots));

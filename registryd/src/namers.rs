@@ -47,11 +47,10 @@ mod tests {
             namers.add(named, namer);
         }
         let after = |namers: &Namers, last| namers.after("a", last).cloned().collect::<Vec<_>>();
-        assert_eq!((after(&namers, ""), after(&namers, "1"), after(&namers, "3")), (
-            vec!["1".to_string(), "2".to_string(), "3".to_string()],
-            vec!["2".to_string(), "3".to_string()],
-            vec![],
-        ));
+        assert_eq!(
+            (after(&namers, ""), after(&namers, "1"), after(&namers, "3")),
+            (vec!["1".to_string(), "2".to_string(), "3".to_string()], vec!["2".to_string(), "3".to_string()], vec![],)
+        );
         namers.remove("a", "1");
         namers.remove("a", "none");
         assert_eq!((namers.first("a").map(String::as_str), namers.first("b").map(String::as_str)), (Some("2"), Some("1")));

@@ -251,7 +251,8 @@ mod tests {
 
     #[test]
     fn an_issuer_has_three_names() {
-        let words = ["a=1", "--token-key", "k", "--token-realm", "https://a/token", "--token-service", "r", "--token-issuer", "i"];
+        let words =
+            ["a=1", "--token-key", "k", "--token-realm", "https://a/token", "--token-service", "r", "--token-issuer", "i"];
         let options = parsed(&[&words[..], &["--listen", "0.0.0.0:80"]].concat());
         assert!(options.conflict().is_none());
         assert_eq!(options.metrics_access(), MetricsAccess::Nobody);

@@ -39,9 +39,7 @@ impl WantedPage {
     pub fn of(query: Option<&str>) -> Result<WantedPage, Fault> {
         let most = match query_value(query, "n") {
             None => MAX_PAGE,
-            Some(text) => text
-                .parse()
-                .map_err(|_| Fault::new(StatusCode::BAD_REQUEST, "UNSUPPORTED", "n must be a number"))?,
+            Some(text) => text.parse().map_err(|_| Fault::new(StatusCode::BAD_REQUEST, "UNSUPPORTED", "n must be a number"))?,
         };
         Ok(WantedPage { last: query_value(query, "last").unwrap_or_default(), most: most.min(MAX_PAGE) })
     }

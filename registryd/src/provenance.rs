@@ -129,7 +129,8 @@ mod tests {
         let record = format!("sha256 {ABC}\ncommit 12ab\ntoolchain kit 1\nproved-by rt ci\ndate today\n");
         std::fs::write(share.join("blobd.proved"), &record).unwrap();
         let text = |text: &str| text.to_string();
-        let proved = Provenance::Proved { commit: text("12ab"), toolchain: text("kit 1"), by: text("rt ci"), date: text("today") };
+        let proved =
+            Provenance::Proved { commit: text("12ab"), toolchain: text("kit 1"), by: text("rt ci"), date: text("today") };
         assert_eq!(Provenance::of(&program), proved);
         let words = ["--slots".into(), "1".into(), "--blobd".into(), program.clone().into()];
         assert!(version(words.into_iter()).ends_with("store: proved by rt ci on today\ncommit: 12ab\ntoolchain: kit 1"));

@@ -16,10 +16,10 @@ use crate::path::{decoded, query_value, Target};
 use crate::provenance::Provenance;
 use crate::rights::{Demand, Right};
 use crate::status::{SweepHistory, View};
-use crate::store::{StoreUnavailable, Store};
+use crate::store::{Store, StoreUnavailable};
 use crate::tenants;
 use crate::turns::Turns;
-use crate::uploads::{UploadTimeouts, Upload, Uploads};
+use crate::uploads::{Upload, UploadTimeouts, Uploads};
 use crate::{blobs, manifests, referrers, repositories, retention, uploading};
 use hyper::body::HttpBody;
 use hyper::header::{EXPECT, HOST};
@@ -217,7 +217,7 @@ impl Call {
         }
         let (used, quota) = self.registry.store.usage(&self.repo).await??;
         // A request that closes an upload may have an empty body in chunked coding.
-        let least = content.len.unwrap_or(u64::from(self.head.method != Method::PUT));
+        let least = content.len.unwrap_or_else(|| u64::from(self.head.method != Method::PUT));
         if is_charged && least > quota.saturating_sub(used) {
             return Err(Refusal { reason: Reason::Quota, first: used, second: quota, digest: String::new() }.into());
         }
@@ -256,9 +256,7 @@ impl Registry {
         let begun = Instant::now();
         let method = request.method().clone();
         let metrics = self.metrics.clone();
-        let response = tokio::spawn(self.answer(request)).await.unwrap_or_else(|_| {
-            Fault::internal().into_response()
-        });
+        let response = tokio::spawn(self.answer(request)).await.unwrap_or_else(|_| Fault::internal().into_response());
         metrics.count_request(&method, response.status(), begun.elapsed());
         response
     }

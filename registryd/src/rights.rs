@@ -139,10 +139,14 @@ mod tests {
 
     #[test]
     fn a_prefix_is_of_whole_components() {
-        for (repo, prefix) in [("acme", "acme"), ("acme/app", "acme"), ("acme/app", "acme/app"), ("acme/app/x", "acme/app"), ("b", "*")] {
+        for (repo, prefix) in
+            [("acme", "acme"), ("acme/app", "acme"), ("acme/app", "acme/app"), ("acme/app/x", "acme/app"), ("b", "*")]
+        {
             assert!(is_below(repo, prefix), "{repo} {prefix}");
         }
-        for (repo, prefix) in [("acme/apple", "acme/app"), ("acmes/app", "acme"), ("acme", "acme/app"), ("b/acme", "acme"), ("", "acme")] {
+        for (repo, prefix) in
+            [("acme/apple", "acme/app"), ("acmes/app", "acme"), ("acme", "acme/app"), ("b/acme", "acme"), ("", "acme")]
+        {
             assert!(!is_below(repo, prefix), "{repo} {prefix}");
         }
     }
@@ -173,9 +177,21 @@ mod tests {
     #[test]
     fn bad_lines_are_errors() {
         let lines = [
-            "acme", "acme read", "acme read acme extra", "acme reed acme", "acme Read acme", "acme read, acme", "acme , acme",
-            "* write acme", "* read,delete acme", "acme read acme/", "acme read /acme", "acme read Acme", "acme read acme/*",
-            "acme read ..", "acme\u{0}read acme",
+            "acme",
+            "acme read",
+            "acme read acme extra",
+            "acme reed acme",
+            "acme Read acme",
+            "acme read, acme",
+            "acme , acme",
+            "* write acme",
+            "* read,delete acme",
+            "acme read acme/",
+            "acme read /acme",
+            "acme read Acme",
+            "acme read acme/*",
+            "acme read ..",
+            "acme\u{0}read acme",
         ];
         for line in lines {
             let why = Rights::parse(&format!("# rights\nacme read acme\n{line}\n")).unwrap_err();

@@ -242,8 +242,7 @@ async fn find_uploads(
 /// search for uploads. Returns the changes that remove their records. Those of other tenants stay.
 async fn remove_unused(store: &Store, repos: &mut Vec<String>) -> Result<Vec<Change>, StoreUnavailable> {
     let (own, other): (Vec<String>, Vec<String>) = repos.drain(..).partition(|repo| store.has_tenant(repo));
-    let requests: Vec<Request<'_>> =
-        own.iter().map(|repo| Request { repo, ..Request::new(Command::RemoveRepo) }).collect();
+    let requests: Vec<Request<'_>> = own.iter().map(|repo| Request { repo, ..Request::new(Command::RemoveRepo) }).collect();
     let answers = store.ask_each(&requests).await?;
     *repos = other;
     let mut changes = Vec::new();

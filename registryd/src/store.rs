@@ -2,9 +2,9 @@
 use crate::appending::{append_on, append_request, range_of};
 use crate::ending::Failure;
 use crate::frames::{Command, Refusal, Reply, Request};
-use crate::store_connection::{self, Frame, PeerEnds, StoreConnection, PIPE_LEN};
 use crate::pool::{ConnectionPool, PoolError, PooledConnection};
 use crate::process;
+use crate::store_connection::{self, Frame, PeerEnds, StoreConnection, PIPE_LEN};
 use crate::undo::{undo_on, Undo};
 use crate::writer::Writer;
 use bytes::Bytes;
@@ -147,7 +147,11 @@ impl Store {
         }
         let shortest = connections.iter().map(|connection| connection.room).min().unwrap_or(PIPE_LEN);
         if shortest < PIPE_LEN {
-            tracing::warn!(bytes = shortest, wanted = PIPE_LEN, "pipes to the store are short: see pipe-user-pages-soft, --lines");
+            tracing::warn!(
+                bytes = shortest,
+                wanted = PIPE_LEN,
+                "pipes to the store are short: see pipe-user-pages-soft, --lines"
+            );
         }
         let failed = |error| Failure::new(format!("cannot start the store: {}: {error}", setup.blobd.display()));
         let mut child = process::spawn(command).map_err(failed)?;

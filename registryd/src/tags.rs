@@ -263,7 +263,11 @@ impl Repository {
             Removal::UnheldSince(time) => match self.manifest(digest) {
                 Some(manifest) if manifest.since <= time && self.holder(digest).is_none() => {
                     let is_tagged = self.tags.values().any(|tagged| tagged == digest);
-                    if is_tagged { Err(Kept::Held) } else { Ok(()) }
+                    if is_tagged {
+                        Err(Kept::Held)
+                    } else {
+                        Ok(())
+                    }
                 }
                 _ => Err(Kept::Held),
             },
@@ -347,13 +351,7 @@ impl Tags {
     }
 
     /// Notes that a push begins, if it exceeds no bound. No other push of the tenant comes between the check and the note.
-    fn begin_push(
-        &self,
-        repo: &str,
-        (digest, size): (&str, u64),
-        tag: Option<&str>,
-        bounds: &Bounds,
-    ) -> Result<(), Excess> {
+    fn begin_push(&self, repo: &str, (digest, size): (&str, u64), tag: Option<&str>, bounds: &Bounds) -> Result<(), Excess> {
         let found = self.made(repo);
         let mut found = found.lock().unwrap();
         let before = found.totals();
@@ -372,9 +370,7 @@ impl Tags {
     /// Removes a repository that has nothing, unless another request uses it.
     fn forget_empty(&self, repo: &str) {
         let mut repos = self.repos.write().unwrap();
-        let is_unused = |found: &Arc<Mutex<Repository>>| {
-            Arc::strong_count(found) == 1 && found.lock().unwrap().is_empty()
-        };
+        let is_unused = |found: &Arc<Mutex<Repository>>| Arc::strong_count(found) == 1 && found.lock().unwrap().is_empty();
         if repos.get(repo).map_or(false, is_unused) {
             repos.remove(repo);
         }
@@ -430,8 +426,7 @@ impl Tags {
     /// Removes all tags of a manifest, and returns them.
     pub fn take_tags_of(&self, repo: &str, digest: &str) -> Vec<String> {
         let take = |repo: &mut Repository| {
-            let tags: Vec<String> =
-                repo.tags.iter().filter(|(_, named)| *named == digest).map(|(tag, _)| tag.clone()).collect();
+            let tags: Vec<String> = repo.tags.iter().filter(|(_, named)| *named == digest).map(|(tag, _)| tag.clone()).collect();
             repo.tags.retain(|_, named| named != digest);
             tags
         };
@@ -461,9 +456,7 @@ impl Tags {
 
     /// Returns the facts of a manifest, marked or not, and since when it is held as it is.
     pub fn any_facts(&self, repo: &str, digest: &str) -> Option<(Facts, u64)> {
-        let find = |repo: &mut Repository| {
-            repo.manifests.get(digest).map(|manifest| (manifest.facts.clone(), manifest.since))
-        };
+        let find = |repo: &mut Repository| repo.manifests.get(digest).map(|manifest| (manifest.facts.clone(), manifest.since));
         self.with(repo, find).flatten()
     }
 
@@ -745,8 +738,7 @@ mod tests {
     fn a_request_for_a_manifest_is_recorded_once_in_an_hour() {
         let tags = Tags::default();
         tags.add("sha256:a", TYPE, None);
-        let recorded: Vec<u64> =
-            (0..4 * RECORDED).step_by(600).filter(|now| tags.touch("acme/web", "sha256:a", *now)).collect();
+        let recorded: Vec<u64> = (0..4 * RECORDED).step_by(600).filter(|now| tags.touch("acme/web", "sha256:a", *now)).collect();
         assert_eq!(recorded, [RECORDED + 600, 2 * RECORDED + 600, 3 * RECORDED + 600]);
         assert_eq!(tags.any_facts("acme/web", "sha256:a").unwrap().1, 4 * RECORDED - 600);
         assert!(!tags.touch("acme/web", "sha256:b", 9 * RECORDED) && !tags.touch("acme/none", "sha256:a", 9 * RECORDED));

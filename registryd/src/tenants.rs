@@ -37,7 +37,9 @@ pub fn tenant_word(word: &str) -> Result<String, String> {
 
 /// Returns whether a text is a number in decimal digits that is at most `most`.
 fn is_number_within(text: &str, most: u64) -> bool {
-    !text.is_empty() && text.bytes().all(|byte| byte.is_ascii_digit()) && text.parse::<u64>().is_ok_and(|number| number <= most)
+    !text.is_empty()
+        && text.bytes().all(|byte| byte.is_ascii_digit())
+        && text.parse::<u64>().map_or(false, |number| number <= most)
 }
 
 /// Returns why a store cannot have these tenants, if it cannot.

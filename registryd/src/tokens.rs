@@ -17,7 +17,8 @@ const MAX_TOKEN: usize = 16 << 10;
 const LEEWAY: u64 = 60;
 
 /// The beginning of the DER of a public key on the curve P-256 (RFC 5480), up to the point.
-const P256: [u8; 26] = *b"\x30\x59\x30\x13\x06\x07\x2a\x86\x48\xce\x3d\x02\x01\x06\x08\x2a\x86\x48\xce\x3d\x03\x01\x07\x03\x42\x00";
+const P256: [u8; 26] =
+    *b"\x30\x59\x30\x13\x06\x07\x2a\x86\x48\xce\x3d\x02\x01\x06\x08\x2a\x86\x48\xce\x3d\x03\x01\x07\x03\x42\x00";
 
 /// The beginning of the DER of a public key of Ed25519 (RFC 8410), up to its 32 bytes.
 const ED25519: [u8; 12] = *b"\x30\x2a\x30\x05\x06\x03\x2b\x65\x70\x03\x21\x00";
@@ -167,10 +168,10 @@ impl Issuer {
                 Right::Write => "pull,push",
                 Right::Delete => "delete",
             };
-            text += &format!(",scope=\"repository:{}:{actions}\"", demand.repo);
+            text.extend([",scope=\"repository:", demand.repo, ":", actions, "\""]);
         }
         if let Some(error) = error {
-            text += &format!(",error=\"{error}\"");
+            text.extend([",error=\"", error, "\""]);
         }
         text
     }
@@ -226,7 +227,8 @@ mod tests {
     /// Returns good claims with other values for some. A value `null` removes the claim.
     fn claims(others: Value) -> Value {
         let access = json!([{ "type": "repository", "name": "acme/app", "actions": ["pull", "push"] }]);
-        let mut claims = json!({ "iss": "login", "aud": "registry", "sub": "jo", "exp": now() + 100, "nbf": now(), "access": access });
+        let mut claims =
+            json!({ "iss": "login", "aud": "registry", "sub": "jo", "exp": now() + 100, "nbf": now(), "access": access });
         for (name, value) in others.as_object().unwrap() {
             claims[name] = value.clone();
         }
@@ -260,16 +262,33 @@ mod tests {
         let pair = Pair::new();
         let issuer = issuer(&pair.public);
         for good in [
-            json!({ "exp": now() - 30 }), json!({ "nbf": now() + 30 }), json!({ "nbf": null, "sub": null, "access": null }),
-            json!({ "aud": ["other", "registry"] }), json!({ "access": [] }), json!({ "exp": now() as f64 + 0.5 }),
+            json!({ "exp": now() - 30 }),
+            json!({ "nbf": now() + 30 }),
+            json!({ "nbf": null, "sub": null, "access": null }),
+            json!({ "aud": ["other", "registry"] }),
+            json!({ "access": [] }),
+            json!({ "exp": now() as f64 + 0.5 }),
         ] {
             assert!(issuer.verify(&pair.token(good.clone())).is_some(), "{good}");
         }
         for bad in [
-            json!({ "exp": now() - 90 }), json!({ "exp": null }), json!({ "exp": "9999999999" }), json!({ "exp": -1 }),
-            json!({ "nbf": now() + 90 }), json!({ "nbf": "0" }), json!({ "nbf": [] }), json!({ "iss": "other" }), json!({ "iss": null }),
-            json!({ "iss": 1 }), json!({ "aud": "other" }), json!({ "aud": null }), json!({ "aud": [] }), json!({ "aud": 1 }),
-            json!({ "sub": 1 }), json!({ "access": "all" }), json!({ "access": [{}] }),
+            json!({ "exp": now() - 90 }),
+            json!({ "exp": null }),
+            json!({ "exp": "9999999999" }),
+            json!({ "exp": -1 }),
+            json!({ "nbf": now() + 90 }),
+            json!({ "nbf": "0" }),
+            json!({ "nbf": [] }),
+            json!({ "iss": "other" }),
+            json!({ "iss": null }),
+            json!({ "iss": 1 }),
+            json!({ "aud": "other" }),
+            json!({ "aud": null }),
+            json!({ "aud": [] }),
+            json!({ "aud": 1 }),
+            json!({ "sub": 1 }),
+            json!({ "access": "all" }),
+            json!({ "access": [{}] }),
             json!({ "access": [{ "type": "repository", "name": "a", "actions": "pull" }] }),
         ] {
             assert!(issuer.verify(&pair.token(bad.clone())).is_none(), "{bad}");
@@ -319,8 +338,23 @@ mod tests {
         let deep = base64::encode_config("[".repeat(9000), base64::URL_SAFE_NO_PAD);
         let (unsigned, other) = (format!("{}.{}.", parts[0], parts[1]), format!("{}.{}.{}", parts[0], parts[1], "A".repeat(86)));
         let texts = [
-            "", ".", "..", "...", "a.b.c", "é.é.é", "\u{0}", &long, &deep, &format!("{deep}.{deep}.{deep}"), &unsigned, &other,
-            &format!("{good}."), &format!(".{good}"), &format!("{good}A"), &good[..good.len() - 1], &good.replace('.', ". "),
+            "",
+            ".",
+            "..",
+            "...",
+            "a.b.c",
+            "é.é.é",
+            "\u{0}",
+            &long,
+            &deep,
+            &format!("{deep}.{deep}.{deep}"),
+            &unsigned,
+            &other,
+            &format!("{good}."),
+            &format!(".{good}"),
+            &format!("{good}A"),
+            &good[..good.len() - 1],
+            &good.replace('.', ". "),
         ];
         for text in texts {
             assert!(issuer.verify(text).is_none(), "{text}");
@@ -362,7 +396,9 @@ mod tests {
     fn other_keys_are_refused() {
         let of = |text: &str| Key::of(&pem::parse(text).unwrap());
         assert!(of(&Pair::new().public).is_ok() && of(OTHER).is_ok());
-        for text in [OTHER.replace("PUBLIC", "PRIVATE"), OTHER.replace("MCow", "MCoa"), OTHER.replace("PUBLIC KEY", "CERTIFICATE")] {
+        for text in
+            [OTHER.replace("PUBLIC", "PRIVATE"), OTHER.replace("MCow", "MCoa"), OTHER.replace("PUBLIC KEY", "CERTIFICATE")]
+        {
             assert!(of(&text).is_err(), "{text}");
         }
     }

@@ -21,9 +21,7 @@ impl Undo {
             Undo::Session if reply.first != 0 => {
                 Some(Request { repo, number: reply.first as u32, ..Request::new(Command::Abandon) })
             }
-            Undo::Lease if reply.second != 0 => {
-                Some(Request { number: reply.second as u32, ..Request::new(Command::GiveBack) })
-            }
+            Undo::Lease if reply.second != 0 => Some(Request { number: reply.second as u32, ..Request::new(Command::GiveBack) }),
             _ => None,
         }
     }
@@ -31,12 +29,7 @@ impl Undo {
 
 /// Undoes the call of the first reply, on its connection. Returns what to record about the session that the call opened, if it
 /// opened one.
-pub async fn undo_on(
-    pooled: &mut PooledConnection,
-    undo: Undo,
-    repo: &str,
-    answers: &[ReplyResult],
-) -> Option<Change> {
+pub async fn undo_on(pooled: &mut PooledConnection, undo: Undo, repo: &str, answers: &[ReplyResult]) -> Option<Change> {
     let reply = answers.first().and_then(|answer| answer.as_ref().ok())?;
     let request = undo.request(repo, reply)?;
     let answers = pooled.exchange(&[Frame::from(&request)]).await.ok()?;

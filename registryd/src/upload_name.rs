@@ -43,7 +43,7 @@ impl Secret {
     pub fn session(&self, repo: &str, name: &Uuid) -> Option<u32> {
         let session = (name.as_u128() >> 96) as u32;
         let difference = self.name(repo, session).as_u128() ^ name.as_u128();
-        (difference == 0).then(|| session)
+        (difference == 0).then_some(session)
     }
 }
 

@@ -77,9 +77,8 @@ pub async fn append(call: &Call, name: &str, content: &mut RequestContent) -> Ha
 /// that were appended.
 pub async fn close(call: &Call, name: &str, content: &mut RequestContent) -> HandlerResult {
     let mut adding = find(call, name)?.add();
-    let digest = call.query("digest").ok_or_else(|| {
-        Fault::new(StatusCode::BAD_REQUEST, "DIGEST_INVALID", "the query names no digest")
-    })?;
+    let digest =
+        call.query("digest").ok_or_else(|| Fault::new(StatusCode::BAD_REQUEST, "DIGEST_INVALID", "the query names no digest"))?;
     let place = place(call, &adding, content).await?;
     take_and_close(call, &mut adding, place, &digest, content).await?;
     call.registry.uploads.remove(&adding.upload.name);
@@ -217,8 +216,7 @@ impl AppendTask {
     fn begin(call: &Call, session: u32, start: u64) -> AppendTask {
         let (pieces, mut coming) = mpsc::channel(1);
         let (registry, repo) = (call.registry.clone(), call.repo.clone());
-        let appended =
-            tokio::spawn(async move { registry.store.append_all(&repo, session, start, &mut coming).await });
+        let appended = tokio::spawn(async move { registry.store.append_all(&repo, session, start, &mut coming).await });
         AppendTask { limit: call.registry.store.limit, pieces, appended }
     }
 

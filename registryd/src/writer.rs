@@ -23,28 +23,70 @@ const END_TIME: Duration = Duration::from_secs(8);
 #[derive(Clone, Debug, PartialEq, Eq)]
 pub enum Change {
     /// An upload may be opened in a repository.
-    AddRepository { repo: String },
+    AddRepository {
+        repo: String,
+    },
     /// No upload was opened in a repository, because the store refused it.
-    RemoveRepository { repo: String },
+    RemoveRepository {
+        repo: String,
+    },
     /// The store has a manifest, and a tag names it from now on.
-    PutManifest { repo: String, digest: String, facts: Facts, tag: Option<String> },
+    PutManifest {
+        repo: String,
+        digest: String,
+        facts: Facts,
+        tag: Option<String>,
+    },
     /// The store has a manifest that was to be deleted.
-    RestoreManifest { repo: String, digest: String, facts: Facts, since: u64, tags: Vec<String> },
+    RestoreManifest {
+        repo: String,
+        digest: String,
+        facts: Facts,
+        since: u64,
+        tags: Vec<String>,
+    },
     /// A client has asked for a manifest by its digest.
-    TouchManifest { repo: String, digest: String },
-    RemoveTag { repo: String, tag: String },
+    TouchManifest {
+        repo: String,
+        digest: String,
+    },
+    RemoveTag {
+        repo: String,
+        tag: String,
+    },
     /// A manifest is going to be deleted. Its tags are removed too.
-    RemoveManifest { repo: String, digest: String },
+    RemoveManifest {
+        repo: String,
+        digest: String,
+    },
     /// A blob is to be unlinked after some time.
-    AddLooseBlob { repo: String, digest: String },
+    AddLooseBlob {
+        repo: String,
+        digest: String,
+    },
     /// A blob is unlinked, or a manifest refers to it.
-    RemoveLooseBlob { repo: String, digest: String },
-    OpenUpload { repo: String, number: u32 },
-    EndUpload { repo: String, number: u32 },
+    RemoveLooseBlob {
+        repo: String,
+        digest: String,
+    },
+    OpenUpload {
+        repo: String,
+        number: u32,
+    },
+    EndUpload {
+        repo: String,
+        number: u32,
+    },
     /// The store used this number for an upload that is not open.
-    PassUpload { repo: String, number: u32 },
+    PassUpload {
+        repo: String,
+        number: u32,
+    },
     /// The store used all numbers of a tenant up to this one before, or for an upload that is not open.
-    BeginUploads { repo: String, number: u32 },
+    BeginUploads {
+        repo: String,
+        number: u32,
+    },
 }
 
 /// What a change did to the tables of this process.
@@ -67,9 +109,7 @@ impl Change {
             Change::RestoreManifest { repo, digest, facts, since, tags: names } => {
                 tags.restore(&repo, &digest, facts, since, names)
             }
-            Change::RemoveTag { repo, tag } => {
-                return Done::Removed(tags.take_tag(&repo, tag, now).into_iter().collect())
-            }
+            Change::RemoveTag { repo, tag } => return Done::Removed(tags.take_tag(&repo, tag, now).into_iter().collect()),
             Change::RemoveManifest { repo, digest } => return Done::Removed(tags.take_tags_of(&repo, &digest)),
             _ => {}
         }
@@ -81,7 +121,7 @@ impl Change {
         match self {
             Change::OpenUpload { repo, number } | Change::PassUpload { repo, number } => {
                 let tenant = tenant_of(repo);
-                numbers.entry(tenant.to_string()).or_default().see(*number).then(|| tenant)
+                numbers.entry(tenant.to_string()).or_default().see(*number).then_some(tenant)
             }
             Change::BeginUploads { repo, number } => {
                 numbers.entry(tenant_of(repo).to_string()).or_default().see_all(*number);
