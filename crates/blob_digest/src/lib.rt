@@ -29,7 +29,7 @@ pub use limits::MAX_SLOTS;
 pub use name::is_component;
 pub use number::decimal;
 pub use range::ByteRange;
-pub use refusal::Refusal;
+pub use refusal::{Refusal, RefusalText};
 pub use repo_name::RepoName;
 pub use running::Running;
 pub use upload_hashes::UploadHashes;

@@ -5,8 +5,8 @@ ghost use Rattle.blob_digest.specs.Refusals.{refusal_text};
 
 use crate::digest::Digest;
 use std::alloc::{AllocError, AllocFailed};
-use std::error::Error;
 use std::fmt;
+use thiserror::Error;
 
 /// The reason why a call fails. One enum serves every layer.
 ///
@@ -19,9 +19,10 @@ use std::fmt;
 /// - If several workers play a script and it fails with `Memory`, the rows accepted before the failure keep their
 ///   effect.
 ///
-/// An error is printed as its name, followed by its fields: numbers in decimal, digests as their texts. A variant for
-/// which the OCI Distribution Specification 1.1, "Error Codes", has a code gives the code in parentheses.
-#[derive(Clone, Copy, Debug, PartialEq, Eq, Drop)]
+/// A refusal is printed as its [`text`](Refusal::text). A variant for which the OCI Distribution Specification 1.1, "Error
+/// Codes", has a code gives the code in parentheses.
+#[derive(Clone, Copy, Debug, PartialEq, Eq, Drop, Error)]
+#[error("{}", self.text())]
 pub enum Refusal {
     /// The text is not the name of a repository or tenant (`NAME_INVALID`).
     NameInvalid,
@@ -78,11 +79,27 @@ pub enum Refusal {
     RepoInUse,
 }
 
-impl fmt::Display for Refusal {
-    ghost output = { λ refusal. Some (refusal_text refusal) };
+/// The text of a refusal: its name, followed by its fields, numbers in decimal and digests as their texts.
+#[derive(Clone, Copy, Drop)]
+pub struct RefusalText {
+    /// The refusal.
+    pub refusal: Refusal,
+}
+
+impl Refusal {
+    /// Returns the text of the refusal, which prints the bytes that replies have by contract.
+    pub fn text(&self) -> RefusalText
+        ensures { result.refusal ≡ self.now }
+    {
+        RefusalText { refusal: *self }
+    }
+}
+
+impl fmt::Display for RefusalText {
+    ghost output = { λ text. Some (refusal_text text.refusal) };
 
     fn fmt<W: fmt::Write>(&self, f: &mut fmt::Formatter<W>) -> fmt::Result {
-        match self {
+        match &self.refusal {
             Refusal::NameInvalid => f.write_str("NameInvalid"),
             Refusal::DigestInvalid => f.write_str("DigestInvalid"),
             Refusal::NameUnknown => f.write_str("NameUnknown"),
@@ -105,8 +122,6 @@ impl fmt::Display for Refusal {
         }
     }
 }
-
-impl Error for Refusal {}
 
 impl From<AllocError> for Refusal {
     ghost from_gives = { λ _ e. e ≡ Memory };

@@ -6,9 +6,11 @@ ghost use Rattle.blobctl.specs.declared.fault.Fault.TheVariants.{Memory};
 use blob_digest::Refusal;
 use std::alloc::{AllocError, AllocFailed};
 use std::fmt;
+use thiserror::Error;
 
 /// A reason why a run stops. Only a run that stops with `Write` may have written something.
-#[derive(Clone, Copy, Debug, PartialEq, Eq, Drop)]
+#[derive(Clone, Copy, Debug, PartialEq, Eq, Drop, Error)]
+#[error("{}", self.text())]
 pub enum Fault {
     /// The script's first bad row, by its number from 1.
     BadRow(u32),
@@ -36,11 +38,18 @@ impl<T: Drop> From<AllocFailed<T>> for Fault {
     }
 }
 
-impl fmt::Display for Fault {
-    ghost output = { λ fault. Some (fault_text fault) };
+/// The line that the program prints for a fault, with its line feed.
+#[derive(Clone, Copy, Drop)]
+pub struct FaultText {
+    /// The fault.
+    pub fault: Fault,
+}
+
+impl fmt::Display for FaultText {
+    ghost output = { λ text. Some (fault_text text.fault) };
 
     fn fmt<W: fmt::Write>(&self, f: &mut fmt::Formatter<W>) -> fmt::Result {
-        match self {
+        match self.fault {
             Fault::BadRow(number) => write!(f, "blobctl: bad row {number}\n"),
             Fault::Read => f.write_str("blobctl: read fault\n"),
             Fault::Write => f.write_str("blobctl: write fault\n"),
@@ -50,6 +59,13 @@ impl fmt::Display for Fault {
 }
 
 impl Fault {
+    /// Returns the line that the program prints.
+    pub fn text(&self) -> FaultText
+        ensures { result.fault ≡ self.now }
+    {
+        FaultText { fault: *self }
+    }
+
     /// Returns the exit status: 1 for a bad row, 3 for a read fault, 4 for a write fault, 5 for out of memory.
     pub fn status(&self) -> u8
         ensures { result ≡ fault_status self.now }
@@ -72,9 +88,9 @@ impl Fault {
         ensures err { OnErr result (string_bytes out.new ≡ string_bytes out.old) }
         ensures refused { IfErr result (λ e. e ≡ Refusal.Memory) }
     {
-        let fault = *self;
+        let line = self.text();
         let alloc = *out.allocator();
-        let text = format!(in alloc; "{fault}")?;
+        let text = format!(in alloc; "{line}")?;
         out.push_str(text.as_str())?;
         Ok(())
     }

@@ -72,7 +72,7 @@ fn run_on_stdio(
 fn report_fault(rt: &HostRuntime, fault: Fault) -> u8
     ensures { result ≡ fault_status fault }
 {
-    let _ = eprint!(rt; "{fault}");
+    let _ = eprint!(rt; "{}", fault.text());
     fault.status()
 }
 

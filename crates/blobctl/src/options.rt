@@ -8,6 +8,7 @@ use blob_digest::Refusal;
 use std::alloc::{AllocError, AllocFailed};
 use store_book::Config;
 use tenant_args::TenantFault;
+use thiserror::Error;
 
 /// The options of a run.
 #[derive(Debug, Drop)]
@@ -19,7 +20,8 @@ pub struct Options {
 }
 
 /// A reason why the program stops before it runs.
-#[derive(Debug, Drop)]
+#[derive(Debug, Drop, Error)]
+#[error("{}", self.text())]
 pub enum Stop {
     /// Help was requested: the text for standard output.
     Help(String),

@@ -12,9 +12,7 @@ use ghost_log::SharedLog;
 use lease_table::{LeaseEvent, LeaseNaming};
 use locked_book::{Step, StoreLog};
 use log_disk::{Disk, DiskError, FileDisk, ReplayedDisk};
-use log_folder::{
-    FolderFile, HashedAhead, LogPlace, NextSegments, OpenLog, Outcome, Segment, Watch, Work,
-};
+use log_folder::{HashedAhead, NextSegments, OpenLog, Outcome, Segment, Watch, Work};
 use log_frames::Ending;
 use segmented_disk::SegmentedDisk;
 use std::alloc::{AllocError, Global};
@@ -22,7 +20,10 @@ use std::io::{self, ErrorKind, Read, Write};
 use std::marker::Brand;
 use std::sync::Wait;
 use std::thread::{self, Threads};
-use store_replay::{Cause, ContinueError, Fault, Replay, Replayed, continue_on_file, replay_log};
+use store_replay::{
+    Cause, ContinueError, Fault, FolderFile, LogPlace, Replay, Replayed, continue_on_file,
+    replay_log,
+};
 use store_server::{Connection, EndCell, serve_on};
 
 /// The log of a folder: its files are examined, and not yet replayed.

@@ -1,8 +1,9 @@
 //! The threads that hash the contents of a log ahead of its replay.
 
-use log_folder::{FolderFile, HashAhead, HashedAhead, OpenLog};
+use log_folder::{HashAhead, HashedAhead, OpenLog};
 use std::alloc::{AllocError, Global};
 use std::thread::{self, JoinHandle, Threads};
+use store_replay::FolderFile;
 
 /// The maximum number of threads that hash. A replay that hashes nothing takes about half as long for a MiB as a thread that hashes it, so
 /// two keep up with it. More of them help if contents have different lengths.

@@ -2,17 +2,17 @@
 ghost use Rattle.server_cli.specs.Arguments.{IsWithin};
 
 use crate::durable_serving::{ExaminedLog, ServeFault, serve_log};
+use crate::folder_stop::folder_stop;
 use crate::totals::conclude;
 use blob_store::Parts;
 use log_folder::{
-    Damage, DataFolder, FolderError, FolderFile, LogPlace, OpenLog, Outcome, Segment, When,
-    accept_loss, compact, open_log,
+    DataFolder, FolderError, OpenLog, Outcome, Segment, When, accept_loss, compact, open_log,
 };
 use server_cli::{LogOptions, Need, Options, Stop};
 use std::io::{self, ErrorKind, Read, Write};
 use std::sync::Wait;
 use std::thread::Threads;
-use store_replay::Cause;
+use store_replay::{Cause, Damage, FolderFile, LogPlace};
 use store_server::{Connection, EndCell};
 
 /// Opens the log of a folder. If the loss of what is after a place was accepted and the log is damaged there, cuts it there.
@@ -32,7 +32,7 @@ fn open_mended<'w>(
     };
     match found {
         Ok(log) => Ok(log),
-        Err(error) => Err(Stop::of_folder(how.folder, error)),
+        Err(error) => Err(folder_stop(how.folder, error)),
     }
 }
 
@@ -61,7 +61,7 @@ fn examined<'w>(
     let (mut segments, number) = segments_of(log)?;
     let outcome = match compact(rt, folder.path, segments.as_mut_slice(), number, when) {
         Ok(outcome) => outcome,
-        Err(error) => return Err(Stop::of_folder(how.folder, error)),
+        Err(error) => return Err(folder_stop(how.folder, error)),
     };
     if matches!(outcome, Outcome::Rewritten(_)) {
         drop(segments);
@@ -76,7 +76,7 @@ fn examined<'w>(
     let Some(last) = segments.pop() else {
         let error = io::Error::from(ErrorKind::NotFound);
         let error = FolderError::of_file("open", FolderFile::Log(number), error);
-        return Err(Stop::of_folder(how.folder, error));
+        return Err(folder_stop(how.folder, error));
     };
     let log = OpenLog {
         closed: segments,
@@ -135,7 +135,7 @@ fn fault_stop<'w>(folder: &'w str, fault: ServeFault) -> Stop<'w> {
         ServeFault::Memory => Stop::Memory,
         ServeFault::Read(file, kind) => {
             let error = FolderError::of_file("read", file, io::Error::from(kind));
-            Stop::of_folder(folder, error)
+            folder_stop(folder, error)
         }
         ServeFault::Log(error) => Stop::LogFailed { folder, error },
         ServeFault::Record { place, cause } => record_stop(folder, place, cause),
@@ -182,7 +182,7 @@ fn reopened<'w>(
         Stop::Damaged { place, .. } if how.accepted_loss == Some(place.offset) => {
             match accept_loss(rt, folder, place) {
                 Ok(()) => open_folder(rt, folder, how),
-                Err(error) => Err(Stop::of_folder(how.folder, error)),
+                Err(error) => Err(folder_stop(how.folder, error)),
             }
         }
         stop if stop.is_of_settings() => {

@@ -22,10 +22,12 @@ ghost use Rattle.server_cli.specs.Stops.{stop_status};
 ghost use Rattle.server_cli.specs.Arguments.{IsWithin};
 
 mod durable_serving;
+mod folder_stop;
 mod hashers;
 mod log_service;
 mod totals;
 
+use crate::folder_stop::folder_stop;
 use crate::log_service::{open_folder, serve_folder};
 use crate::totals::conclude;
 use blob_store::Parts;
@@ -139,7 +141,7 @@ fn run_with_log<'w, W: Threads + Wait + Sync + Copy + Send + 'static>(
 {
     let folder = match DataFolder::lock(rt, how.folder) {
         Ok(folder) => folder,
-        Err(error) => return Err(Stop::of_folder(how.folder, error)),
+        Err(error) => return Err(folder_stop(how.folder, error)),
     };
     let log = open_folder(rt, &folder, how)?;
     if options.paths.is_empty() {
@@ -177,7 +179,7 @@ fn words_of(rt: &HostRuntime) -> io::Result<Vec<String>> {
 fn report(rt: &HostRuntime, stop: Stop<'_>) -> u8
     ensures { result ≡ stop_status stop.entry }
 {
-    let _ = eprint!(rt; "{stop}");
+    let _ = eprint!(rt; "{}", stop.text());
     stop.status()
 }
 

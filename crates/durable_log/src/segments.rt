@@ -7,22 +7,16 @@ ghost use Rattle.durable_log.specs.Views.{BeginsNot};
 use log_disk::{Disk, DiskError};
 use std::alloc::Global;
 use std::marker::Model;
-use std::{fmt, mem};
+use std::mem;
+use thiserror::Error;
 
 /// The capacity of a segment for small records.
 const SEGMENT_BYTES: usize = 65536;
 
 /// A record has no room: memory ran out, or the history would have 2^64 bytes.
-#[derive(Clone, Copy, PartialEq, Eq, Debug)]
+#[derive(Clone, Copy, PartialEq, Eq, Debug, Error)]
+#[error("no room for a record")]
 pub struct NoRoom;
-
-impl fmt::Display for NoRoom {
-    fn fmt<W: fmt::Write>(&self, f: &mut fmt::Formatter<W>) -> fmt::Result {
-        write!(f, "no room for a record")
-    }
-}
-
-impl std::error::Error for NoRoom {}
 
 /// Bytes in segments. A byte that was added is never copied again.
 #[derive(Drop)]

@@ -3,41 +3,27 @@
 ghost use Rattle.std.specs.Prelude.{◌≡◌, ◌++◌, List, OnOk, OnErr};
 ghost use Rattle.log_disk.specs.Torn.{IsTorn};
 
-use std::{fmt, io};
+use std::io;
+use thiserror::Error;
 
 /// Why a call on a disk failed.
-#[derive(Clone, Copy, Debug)]
+#[derive(Clone, Copy, Debug, Error)]
 pub enum DiskError {
     /// The operating system returned this error.
-    Io(io::Error),
+    #[error("{0}")]
+    Io(#[from] io::Error),
     /// The file has another length than the bytes that it should hold.
+    #[error("its length is {0} bytes")]
     Length(u64),
     /// The file has other bytes than it should hold.
+    #[error("its content differs")]
     Content,
     /// Memory ran out.
+    #[error("out of memory")]
     Memory,
     /// The call was made to fail.
+    #[error("made to fail")]
     Injected,
-}
-
-impl fmt::Display for DiskError {
-    fn fmt<W: fmt::Write>(&self, f: &mut fmt::Formatter<W>) -> fmt::Result {
-        match self {
-            DiskError::Io(error) => write!(f, "{error}"),
-            DiskError::Length(length) => write!(f, "its length is {length} bytes"),
-            DiskError::Content => write!(f, "its content differs"),
-            DiskError::Memory => write!(f, "out of memory"),
-            DiskError::Injected => write!(f, "made to fail"),
-        }
-    }
-}
-
-impl std::error::Error for DiskError {}
-
-impl From<io::Error> for DiskError {
-    fn from(error: io::Error) -> DiskError {
-        DiskError::Io(error)
-    }
 }
 
 /// A disk that is written at its end.

@@ -1,13 +1,20 @@
 //! The folder of a log: its lock and its files.
 
 use crate::error::FolderError;
-use crate::folder_file::FolderFile;
 use log_frames::header_bytes;
-use std::fs::{self, File, TryLockError};
+use std::fs::{self, DirBuilder, File, TryLockError};
 use std::io::{self, ErrorKind, Read, Write};
+use std::os::unix::fs::{DirBuilderExt, OpenOptionsExt};
 use std::path::Path;
 use std::thread;
 use std::time::Duration;
+use store_replay::FolderFile;
+
+/// The permissions of a new folder: its user may list and change it, and nobody else may.
+const FOLDER_MODE: u32 = 0o700;
+
+/// The permissions of a new file: its user may read and write it, and nobody else may.
+const FILE_MODE: u32 = 0o600;
 
 /// How often the lock is tried.
 const TRIES: u32 = 100;
@@ -61,7 +68,7 @@ pub fn remove(rt: &HostRuntime, folder: &str, file: FolderFile) -> io::Result<bo
     }
 }
 
-/// Makes an empty file in a folder, in place of an old one. It can be read and written.
+/// Makes an empty file in a folder, in place of an old one. It can be read and written, by this user alone.
 pub fn create(rt: &HostRuntime, folder: &str, file: FolderFile) -> io::Result<File> {
     let path = file.path(rt.alloc(), folder)?;
     File::options()
@@ -69,6 +76,7 @@ pub fn create(rt: &HostRuntime, folder: &str, file: FolderFile) -> io::Result<Fi
         .write(true)
         .create(true)
         .truncate(true)
+        .mode(FILE_MODE)
         .open(rt, path.as_str())
 }
 
@@ -89,10 +97,10 @@ pub fn create_log(rt: &HostRuntime, folder: &str, file: FolderFile, id: u64) -> 
     rename_synced(rt, folder, FolderFile::NewLog, file)
 }
 
-/// Creates a folder, if it does not exist, so that it survives a crash. Its parent must exist. A folder that exists may be
+/// Creates a folder, if it does not exist, so that it survives a crash. This user alone may use it. Its parent must exist. A folder that exists may be
 /// that of a process which crashed before the parent was synced. So the parent is synced then too, if it can be opened.
 fn create_folder(rt: &HostRuntime, folder: &str) -> io::Result<()> {
-    match fs::create_dir(rt, folder) {
+    match DirBuilder::new().mode(FOLDER_MODE).create(rt, folder) {
         Ok(()) => sync_folder(rt, parent_of(folder)),
         Err(error) => match error.kind() {
             ErrorKind::AlreadyExists => match File::open(rt, parent_of(folder)) {
@@ -141,6 +149,7 @@ impl<'w> DataFolder<'w> {
         let lock = match File::options()
             .write(true)
             .create(true)
+            .mode(FILE_MODE)
             .open(rt, path.as_str())
         {
             Ok(lock) => lock,

@@ -1,28 +1,18 @@
 //! The reasons why the log of a folder cannot be used.
 
-use crate::damage::Damage;
-use crate::folder_file::FolderFile;
 use std::alloc::AllocError;
-use std::fmt;
 use std::io::{self, ErrorKind};
+use store_replay::{Damage, FolderFile, LogPlace};
+use thiserror::Error;
 
-/// A place in a log.
-#[derive(Clone, Copy, Debug, PartialEq, Eq)]
-pub struct LogPlace {
-    /// The file.
-    pub file: FolderFile,
-    /// The offset in the file, in bytes.
-    pub place: u64,
-    /// The offset in the log, which consists of all its files: that in the file, and the lengths of the files before it.
-    pub offset: u64,
-}
-
-/// The reason why the log of a folder cannot be used.
-#[derive(Drop)]
+/// The reason why the log of a folder cannot be used. Its message has the names of files in the folder.
+#[derive(Debug, Drop, Error)]
 pub enum FolderError {
     /// Memory ran out.
+    #[error("out of memory")]
     Memory,
     /// Something cannot be done with a file.
+    #[error("cannot {action} {file}: {error}")]
     File {
         /// What cannot be done, as a verb.
         action: &'static str,
@@ -32,8 +22,10 @@ pub enum FolderError {
         error: io::Error,
     },
     /// Another process has the folder.
+    #[error("another process has the folder")]
     Held,
     /// The log is damaged, or is no log of this version.
+    #[error("{file} is damaged at byte {place}: {damage}", file = .0.file, place = .0.place, damage = .1)]
     Damaged(LogPlace, Damage),
 }
 
@@ -54,27 +46,5 @@ impl FolderError {
 impl From<AllocError> for FolderError {
     fn from(_error: AllocError) -> FolderError {
         FolderError::Memory
-    }
-}
-
-/// The message, with the names of files in the folder.
-impl fmt::Display for FolderError {
-    fn fmt<W: fmt::Write>(&self, f: &mut fmt::Formatter<W>) -> fmt::Result {
-        match self {
-            FolderError::Memory => f.write_str("out of memory"),
-            FolderError::File {
-                action,
-                file,
-                error,
-            } => write!(f, "cannot {action} {file}: {error}"),
-            FolderError::Held => f.write_str("another process has the folder"),
-            FolderError::Damaged(place, damage) => {
-                write!(
-                    f,
-                    "{} is damaged at byte {}: {damage}",
-                    place.file, place.place
-                )
-            }
-        }
     }
 }

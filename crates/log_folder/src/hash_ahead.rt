@@ -1,7 +1,6 @@
 //! Hashes the contents of a log ahead of its replay, in threads.
 
 use crate::contents::{Contents, Found, Job, Next, Room};
-use crate::folder_file::FolderFile;
 use crate::gathering::Gathering;
 use crate::opening::frames_of;
 use crate::segment::Segment;
@@ -12,7 +11,7 @@ use std::alloc::{AllocError, Global};
 use std::sync::{Arc, Mutex, MutexGuard};
 use std::thread;
 use std::time::Duration;
-use store_replay::ChangeSink;
+use store_replay::{ChangeSink, FolderFile};
 
 /// The number of bytes that are held for each thread that hashes.
 const WINDOW: u64 = 33_554_432;

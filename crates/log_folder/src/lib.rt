@@ -5,10 +5,8 @@
 #![tactic(auto)]
 
 mod contents;
-mod damage;
 mod data_folder;
 mod error;
-mod folder_file;
 mod gathering;
 mod hash_ahead;
 mod listing;
@@ -19,10 +17,8 @@ mod rewriting;
 mod segment;
 mod watch;
 
-pub use damage::Damage;
 pub use data_folder::DataFolder;
-pub use error::{FolderError, LogPlace};
-pub use folder_file::FolderFile;
+pub use error::FolderError;
 pub use hash_ahead::{HashAhead, HashedAhead};
 pub use next_segments::NextSegments;
 pub use opening::{OpenLog, accept_loss, open_log};

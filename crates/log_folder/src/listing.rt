@@ -1,9 +1,9 @@
 //! The segments of a folder, by the names of its files.
 
-use crate::folder_file::FolderFile;
 use blob_digest::decimal;
 use std::alloc::Global;
 use std::{fs, io};
+use store_replay::FolderFile;
 
 /// The files of a log in a folder.
 #[derive(Drop)]
@@ -83,6 +83,19 @@ impl Listing {
             if !self.logs.as_slice().contains(&number) {
                 break;
             }
+        }
+        Ok(files)
+    }
+
+    /// Returns the files in front of the last one of the log, in order: the base, if there is one, and the segments after it. The
+    /// segments are those up to the last one, whether they exist or not.
+    pub fn closed_files(&self, alloc: Global) -> io::Result<Vec<FolderFile>> {
+        let mut files = Vec::new(alloc);
+        if self.base > 0 {
+            files.push(FolderFile::Base(self.base))?;
+        }
+        for number in self.base.saturating_add(1)..self.last() {
+            files.push(FolderFile::Log(number))?;
         }
         Ok(files)
     }

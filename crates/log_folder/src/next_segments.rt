@@ -1,11 +1,11 @@
 //! Makes the next segment of a log in a folder.
 
 use crate::data_folder::{create, rename_synced};
-use crate::folder_file::FolderFile;
 use framed_disk::FramedDisk;
 use log_disk::{DiskError, FileDisk};
 use segmented_disk::{NoBytes, SegmentFolder};
 use std::io::{self, ErrorKind};
+use store_replay::FolderFile;
 
 /// The folder of a log, as the place where its next segment is made.
 #[derive(Drop)]

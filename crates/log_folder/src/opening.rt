@@ -1,9 +1,7 @@
 //! Opens the log of a folder, and cuts off what a crash left of the last writes.
 
-use crate::damage::Damage;
 use crate::data_folder::{DataFolder, create_log, random_id, rename_synced};
-use crate::error::{FolderError, LogPlace};
-use crate::folder_file::FolderFile;
+use crate::error::FolderError;
 use crate::listing::Listing;
 use crate::segment::Segment;
 use log_frames::{
@@ -11,7 +9,7 @@ use log_frames::{
 };
 use std::fs::File;
 use std::io::{self, BufReader, ErrorKind, Seek, SeekFrom};
-use store_replay::{Cause, PrefixSink, Scan, scan_log};
+use store_replay::{Cause, Damage, FolderFile, LogPlace, PrefixSink, Scan, scan_log};
 
 /// The length of a frame without payload, in bytes.
 const MARK_LENGTH: u64 = 40;
@@ -179,6 +177,45 @@ fn cut_off(
     Ok(())
 }
 
+/// Scans a segment.
+///
+/// # Errors
+///
+/// - `File`, if it cannot be read.
+/// - `Damaged`, if it is damaged, or not closed and whole although it is not the last one.
+/// - `Memory`
+fn scan_sound(
+    rt: &HostRuntime,
+    segment: &mut Segment,
+    buffer: &mut Vec<u8>,
+    is_last: bool,
+) -> Result<Scan, FolderError> {
+    let (name, id) = (segment.name, segment.id);
+    let mut input = frames_of(rt, segment)?;
+    let mut scan = scan_log(&mut input, buffer, id, start_of(id));
+    drop(input);
+    match damage_of(name, &mut scan, is_last)? {
+        Some(damage) => {
+            let place = segment.place(scan.read.cursor.place);
+            Err(FolderError::Damaged(place, damage))
+        }
+        None => Ok(scan),
+    }
+}
+
+/// Checks that closed segments are whole: each has records that this version knows, and a mark at its end.
+///
+/// # Errors
+///
+/// Those of `scan_sound`, for the first segment that has one.
+pub(crate) fn check_closed(rt: &HostRuntime, segments: &mut [Segment]) -> Result<(), FolderError> {
+    let mut buffer = Vec::new(rt.alloc()); // One for all files, so that memory does not grow with their number.
+    for segment in segments {
+        scan_sound(rt, segment, &mut buffer, false)?;
+    }
+    Ok(())
+}
+
 /// Scans a segment, and cuts off a torn end if it is the last one.
 fn mend(
     rt: &HostRuntime,
@@ -187,14 +224,8 @@ fn mend(
     buffer: &mut Vec<u8>,
     is_last: bool,
 ) -> Result<(), FolderError> {
-    let (name, id) = (segment.name, segment.id);
-    let mut input = frames_of(rt, segment)?;
-    let mut scan = scan_log(&mut input, buffer, id, start_of(id));
-    drop(input);
+    let scan = scan_sound(rt, segment, buffer, is_last)?;
     let place = scan.read.cursor.place;
-    if let Some(damage) = damage_of(name, &mut scan, is_last)? {
-        return Err(FolderError::Damaged(segment.place(place), damage));
-    }
     let repair = match scan.read.ending {
         Ending::End if scan.left_over == 0 => Repair::Nothing,
         _ => cut_of(place, &scan),
@@ -252,26 +283,29 @@ fn open_listed(
     }
 }
 
-/// Opens the next file of a log, which follows `previous`, and mends it.
-fn open_next(
+/// Opens the next file of a log, which follows `previous`.
+///
+/// # Errors
+///
+/// - `File`, if it cannot be opened or read.
+/// - `Damaged`, if it is missing, does not begin as a log of this version, or has not the id that follows.
+/// - `Memory`
+pub(crate) fn open_following(
     rt: &HostRuntime,
     folder: &str,
     name: FolderFile,
     previous: Option<&Segment>,
-    buffer: &mut Vec<u8>,
-    is_last: bool,
 ) -> Result<Segment, FolderError> {
     let before = match previous {
         Some(previous) => previous.end(),
         None => 0,
     };
-    let mut segment = open_listed(rt, folder, name, before)?;
+    let segment = open_listed(rt, folder, name, before)?;
     if let Some(previous) = previous {
         if segment.id != previous.id.wrapping_add(1) {
             return Err(FolderError::Damaged(segment.place(0), Damage::Foreign));
         }
     }
-    mend(rt, folder, &mut segment, buffer, is_last)?;
     Ok(segment)
 }
 
@@ -285,7 +319,8 @@ fn open_files(
     let mut buffer = Vec::new(rt.alloc()); // One for all files, so that memory does not grow with their number.
     for (place, name) in files.iter().enumerate() {
         let is_last = place + 1 == files.len() && !matches!(name, FolderFile::Base(_));
-        let next = open_next(rt, folder, *name, segments.last(), &mut buffer, is_last)?;
+        let mut next = open_following(rt, folder, *name, segments.last())?;
+        mend(rt, folder, &mut next, &mut buffer, is_last)?;
         if segments.push(next).is_err() {
             return Err(FolderError::Memory);
         }

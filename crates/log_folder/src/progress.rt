@@ -1,8 +1,8 @@
 //! A reader that reports its progress.
 
-use crate::folder_file::FolderFile;
 use std::io::{self, Eprint, Read};
 use std::time::{Clock, Instant};
+use store_replay::FolderFile;
 
 /// What is done with the files of a log, which are read one after another.
 #[derive(Clone, Copy)]

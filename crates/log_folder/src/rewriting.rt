@@ -2,14 +2,13 @@
 
 use crate::data_folder::{create, remove, rename_synced};
 use crate::error::FolderError;
-use crate::folder_file::FolderFile;
-use crate::listing::Listing;
 use crate::progress::Work;
 use crate::segment::Segment;
 use log_frames::{Cursor, header_bytes, write_frame};
 use log_rewriting::{Filter, Inventory, LogRewriting, RewriteError, take_inventory};
 use std::fs::File;
 use std::io::{self, BufWriter, Seek, SeekFrom, Write};
+use store_replay::FolderFile;
 
 /// Segments of at most this length in all are not rewritten, in bytes.
 const SMALL: u64 = 1_048_576;
@@ -162,25 +161,23 @@ fn rewrite(
     Ok(Outcome::Rewritten(base.length))
 }
 
-/// Returns the files of a folder that a base has replaced.
-fn replaced_files(rt: &HostRuntime, folder: &str) -> io::Result<Vec<FolderFile>> {
-    let listing = Listing::read(rt, folder)?;
-    listing.replaced(rt.alloc())
-}
-
-/// Makes `base.new` the base up to this number, so that a crash leaves it, and removes the files that it replaces.
-fn replace(rt: &HostRuntime, folder: &str, number: u64) -> Result<(), FolderError> {
+/// Makes `base.new` the base up to this number, so that a crash leaves it, and removes the segments that it was written from.
+fn replace(
+    rt: &HostRuntime,
+    folder: &str,
+    segments: &[Segment],
+    number: u64,
+) -> Result<(), FolderError> {
     let base = FolderFile::Base(number);
     if let Err(error) = rename_synced(rt, folder, FolderFile::NewBase, base) {
         return Err(FolderError::of_file("create", base, error));
     }
-    let files = match replaced_files(rt, folder) {
-        Ok(files) => files,
-        Err(error) => return Err(FolderError::of_file("read", FolderFile::Folder, error)),
-    };
-    for file in files.iter() {
-        if let Err(error) = remove(rt, folder, *file) {
-            return Err(FolderError::of_file("remove", *file, error));
+    for segment in segments {
+        if segment.name == base {
+            continue; // The new base has its name.
+        }
+        if let Err(error) = remove(rt, folder, segment.name) {
+            return Err(FolderError::of_file("remove", segment.name, error));
         }
     }
     Ok(())
@@ -219,7 +216,7 @@ pub fn compact(
     let Outcome::Rewritten(is) = outcome else {
         return Ok(outcome);
     };
-    replace(rt, folder, number)?;
+    replace(rt, folder, segments, number)?;
     let base = FolderFile::Base(number);
     let _ = eprint!(rt; "blobd: {folder}{base} was written: {is} of {was} bytes are left\n");
     Ok(outcome)

@@ -1,13 +1,12 @@
 //! The files of a log.
 
-use crate::damage::Damage;
 use crate::data_folder::open;
-use crate::error::{FolderError, LogPlace};
-use crate::folder_file::FolderFile;
+use crate::error::FolderError;
 use crate::progress::{Progress, Work};
 use log_frames::{HEADER_LENGTH, Opening, ReadFault, read_header};
 use std::fs::File;
 use std::io::{self, BufReader, ErrorKind, Seek, SeekFrom};
+use store_replay::{Damage, FolderFile, LogPlace};
 
 /// A file of a log. It is a log of its own.
 #[derive(Drop)]

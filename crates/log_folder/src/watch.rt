@@ -2,12 +2,13 @@
 
 use crate::data_folder::remove;
 use crate::error::FolderError;
-use crate::folder_file::FolderFile;
 use crate::listing::Listing;
+use crate::opening::{check_closed, open_following};
 use crate::rewriting::{Outcome, When, compact, length_of};
 use crate::segment::Segment;
 use std::thread;
 use std::time::Duration;
+use store_replay::FolderFile;
 
 /// The pause between two looks at the folder, in milliseconds.
 const PAUSE_MILLIS: u64 = 1000;
@@ -34,24 +35,24 @@ fn next_length(outcome: Outcome) -> u64 {
     }
 }
 
-/// Opens the closed segments of a folder.
+/// Opens the closed segments of a folder, which are all files of the log but the last.
+///
+/// # Errors
+///
+/// - `Damaged`, for the first one that is missing, does not begin as a log of this version, or has not the id that follows.
+/// - `File`, `Memory`
 fn open_closed(
     rt: &HostRuntime,
     folder: &str,
     listing: &Listing,
 ) -> Result<Vec<Segment>, FolderError> {
-    let mut files = match listing.files(rt.alloc()) {
+    let files = match listing.closed_files(rt.alloc()) {
         Ok(files) => files,
         Err(error) => return Err(FolderError::of_file("read", FolderFile::Folder, error)),
     };
-    let _ = files.pop();
     let mut segments: Vec<Segment> = Vec::new(rt.alloc());
     for file in files.iter() {
-        let before = match segments.last() {
-            Some(previous) => previous.end(),
-            None => 0,
-        };
-        let next = Segment::open(rt, folder, *file, before)?;
+        let next = open_following(rt, folder, *file, segments.last())?;
         if segments.push(next).is_err() {
             return Err(FolderError::Memory);
         }
@@ -78,7 +79,8 @@ impl Watch {
         )
     }
 
-    /// Rewrites the closed segments of a listing, if they are long enough or it was asked for.
+    /// Rewrites the closed segments of a listing, if they are long enough or it was asked for. If one of them is missing or damaged,
+    /// nothing is changed.
     fn rewrite(&mut self, listing: &Listing, is_asked: bool) -> Result<(), FolderError> {
         let mut segments = open_closed(&self.rt, self.folder.as_str(), listing)?;
         if !is_asked && length_of(segments.as_slice()) < self.next {
@@ -89,6 +91,7 @@ impl Watch {
         } else {
             When::Wasteful
         };
+        check_closed(&self.rt, segments.as_mut_slice())?;
         let number = listing.last().saturating_sub(1);
         let folder = self.folder.as_str();
         let outcome = compact(&self.rt, folder, segments.as_mut_slice(), number, when)?;

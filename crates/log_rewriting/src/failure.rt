@@ -4,28 +4,35 @@ ghost use Rattle.log_rewriting.specs.declared.failure.RewriteError.TheVariants.{
 
 use crate::error::InventoryError;
 use std::alloc::AllocError;
-use std::error::Error;
-use std::fmt;
 use std::io::{self, ErrorKind};
+use thiserror::Error;
 
 /// The reason why a log is not rewritten.
-#[derive(Clone, Copy, Debug, PartialEq, Eq, Drop)]
+#[derive(Clone, Copy, Debug, PartialEq, Eq, Drop, Error)]
 pub enum RewriteError {
     /// Memory allocation failed.
+    #[error("out of memory")]
     Memory,
     /// The log cannot be read, with an error of this kind.
+    #[error("cannot read it: {0}")]
     Read(ErrorKind),
     /// The rewritten log cannot be written, with an error of this kind.
+    #[error("cannot write the new log: {0}")]
     Write(ErrorKind),
     /// The log does not end after a whole record.
+    #[error("it does not end after a whole record")]
     NotWhole,
     /// The bytes at an offset in the joined payloads of the log are no record.
+    #[error("there is no record at byte {0} of the records")]
     NoRecord(u64),
     /// The record at an offset in the joined payloads of the log breaks the rules by which a store writes one.
+    #[error("byte {0} of the records: {1}")]
     Broken(u64, InventoryError),
     /// A record does not fit into a log.
+    #[error("a record is too long")]
     TooLong,
     /// The rewritten log leaves another state.
+    #[error("the new log has another state")]
     Differs,
 }
 
@@ -46,27 +53,6 @@ impl RewriteError {
         }
     }
 }
-
-impl fmt::Display for RewriteError {
-    fn fmt<W: fmt::Write>(&self, f: &mut fmt::Formatter<W>) -> fmt::Result {
-        match self {
-            RewriteError::Memory => f.write_str("out of memory"),
-            RewriteError::Read(kind) => write!(f, "cannot read it: {kind}"),
-            RewriteError::Write(kind) => write!(f, "cannot write the new log: {kind}"),
-            RewriteError::NotWhole => f.write_str("it does not end after a whole record"),
-            RewriteError::NoRecord(offset) => {
-                write!(f, "there is no record at byte {offset} of the records")
-            }
-            RewriteError::Broken(offset, error) => {
-                write!(f, "byte {offset} of the records: {error}")
-            }
-            RewriteError::TooLong => f.write_str("a record is too long"),
-            RewriteError::Differs => f.write_str("the new log has another state"),
-        }
-    }
-}
-
-impl Error for RewriteError {}
 
 impl From<AllocError> for RewriteError {
     ghost from_gives = { λ _ e. e ≡ Memory };

@@ -1,6 +1,6 @@
 //! The command line of `blobd`: its arguments, and the texts and exit statuses with which it stops.
 //!
-//! The crate depends on `tenant_args` for the tenants, and on `log_folder` for what can be wrong with a log.
+//! The crate depends on `tenant_args` for the tenants, and on `store_replay` for what can be wrong with a log.
 //!
 //! It guarantees that the options are those that the arguments spell, and which exit status each reason has.
 #![tactic(auto)]
@@ -13,4 +13,4 @@ mod stop;
 pub use arguments::{Options, read_arguments};
 pub use flags::LogOptions;
 pub use need::Need;
-pub use stop::Stop;
+pub use stop::{Stop, StopText};

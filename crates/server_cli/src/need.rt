@@ -3,20 +3,25 @@ ghost use Rattle.std.specs.Prelude.{◌≡◌};
 ghost use Rattle.server_cli.specs.Stops.{need_of};
 
 use blob_digest::Refusal;
-use std::fmt;
+use thiserror::Error;
 
 /// The setting that a log needs.
-#[derive(Clone, Copy, Debug, PartialEq, Eq, Drop)]
+#[derive(Clone, Copy, Debug, PartialEq, Eq, Drop, Error)]
 pub enum Need {
     /// The tenant.
+    #[error("the tenant is missing")]
     Tenant,
     /// A greater quota than this one, of the tenant.
+    #[error("the quota of {0} bytes is too small")]
     Quota(u64),
     /// A greater share of the slots, of the tenant.
+    #[error("the tenant's number of blobs is too small")]
     Share,
     /// More slots.
+    #[error("there are too few slots")]
     Slots,
     /// A greater limit of blobs.
+    #[error("the limit of blobs is too small")]
     MaxBlob,
 }
 
@@ -35,18 +40,6 @@ impl Need {
             Refusal::StoreFull => Some(Need::Slots),
             Refusal::SizeInvalid => Some(Need::MaxBlob),
             _ => None,
-        }
-    }
-}
-
-impl fmt::Display for Need {
-    fn fmt<W: fmt::Write>(&self, f: &mut fmt::Formatter<W>) -> fmt::Result {
-        match self {
-            Need::Tenant => f.write_str("the tenant is missing"),
-            Need::Quota(quota) => write!(f, "the quota of {quota} bytes is too small"),
-            Need::Share => f.write_str("the tenant's number of blobs is too small"),
-            Need::Slots => f.write_str("there are too few slots"),
-            Need::MaxBlob => f.write_str("the limit of blobs is too small"),
         }
     }
 }

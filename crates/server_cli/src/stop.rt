@@ -5,13 +5,15 @@ ghost use Rattle.server_cli.specs.declared.stop.Stop.TheVariants.{Memory};
 
 use crate::need::Need;
 use durable_log::CommitError;
-use log_folder::{Damage, FolderError, FolderFile, LogPlace};
 use std::alloc::AllocError;
 use std::{fmt, io};
+use store_replay::{Damage, FolderFile, LogPlace};
 use tenant_args::TenantFault;
+use thiserror::Error;
 
 /// The reason why the program stops before it serves all connections.
-#[derive(Drop)]
+#[derive(Debug, Drop, Error)]
+#[error("{}", self.text())]
 pub enum Stop<'w> {
     /// The arguments are wrong.
     Usage,
@@ -89,36 +91,18 @@ impl From<TenantFault> for Stop<'_> {
 }
 
 impl<'w> Stop<'w> {
-    /// Returns the stop for a folder whose log cannot be used.
-    pub fn of_folder(folder: &'w str, error: FolderError) -> Stop<'w> {
-        match error {
-            FolderError::Memory => Stop::Memory,
-            FolderError::Held => Stop::Held { folder },
-            FolderError::Damaged(place, damage) => Stop::Damaged {
-                folder,
-                place,
-                damage,
-            },
-            FolderError::File {
-                action,
-                file,
-                error,
-            } => Stop::Folder {
-                action,
-                folder,
-                file,
-                error,
-            },
-        }
-    }
-}
-
-impl Stop<'_> {
     /// Returns whether the store that wrote the log had other settings.
     pub fn is_of_settings(&self) -> bool
         ensures { result ≡ is_settings self.now }
     {
         matches!(self, Stop::Settings { .. })
+    }
+
+    /// Returns the text that the program prints.
+    pub fn text(&self) -> StopText<'_, 'w>
+        ensures { result.stop.now ≡ self.now }
+    {
+        StopText { stop: self }
     }
 
     /// Returns the exit status, 2 to 10. `docs/OPERATIONS.md` lists them.
@@ -139,11 +123,17 @@ impl Stop<'_> {
 }
 
 /// The text that the program prints, with its line feed.
-impl fmt::Display for Stop<'_> {
-    ghost output = { λ stop. stop_text stop };
+#[derive(Drop)]
+pub struct StopText<'s, 'w> {
+    /// The reason.
+    pub stop: &'s Stop<'w>,
+}
+
+impl fmt::Display for StopText<'_, '_> {
+    ghost output = { λ text. stop_text text.stop.now };
 
     fn fmt<W: fmt::Write>(&self, f: &mut fmt::Formatter<W>) -> fmt::Result {
-        match self {
+        match self.stop {
             Stop::Usage => f.write_str(
                 "usage: blobd [--data DIR [--sync closes|each|never] [--accept-loss-after BYTE]] SLOTS MAX_BLOB TENANT=QUOTA[,BLOBS].. [-- IN OUT [IN OUT]..]\n",
             ),

@@ -105,7 +105,10 @@ impl fmt::Display for Reply {
             }
             Reply::NoLease => f.write_str("no lease"),
             Reply::NameTaken => f.write_str("name taken"),
-            Reply::Refused(refusal) => write!(f, "refused {refusal}"),
+            Reply::Refused(refusal) => {
+                let text = refusal.text();
+                write!(f, "refused {text}")
+            }
         }
     }
 }

@@ -2,19 +2,22 @@
 
 use blob_digest::Refusal;
 use std::alloc::{AllocError, Global};
-use std::error::Error;
-use std::fmt;
+use thiserror::Error;
 
 /// The reason why a record cannot be replayed.
-#[derive(Debug, Drop)]
+#[derive(Debug, Drop, Error)]
 pub enum Cause {
     /// The record is of a kind that this version does not know.
+    #[error("unknown kind {0}")]
     UnknownKind(u32),
     /// No store writes such a record: its head is malformed, or a name, a digest or a session's number is not one.
+    #[error("malformed")]
     Malformed,
     /// The record occurs only in a log that was rewritten. This version does not read such logs.
+    #[error("a kind that only a rewritten log has")]
     Rewritten,
     /// The store refuses the change. It has other settings than the store that wrote the log.
+    #[error("{name}: {refusal}")]
     Refused {
         /// The name of the repository, or of the tenant if the record names no repository.
         name: String,
@@ -22,13 +25,16 @@ pub enum Cause {
         refusal: Refusal,
     },
     /// The store made another change than the log describes. The record is the first one of its frame.
+    #[error("the store made another change")]
     Differs,
     /// Memory ran out.
+    #[error("out of memory")]
     Memory,
 }
 
 /// The reason why a log cannot be replayed, and the record.
-#[derive(Debug, Drop)]
+#[derive(Debug, Drop, Error)]
+#[error("record at byte {offset}: {cause}")]
 pub struct Fault {
     /// The offset of the record in the joined payloads of the log, in bytes.
     pub offset: u64,
@@ -62,24 +68,3 @@ impl From<AllocError> for Cause {
         Cause::Memory
     }
 }
-
-impl fmt::Display for Cause {
-    fn fmt<W: fmt::Write>(&self, f: &mut fmt::Formatter<W>) -> fmt::Result {
-        match self {
-            Cause::UnknownKind(kind) => write!(f, "unknown kind {kind}"),
-            Cause::Malformed => f.write_str("malformed"),
-            Cause::Rewritten => f.write_str("a kind that only a rewritten log has"),
-            Cause::Refused { name, refusal } => write!(f, "{name}: {refusal}"),
-            Cause::Differs => f.write_str("the store made another change"),
-            Cause::Memory => f.write_str("out of memory"),
-        }
-    }
-}
-
-impl fmt::Display for Fault {
-    fn fmt<W: fmt::Write>(&self, f: &mut fmt::Formatter<W>) -> fmt::Result {
-        write!(f, "record at byte {}: {}", self.offset, self.cause)
-    }
-}
-
-impl Error for Fault {}

@@ -5,7 +5,9 @@
 //! store whose log was replayed.
 #![tactic(auto)]
 
+mod damage;
 mod fault;
+mod folder_file;
 mod observer;
 mod open_sessions;
 mod player;
@@ -15,7 +17,9 @@ mod replayed;
 mod scan;
 mod trail;
 
+pub use damage::{Damage, LogPlace};
 pub use fault::{Cause, Fault};
+pub use folder_file::FolderFile;
 pub use observer::{ChangeSink, NoSink};
 pub use player::Player;
 pub use prefix::PrefixSink;

@@ -21,11 +21,11 @@ use log_frames::{
 };
 use segmented_disk::{SegmentFolder, SegmentedDisk};
 use std::alloc::{AllocError, Global};
-use std::fmt;
 use std::fs::File;
 use std::io::Read;
 use std::marker::{Brand, Model};
 use std::sync::Wait;
+use thiserror::Error;
 
 /// A log that was read and replayed, perhaps only up to a fault.
 ///
@@ -51,29 +51,14 @@ impl<'s, W: Wait, S: Naming, O: ChangeSink> Model for Replayed<'s, W, S, O> {
 }
 
 /// The reason why a log cannot be continued.
-#[derive(Clone, Copy, Debug)]
+#[derive(Clone, Copy, Debug, Error)]
 pub enum ContinueError {
     /// The log was not replayed to its end, or it ends within a record.
+    #[error("the log is not replayed to its end")]
     Unfinished,
     /// A call on the disk failed.
-    Disk(DiskError),
-}
-
-impl fmt::Display for ContinueError {
-    fn fmt<W: fmt::Write>(&self, f: &mut fmt::Formatter<W>) -> fmt::Result {
-        match self {
-            ContinueError::Unfinished => f.write_str("the log is not replayed to its end"),
-            ContinueError::Disk(error) => write!(f, "{error}"),
-        }
-    }
-}
-
-impl std::error::Error for ContinueError {}
-
-impl From<DiskError> for ContinueError {
-    fn from(error: DiskError) -> ContinueError {
-        ContinueError::Disk(error)
-    }
+    #[error("{0}")]
+    Disk(#[from] DiskError),
 }
 
 /// Replays the frame that a buffer begins with, which has this head.
