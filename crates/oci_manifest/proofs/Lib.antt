@@ -1,3 +1,2 @@
 pub mod Documents
-pub mod Doubles
 pub mod Layers

@@ -3,7 +3,7 @@ ghost use Rattle.std.specs.Prelude.{◌≡◌, ◌<◌, ◌≤◌, IfOk, IfErr, 
 ghost use Rattle.blob_digest.specs.Digests.{sha256_text};
 ghost use Rattle.oci_manifest.specs.Manifests.{IsReadRefusal, max_manifest, refs_of};
 
-use crate::references::references;
+use crate::references::{distinct_digests, named_digests};
 use blob_digest::{Algorithm, Digest, Refusal};
 use std::alloc::Global;
 use std::marker::Model;
@@ -59,8 +59,9 @@ pub fn read(alloc: Global, bytes: &[u8]) -> Result<Manifest, Refusal>
     if bytes.len() > MAX_MANIFEST {
         return Err(Refusal::SizeInvalid);
     }
-    let refs = references(alloc, bytes)?;
+    let named = named_digests(alloc, bytes)?;
     let digest = digest_of(bytes);
+    let refs = distinct_digests(alloc, &digest, named.as_slice())?;
     let bytes = bytes.to_vec(alloc)?;
     Ok(Manifest {
         bytes,

@@ -4,9 +4,10 @@ ghost use Rattle.serde_json.specs.View.{view, items_view};
 ghost use Rattle.oci_manifest.specs.Manifests.{IsInvalidOnlyIf, descriptor_digest, document_of, found_digests, image_refs, is_filled, is_skipped, is_version_2, layer_refs, member_items, member_view, named, distinct_texts, refs_of, slice_view};
 
 use blob_digest::{Digest, Refusal};
+use indexmap::IndexSet;
 use serde_json::Value;
 use std::alloc::{AllocError, Global};
-use std::collections::BTreeSet;
+use std::hash::{BuildHasher, DefaultHasher, Hash};
 
 /// Returns the digest in a descriptor.
 fn descriptor_digest(descriptor: &Value) -> Option<Digest>
@@ -108,7 +109,31 @@ fn named(alloc: Global, root: &Value) -> Result<Option<Vec<Digest>>, AllocError>
     }
 }
 
-/// Returns each digest once, at its first position.
+/// Makes hashers that begin with a seed, so that which digests collide depends on the seed.
+#[derive(Clone, Copy)]
+struct SeededHasher {
+    /// The hasher after the seed.
+    seeded: DefaultHasher,
+}
+
+impl BuildHasher for SeededHasher {
+    type Hasher = DefaultHasher;
+
+    ghost build_hasher = { λ s. s.seeded };
+
+    fn build_hasher(&self) -> DefaultHasher {
+        self.seeded
+    }
+}
+
+/// Returns the hasher that has this digest as its seed.
+fn seeded_by(digest: &Digest) -> SeededHasher {
+    let mut seeded = DefaultHasher::new();
+    digest.hash(&mut seeded);
+    SeededHasher { seeded }
+}
+
+/// Returns each digest once, at its first position. The seed is the digest of the manifest.
 ///
 /// # Errors
 ///
@@ -116,20 +141,23 @@ fn named(alloc: Global, root: &Value) -> Result<Option<Vec<Digest>>, AllocError>
 ///
 /// # Cost
 ///
-/// Each digest takes the logarithm of the number of different ones before it, whichever digests a client chooses. The
-/// list is allocated for all digests, which take less memory than the bytes of the manifest.
-fn distinct_digests(alloc: Global, digests: &[Digest]) -> Result<Vec<Digest>, Refusal>
+/// Each digest takes constant time, unless many of them collide (SipHash-1-3). Clients choose the digests, but the seed is
+/// the SHA-256 of all bytes of the manifest: other digests have another seed. So a client finds a manifest in which many
+/// digests collide only by trying, as if the seed were drawn at random for each manifest that it tries.
+pub(crate) fn distinct_digests(
+    alloc: Global,
+    seed: &Digest,
+    digests: &[Digest],
+) -> Result<Vec<Digest>, Refusal>
     ensures value { IfOk result (λ kept. kept.items ≡ distinct_texts digests.now) }
     ensures refused { IfErr result (λ e. e ≡ Refusal.Memory) }
 {
-    let mut seen = BTreeSet::new(alloc);
-    let mut kept = Vec::with_capacity(alloc, digests.len())?;
+    let mut kept = IndexSet::with_hasher(alloc, seeded_by(seed));
     for digest in digests {
-        if seen.insert(*digest)? {
-            kept.push(*digest)?;
-        }
+        kept.insert(*digest)?;
     }
-    Ok(kept)
+    let distinct = kept.as_slice().to_vec(alloc)?;
+    Ok(distinct)
 }
 
 /// Reads bytes as a JSON value.
@@ -149,15 +177,15 @@ fn document(alloc: Global, bytes: &[u8]) -> Result<Value, Refusal>
     }
 }
 
-/// Returns the references of a manifest's bytes.
+/// Returns the digests in a manifest's bytes, in order.
 #[tactic(auto, unfolding(crate::specs::Manifests::refs_of))]
-pub(crate) fn references(alloc: Global, bytes: &[u8]) -> Result<Vec<Digest>, Refusal>
-    ensures value { IfOk result (λ refs. refs_of bytes.now ≡ Some refs.items) }
+pub(crate) fn named_digests(alloc: Global, bytes: &[u8]) -> Result<Vec<Digest>, Refusal>
+    ensures value { IfOk result (λ digests. refs_of bytes.now ≡ Some (distinct_texts digests.items)) }
     ensures refused { IfErr result (λ e. IsInvalidOnlyIf (refs_of bytes.now ≡ None) e) }
 {
     let root = document(alloc, bytes)?;
     match named(alloc, &root)? {
-        Some(digests) => distinct_digests(alloc, digests.as_slice()),
+        Some(digests) => Ok(digests),
         None => Err(Refusal::ManifestInvalid),
     }
 }
