@@ -4,7 +4,7 @@ import threading
 import time
 
 from data_folder import PATIENCE, Ended, FolderLog, Trace, log_files, log_length, puts_log
-from frames import ABANDON, APPEND, CLOSE, DELETE, START, STAT, SWEEP, sha256
+from frames import ABANDON, APPEND, CLOSE, DELETE, GREETING, START, STAT, SWEEP, sha256
 from kills import lose_power
 from model import MIB, Fault
 from room import all_there, all_there_still, clients, compares, counts, ends_well, fault, looks, wait_until
@@ -154,6 +154,21 @@ def requests(room):
     ends_well("a program after a request", blobd)
     count = len(measured.times)
     print(f"crash_tests: a request was obeyed after {took:.1f} s; the longest of {count} commands meanwhile: {1000 * longest:.1f} ms")
+
+
+def permissions(room):
+    """Tests that a folder and its files are its user's alone, whatever the umask lets others do."""
+    folder = room.fresh() / "own"
+    compares("a first start", room.runs(folder, umask=0)[:2], (0, GREETING))
+    blobd = room.starts(folder, around=["sh", "-c", 'umask 0; exec "$@"', "sh"])
+    (line,) = blobd.opens()
+    closes_segment(line)
+    (folder / "rewrite").write_bytes(b"")
+    wait_until("a base", lambda: FolderLog(folder).base)
+    ends_well("a program in a folder of its own", blobd)
+    found = {path.name: oct(path.stat().st_mode & 0o777) for path in (folder, *folder.iterdir())}
+    compares("the permissions", found, {name: "0o700" if name == folder.name else "0o600" for name in found})
+    compares("whether the last segment and a base are among the files", len(found) >= 4, True)
 
 
 def interrupted_requests(room):

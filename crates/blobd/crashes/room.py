@@ -83,9 +83,9 @@ class Room:
         self.started.append(Blobd(command, pipes, connections, self.shim if settings else None, settings))
         return self.started[-1]
 
-    def runs(self, folder, *options, given=GREETING, user=None, **words):
+    def runs(self, folder, *options, given=GREETING, user=None, umask=-1, **words):
         """Runs a program with these bytes on standard input. Returns its status, its standard output and its standard error."""
-        more = {"user": user, "group": user, "extra_groups": []} if user else {}
+        more = {"umask": umask, **({"user": user, "group": user, "extra_groups": []} if user else {})}
         command = self.command(folder, *options, **words)
         ended = subprocess.run(command, input=given, capture_output=True, timeout=PATIENCE, **more)
         return ended.returncode, ended.stdout, ended.stderr.decode(errors="replace")

@@ -1,5 +1,6 @@
 """Logs of several files: damage in them, files that are missing or wrong, and crashes while the next one begins."""
 import shutil
+import time
 
 from data_folder import HEADER, WORD, Ended, FolderLog, LogReading, Trace, log_files, log_length, puts_log
 from frames import GREETING
@@ -143,6 +144,55 @@ def wrong_files(room, made):
         ("a last segment of another log", three, {**files, three: other.files["log.2"]}),
     ):
         made.is_damaged(title, wrong, name, 0)
+
+
+def unsound_files(made):
+    """Returns, for each way in which the closed files of a log may be unsound, the changed files (None: the file is removed), the file that
+    is named, and the place in it."""
+    files = made.files
+    names = [path.name for path in made.log.paths]
+    first, second, third = names[0], names[1], names[2]
+    frames = LogReading(files[second]).frames
+    body = next(frame for frame in frames if frame.length > 0)
+    marks = [frame.place for frame in frames if frame.length == 0]
+    return {
+        "a missing first file": ({first: None}, first, 0),
+        "a missing file": ({second: None}, second, 0),
+        "two missing files": ({second: None, third: None}, second, 0),
+        "two files exchanged": ({first: files[second], second: files[first]}, second, 0),
+        "a damaged byte": ({second: changed(files[second], body.place + 40)}, second, body.place),
+        "a file without the mark at its end": ({second: files[second][:marks[-1]]}, second, marks[-1]),
+        "an empty file": ({second: b""}, second, 0),
+    }
+
+
+def unsound_rewriting(room):
+    """Tests that a program which is asked to rewrite its log names the first closed file that is missing or damaged, changes nothing, and
+    goes on. When the files are as they were, all is there."""
+    made = Segments(room)
+    compares("a log of several segments", len(made.log.paths) >= 4, True)
+    for title, (wrong, name, place) in unsound_files(made).items():
+        puts_log(made.folder, made.files)
+        blobd = room.starts(made.folder, "--sync", "each", **made.words)
+        (line,) = blobd.opens()
+        for path, data in ((made.folder / one, data) for one, data in wrong.items()):
+            path.unlink() if data is None else path.write_bytes(data)
+        wanted = log_files(made.folder)
+        request = made.folder / "rewrite"
+        request.write_bytes(b"")
+        wait_until("the removal of a request", lambda: not request.exists())
+        step = made.states[-1][1].starts("acme/one")
+        compares(f"{title}: a call meanwhile", line.asks(step.request), step.reply)
+        time.sleep(0.5)
+        found = log_files(made.folder)
+        last = made.log.last.name
+        compares(f"{title}: the closed files after a request", {**found, last: b""} == {**wanted, last: b""}, True)
+        status, text = blobd.ends()
+        compares(f"{title}: the status", status, 0)
+        told = f"blobd: the log in {made.folder} was not rewritten: /{name} is damaged at byte {place}: "
+        compares(f"{title}: whether {text!r} names the file", told in text, True)
+    found, wanted = made.runs(made.files, made.state)
+    compares("a start from the files as they were", found[:2] == (0, wanted), True)
 
 
 def bases(room):
