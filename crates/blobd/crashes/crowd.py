@@ -16,6 +16,9 @@ CONNECTIONS = 16
 # The number of rounds, and the greatest number of seconds before a kill.
 ROUNDS, MOST_TIME = 6, 0.3
 
+# The number of rounds after which nobody asks for anything, and the seconds in which each reply must come.
+QUIET_ROUNDS, QUIET_PATIENCE = 12, 20
+
 
 class Crowd:
     """What the connections know in common. Each has a repository of its own."""
@@ -134,3 +137,30 @@ def crowds(room):
         blobd = room.starts(folder)
         crowd.looks(blobd.opens()[0])
         ends_well("an end after a crash of a crowd", blobd)
+
+
+def quiet_crowds(room):
+    """Tests that each of many connections which ask at the same time gets its reply, although nobody asks for anything meanwhile: a commit
+    wakes all that wait for it."""
+    blobd = room.starts(room.fresh(), connections=CONNECTIONS, settings={"CRASH_SYNC_MS": "2"})
+    lines = blobd.opens()
+    for _ in range(QUIET_ROUNDS):
+        barrier, numbers = threading.Barrier(CONNECTIONS), {}
+
+        def asks(place):
+            barrier.wait()
+            numbers[place] = lines[place].calls(START, f"{TENANT}/r{place}").first
+
+        threads = [threading.Thread(target=asks, args=(place,), daemon=True) for place in range(CONNECTIONS)]
+        for thread in threads:
+            thread.start()
+        end = time.monotonic() + QUIET_PATIENCE
+        for thread in threads:
+            thread.join(max(0, end - time.monotonic()))
+        compares("the number of requests without a reply", CONNECTIONS - len(numbers), 0)
+        if len(numbers) < CONNECTIONS:
+            blobd.process.kill()
+            return
+        for place, number in numbers.items():
+            lines[place].calls(ABANDON, f"{TENANT}/r{place}", number=number)
+    ends_well("a program after crowds", blobd)

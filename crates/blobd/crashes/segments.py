@@ -2,7 +2,7 @@
 import shutil
 import time
 
-from data_folder import HEADER, WORD, Ended, FolderLog, LogReading, Trace, log_files, log_length, puts_log
+from data_folder import HEADER, WORD, Ended, FolderLog, LogReading, Trace, framed, log_files, log_length, puts_log
 from frames import GREETING
 from kills import litter, lose_power
 from model import QUOTA, State
@@ -191,6 +191,31 @@ def unsound_rewriting(room):
         compares(f"{title}: the status", status, 0)
         told = f"blobd: the log in {made.folder} was not rewritten: /{name} is damaged at byte {place}: "
         compares(f"{title}: whether {text!r} names the file", told in text, True)
+    found, wanted = made.runs(made.files, made.state)
+    compares("a start from the files as they were", found[:2] == (0, wanted), True)
+
+
+def differing_rewriting(room):
+    """Tests that a base which leaves another state than the files that it was written from does not take their place: when it was written, it
+    gets the first records of the log alone."""
+    made = Segments(room)
+    first = made.files[made.log.paths[0].name]
+    begun = [first[frame.place + 32:frame.place + 32 + frame.length] for frame in LogReading(first).frames if frame.length > 0][:2]
+    other = room.path / "other-base"
+    other.write_bytes(framed(made.log.numbers()[-2], begun))
+    blobd = room.starts(made.folder, "--sync", "each", settings={"CRASH_BASE": str(other)}, **made.words)
+    blobd.opens()
+    request = made.folder / "rewrite"
+    request.write_bytes(b"")
+    wait_until("the removal of a request", lambda: not request.exists())
+    time.sleep(1)
+    status, text = blobd.ends()
+    compares("the status of a program whose rewriting differs", status, 0)
+    number = len(made.log.paths) - 1
+    told = f"blobd: {made.folder}/base.{number} was not written: the new log has another state\n"
+    compares(f"whether {text!r} says that the state differs", told in text, True)
+    last = made.log.last.name
+    compares("the files after a rewriting that differs", {**log_files(made.folder), last: b""} == {**made.files, last: b""}, True)
     found, wanted = made.runs(made.files, made.state)
     compares("a start from the files as they were", found[:2] == (0, wanted), True)
 

@@ -9,6 +9,7 @@
      CRASH_WRITES=PATH     appends each change of a file of the database that succeeded: a line `write NAME OFFSET LENGTH` and the
                            bytes written, `sync NAME LENGTH`, `cut NAME LENGTH` or `unlink NAME 0`. NAME begins with `registry.db`.
                            Appends `sync PATH LENGTH` for the sync of a folder
+     CRASH_BASE=PATH       puts the bytes of a file in place of those of `base.new` after each sync of it
      CRASH_KILL=N          kills the program after the N-th call, counted from 1, of which CRASH_TRACE has a line
      CRASH_SYNC_MS=MS      each sync of the log or of the database takes MS milliseconds longer
      CRASH_FAIL_SYNC=N     the N-th sync of the log, counted from 1, fails with EIO
@@ -111,6 +112,16 @@ static void traces(const char *name, const char *line) {
         appends("CRASH_WRITES", line, NULL, 0);
 }
 
+/* Puts the bytes of the file that CRASH_BASE names, at most a MiB, in place of those of an open file. */
+static void exchanges(int fd) {
+    static char bytes[1 << 20];
+    int from = open(getenv("CRASH_BASE"), O_RDONLY | O_CLOEXEC);
+    ssize_t count = read(from, bytes, sizeof bytes);
+    if (from < 0 || count < 0 || REAL(pwrite)(fd, bytes, count, 0) != count || REAL(ftruncate)(fd, count))
+        abort();
+    close(from);
+}
+
 static int sync_by(int (*real)(int), int fd) {
     char path[4096], line[4200];
     long long length;
@@ -130,6 +141,8 @@ static int sync_by(int (*real)(int), int fd) {
         return -1;
     }
     int result = real(fd);
+    if (result == 0 && !strcmp(name, "base.new") && getenv("CRASH_BASE"))
+        exchanges(fd);
     snprintf(line, sizeof line, "sync %s %lld\n", name, length);
     if (result == 0) {
         traces(name, line);
