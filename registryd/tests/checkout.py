@@ -11,9 +11,9 @@ STUBS = {
     "registryd/build": '#!/bin/sh\necho "$(dirname "$0")/../stub"\n',
     "package/unproved": '#!/bin/sh\nmkdir -p "${1%/*}"\necho unproved > "$1"\nchmod +x "$1"\n"${0%/*}/sources" > "$1.sources"\necho built\n',
     # A proof ends when the file `go` is there, and fails without the file `provable`.
-    "bin/rt": '#!/bin/sh\ncase $1 in\nversion) echo kit 1 ;;\n*) top=$PWD/../..\n   while [ -e "$top" ] && [ ! -e "$top/go" ]; do sleep 0.02; done\n'
+    "bin/rt": '#!/bin/sh\ncase $1 in\nversion) cat "$(dirname "$0")/version" ;;\n*) top=$PWD/../..\n   while [ -e "$top" ] && [ ! -e "$top/go" ]; do sleep 0.02; done\n'
               '   [ -e "$top/provable" ] || exit 1\n   echo proved > out/blobd\n   chmod +x out/blobd ;;\nesac\n',
-    "crates/blobd/source": "1\n", "crates.txt": "blobd:\n", "HANDLES": "\n", "go": "", "provable": "", ".gitignore": "out/\ntarget/\n",
+    "bin/version": "kit 1\n", "crates/blobd/src/main.rt": "1\n", "crates/blobd/README.md": "1\n", "crates.txt": "blobd:\n", "HANDLES": "\n", "go": "", "provable": "", ".gitignore": "out/\ntarget/\n",
 }
 
 
@@ -47,9 +47,13 @@ class Checkout:
         """Returns the arguments that registryd got, and what was written to standard error."""
         environment = {**os.environ, "PATH": f"{self.top}/bin:{os.environ['PATH']}"}
         done = subprocess.run([f"{self.top}/registryd/run", *words], env=environment, stdin=subprocess.DEVNULL, stdout=subprocess.PIPE,
-                              stderr=subprocess.PIPE, text=True, timeout=30)
+                              stderr=subprocess.PIPE, text=True, timeout=60)
         assert done.returncode == 0, done.stderr
         return done.stdout.split(), done.stderr
+
+    def record(self):
+        with open(f"{self.proved}.proved") as file:
+            return dict(line.rstrip("\n").split(" ", 1) for line in file)
 
     def is_recorded(self):
         return os.path.exists(f"{self.proved}.proved")
@@ -82,13 +86,13 @@ def a_start_serves_before_the_proof_ends():
 def the_record_names_program_sources_and_commit():
     with checkout() as made:
         made.run("--prove", "acme=1")
-        with open(f"{made.proved}.proved") as file:
-            record = dict(line.rstrip("\n").split(" ", 1) for line in file)
+        record = made.record()
         assert record["sha256"] == hashlib.sha256(b"proved\n").hexdigest() and record["proved-by"] == "rt run" and record["toolchain"] == "kit 1"
         head = subprocess.run(["git", "-C", made.top, "rev-parse", "HEAD"], stdout=subprocess.PIPE, text=True).stdout.strip()
         assert record["commit"] == head
         # A commit that changes nothing that the proof reads changes nothing here.
         made.write("README", "x")
+        made.write("crates/blobd/README.md", "x")
         made.commit()
         assert made.run("acme=1")[0][1] == made.proved
         made.write("crates/blobd/out/blobd", "another\n")
@@ -98,15 +102,51 @@ def the_record_names_program_sources_and_commit():
 def changed_sources_are_not_proved():
     with checkout() as made:
         assert made.run("--prove", "acme=1")[0] == ["--blobd", made.proved, "acme=1"]
-        made.write("crates/blobd/source", "2\n")
+        made.write("crates/blobd/src/main.rt", "2\n")
         os.remove(f"{made.top}/provable")
         assert made.run("acme=1")[0][1] == made.unproved
         made.commit()
         assert made.run("acme=1")[0][1] == made.unproved
         made.write("provable", "")
-        # What was proved is taken although sources that are not committed have no record.
-        made.write("crates/blobd/source", "3\n")
-        assert made.run("--prove", "acme=1")[0] == ["--blobd", made.proved, "acme=1"]
+        # Sources that are not committed have a name too.
+        made.write("crates/blobd/src/main.rt", "3\n")
+        assert made.run("--prove", "acme=1")[0] == made.run("acme=1")[0] == ["--blobd", made.proved, "acme=1"]
+        assert made.record()["commit"].endswith("-dirty")
+        # A program of another toolchain is not taken.
+        made.write("bin/version", "kit 2\n")
+        os.remove(f"{made.top}/provable")
+        assert made.run("acme=1")[0][1] == made.unproved
+
+
+def each_edit_is_built():
+    """Also if it is not committed, and without git."""
+    with checkout() as made:
+        os.remove(f"{made.top}/provable")
+        for edit in range(4):
+            if edit == 2:
+                shutil.rmtree(f"{made.top}/.git")
+            made.write("crates/blobd/src/main.rt", f"edit {edit}\n")
+            assert "built" in made.run("acme=1")[1], edit
+            assert "built" not in made.run("acme=1")[1], edit
+
+
+def what_has_no_name_is_not_taken():
+    with checkout() as made:
+        os.remove(f"{made.top}/provable")
+        made.run("acme=1")
+        made.write("registryd/target/not-verified/blobd.sources", "")
+        assert "built" in made.run("acme=1")[1]
+        # The second start has an empty name and a build whose name is empty.
+        made.write("bin/version", "")
+        for _ in range(2):
+            assert "built" in made.run("acme=1")[1]
+
+
+def the_record_needs_no_git():
+    with checkout() as made:
+        shutil.rmtree(f"{made.top}/.git")
+        assert made.run("--prove", "acme=1")[0] == made.run("acme=1")[0] == ["--blobd", made.proved, "acme=1"]
+        assert made.record()["commit"] == "unknown"
 
 
 def nothing_is_built_for_help_and_for_a_given_program():
@@ -121,6 +161,7 @@ def nothing_is_built_for_help_and_for_a_given_program():
 def main():
     play("checkout", [
         a_start_serves_before_the_proof_ends, the_record_names_program_sources_and_commit, changed_sources_are_not_proved,
+        each_edit_is_built, what_has_no_name_is_not_taken, the_record_needs_no_git,
         nothing_is_built_for_help_and_for_a_given_program])
 
 
