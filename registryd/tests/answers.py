@@ -119,7 +119,7 @@ def bad_tenants_are_named():
     from server import BLOBD, REGISTRYD
     for words, named in ((["acme=1", "Acme=1"], "Acme=1"), (["acme=1", "b=1125899906842625"], "b=1125899906842625"),
                          (["a=1", "b"], "b"), (["a=1", "b=x"], "b=x"), (["a=1", "b=2", "a=3"], "a=3")):
-        ended = subprocess.run([REGISTRYD, "--listen", "127.0.0.1:0", "--blobd", BLOBD, *words], stderr=subprocess.PIPE, text=True, timeout=20)
+        ended = subprocess.run([REGISTRYD, "--listen", "127.0.0.1:0", "--blobd", BLOBD, *words], stderr=subprocess.PIPE, text=True, timeout=60)
         assert ended.returncode == 2 and f"`{named}`" in ended.stderr, (words, ended)
 
 

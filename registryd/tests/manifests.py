@@ -25,9 +25,9 @@ def a_slow_call_for_one_tenant_holds_no_other_up():
             for repo in ("other/one", "acme/one"):
                 for path in ("manifests/v1", "tags/list"):
                     answer, seconds = took(lambda: client.ask("GET", f"/v2/{repo}/{path}"))
-                    assert answer.status == 200 and seconds < 1, (repo, path, answer.status, seconds)
+                    assert answer.status == 200 and seconds < 2, (repo, path, answer.status, seconds)
                 answer, seconds = took(lambda: client.ask("PUT", f"/v2/{repo}/manifests/v2", image(2), KIND))
-                assert answer.status == 201 and seconds < 1, (repo, answer.status, seconds)
+                assert answer.status == 201 and seconds < 2, (repo, answer.status, seconds)
             assert busy.answer is None, "the slow call ended before it was measured"
         for busy in (lambda: Asking(server, "PUT", "/v2/acme/slow/manifests/v1", image(3), KIND),
                      lambda: Asking(server, "DELETE", f"/v2/acme/slow/manifests/{sha256(image(3))}")):
@@ -38,14 +38,14 @@ def a_slow_call_for_one_tenant_holds_no_other_up():
 
 
 def a_repository_is_read_while_it_is_written():
-    with serving_stub({f"{PUT_MANIFEST} acme/one": {"slow": 2}}) as server:
+    with serving_stub({f"{PUT_MANIFEST} acme/one": {"slow": 3}}) as server:
         client = server.client()
         assert client.ask("PUT", "/v2/acme/one/manifests/v1", image(1), KIND).status == 201
         asking = Asking(server, "PUT", "/v2/acme/one/manifests/v2", image(2), KIND)
         time.sleep(0.2)
         for path in ("manifests/v1", "tags/list"):
             answer, seconds = took(lambda: client.ask("GET", f"/v2/acme/one/{path}"))
-            assert answer.status == 200 and seconds < 1, (path, answer.status, seconds)
+            assert answer.status == 200 and seconds < 2, (path, answer.status, seconds)
         assert asking.answer is None and asking.answered().status == 201
 
 

@@ -48,8 +48,8 @@ def took(ask):
     return answer, time.time() - begun
 
 
-def until(holds, seconds=10):
-    """Waits until `holds()` is true. Returns whether it became true in time."""
+def until(holds, seconds=60):
+    """Waits until `holds()` is true. Returns whether it became true in time. Other tests may run at the same time."""
     end = time.time() + seconds
     while time.time() < end:
         if holds():

@@ -23,7 +23,7 @@ def by_kill_of_registryd(server):
 
 def by_kill_of_blobd(server):
     os.kill(server.child(), signal.SIGKILL)
-    assert server.process.wait(timeout=20) == 1, server.logged()[-1000:]
+    assert server.process.wait(timeout=60) == 1, server.logged()[-1000:]
 
 
 def by_kill_of_both(server):

@@ -143,17 +143,17 @@ def blobs_go_with_the_last_manifest():
         assert client.ask("PUT", f"/v2/{repo}/manifests/latest", manifest_of(b"{}", [b"shared", b"two"])).status == 404
         blob(b"two")
         second = image(b"shared", b"two", b"asked for")
-        assert until(lambda: not is_there(client, repo, first), 2 * SECONDS)
-        assert until(lambda: free() == 60, 3 * SECONDS), free()
+        assert until(lambda: not is_there(client, repo, first))
+        assert until(lambda: free() == 60), free()
         for data, status in ((b"{}", 200), (b"shared", 200), (b"two", 200), (b"asked for", 200), (b"one", 404), (b"never used", 404)):
             assert client.ask("GET", f"/v2/{repo}/blobs/{sha256(data)}").status == status, data
         # A client's delete of a manifest loosens its blobs too.
         assert client.ask("DELETE", f"/v2/{repo}/manifests/{sha256(second)}").status == 202
-        assert until(lambda: free() == 64, 3 * SECONDS), free()
+        assert until(lambda: free() == 64), free()
         assert server.left() is None
         # Both repositories are empty, so they are removed.
         repositories = lambda: json.loads(client.ask("GET", "/status?tenant=acme").body)["repositories"]
-        assert until(lambda: repositories() == [], SECONDS), repositories()
+        assert until(lambda: repositories() == []), repositories()
 
 
 def a_push_waits_for_the_unlink_of_its_blob():
@@ -162,7 +162,7 @@ def a_push_waits_for_the_unlink_of_its_blob():
         client, data = server.client(), b"pushed twice"
         push, path = f"/v2/acme/one/blobs/uploads/?digest={sha256(data)}", f"/v2/acme/one/blobs/{sha256(data)}"
         assert client.ask("POST", push, data, PATCH).status == 201
-        assert until(lambda: calls(server)[DELETE] == 1, 2 * SECONDS + 5), "the blob is not unlinked"
+        assert until(lambda: calls(server)[DELETE] == 1), "the blob is not unlinked"
         pushing = Asking(server, "POST", push, data, PATCH)
         for method in ("HEAD", "GET"):
             assert client.ask(method, path).status == 404 and calls(server)[DELETE] == 1
@@ -197,8 +197,8 @@ def a_repository_takes_more_pushes_of_one_tag_than_it_has_manifests():
             return client.ask("PUT", "/v2/acme/one/manifests/latest", content).status
         statuses = {push(number) for number in range(1024)}
         assert statuses <= {201}, statuses
-        assert until(lambda: {push(1024 + number) for number in range(10)} == {201}, 2 * SECONDS + 10)
-        assert until(lambda: len(untagged(client)[0]) < 50, 2 * SECONDS + 10), len(untagged(client)[0])
+        assert until(lambda: {push(1024 + number) for number in range(10)} == {201})
+        assert until(lambda: len(untagged(client)[0]) < 50), len(untagged(client)[0])
 
 
 def times_survive_a_restart():

@@ -1,5 +1,5 @@
 """Starts a registryd on a free port, and sends requests to it. If WITH_FOLDER is set, it keeps its data in a new folder."""
-import contextlib, hashlib, http.client, os, re, signal, socket, subprocess, tempfile, time
+import contextlib, hashlib, http.client, os, random, re, signal, socket, subprocess, tempfile, time
 
 TOP = os.path.dirname(os.path.dirname(os.path.abspath(__file__)))
 REGISTRYD = os.environ.get("REGISTRYD", f"{TOP}/target/release/registryd")
@@ -26,9 +26,14 @@ def manifest_of(config, layers):
 
 
 def free_port():
-    with socket.socket() as free:
-        free.bind(("127.0.0.1", 0))
-        return free.getsockname()[1]
+    """Returns a port on which nothing listens. The system gives it to no connection meanwhile, because it is below those that it chooses."""
+    with open("/proc/sys/net/ipv4/ip_local_port_range") as file:
+        lowest = int(file.read().split()[0])
+    while True:
+        port = random.SystemRandom().randrange(min(10_000, lowest // 2), lowest)
+        with contextlib.suppress(OSError), socket.socket() as free:
+            free.bind(("127.0.0.1", port))
+            return port
 
 
 class Answer:
@@ -89,7 +94,7 @@ class Server:
         number = self.log.fileno()
         return os.pread(number, os.fstat(number).st_size, 0).decode()
 
-    def wait_for(self, pattern, seconds=20):
+    def wait_for(self, pattern, seconds=60):
         """Waits until the log matches a pattern, and returns the match."""
         end = time.time() + seconds
         while time.time() < end:
@@ -105,7 +110,7 @@ class Server:
         """Lets it read its files again, and waits until a new line of the log matches a pattern."""
         before = len(self.logged())
         self.process.send_signal(signal.SIGHUP)
-        end = time.time() + 20
+        end = time.time() + 60
         while not re.search(pattern, self.logged()[before:]):
             assert self.process.poll() is None and time.time() < end, f"no {pattern}:\n{self.logged()[before:][-2000:]}"
             time.sleep(0.02)

@@ -38,7 +38,7 @@ def a_folder_that_another_process_has():
     with folder() as path, serving("--data", path):
         begun = time.time()
         check(ended("--data", path), 7, "another process has the folder of --data: end that one")
-        assert 4 < time.time() - begun < 15
+        assert 4 < time.time() - begun < 30
 
 
 def a_database_that_another_process_has():
@@ -109,7 +109,7 @@ def a_log_that_cannot_be_written():
             resource.prlimit(server.child(), resource.RLIMIT_FSIZE, (longest, resource.RLIM_INFINITY))
             with contextlib.suppress(OSError):
                 assert client.ask("POST", f"/v2/acme/one/blobs/uploads/?digest={sha256(b'x')}", b"x", PATCH).status == 503
-            assert server.process.wait(timeout=20) == 9, server.logged()[-1000:]
+            assert server.process.wait(timeout=60) == 9, server.logged()[-1000:]
             assert "the log cannot be written any more: make room or replace the disk" in server.logged()
         with serving("--data", path) as server:
             assert pulled(server.client(), "acme/one", "v1") == (image, MANIFEST)
@@ -124,7 +124,7 @@ def a_database_that_cannot_be_written():
             resource.prlimit(server.process.pid, resource.RLIMIT_FSIZE, (longest, resource.RLIM_INFINITY))
             with contextlib.suppress(OSError):
                 assert client.ask("PUT", "/v2/acme/one/manifests/v2", image, {"Content-Type": MANIFEST}).status == 503
-            assert server.process.wait(timeout=20) == 9, server.logged()[-1000:]
+            assert server.process.wait(timeout=60) == 9, server.logged()[-1000:]
             assert "the database cannot be written any more" in server.logged(), server.logged()[-1000:]
         with serving("--data", path) as server:
             client = server.client()
@@ -146,7 +146,7 @@ def each_program_ends_after_the_other_is_killed():
     with folder() as path:
         with serving("--data", path) as server:
             os.kill(server.child(), signal.SIGKILL)
-            assert server.process.wait(timeout=20) == 1
+            assert server.process.wait(timeout=60) == 1
             assert "the store is gone: blobd ended: signal: 9 (SIGKILL): start again" in server.logged()
         with serving("--data", path) as server:
             child = server.child()
@@ -246,7 +246,7 @@ def a_full_disk_ends_both_and_loses_nothing():
                     if client.ask("POST", f"/v2/acme/one/blobs/uploads/?digest={sha256(data)}", data, PATCH).status != 201:
                         break
                     blobs.append(data)
-            assert server.process.wait(timeout=20) == 9, server.logged()[-1000:]
+            assert server.process.wait(timeout=60) == 9, server.logged()[-1000:]
             assert "make room or replace the disk, and start again" in server.logged()
         os.remove(f"{path}/ballast")
         with serving("--data", f"{path}/registry") as server:

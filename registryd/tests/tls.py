@@ -33,7 +33,7 @@ def serving_tls(*words, kind="p256"):
 
 def client(server, root):
     """Returns a connection to a server that has this certificate."""
-    return http.client.HTTPSConnection(server.address, timeout=20, context=ssl.create_default_context(cafile=root))
+    return http.client.HTTPSConnection(server.address, timeout=60, context=ssl.create_default_context(cafile=root))
 
 
 def ask(connection, method, path, body=None, headers=()):
@@ -45,7 +45,7 @@ def ask(connection, method, path, body=None, headers=()):
 def curl(server, *words):
     """Returns curl's exit status and the status of the response."""
     words = ["curl", "-s", "-o", "/dev/null", "-w", "%{http_code}", *words, f"https://{server.address}/v2/"]
-    done = subprocess.run(words, stdout=subprocess.PIPE, text=True, timeout=20)
+    done = subprocess.run(words, stdout=subprocess.PIPE, text=True, timeout=60)
     return done.returncode, done.stdout
 
 
@@ -166,7 +166,7 @@ def an_end_breaks_handshakes_off():
         line = server.socket()
         time.sleep(0.1)
         begun = time.time()
-        assert server.end() == 0 and time.time() - begun < 10
+        assert server.end() == 0 and time.time() - begun < 20
         line.close()
 
 

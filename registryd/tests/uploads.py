@@ -71,7 +71,7 @@ def an_upload_that_the_store_does_not_know_is_dropped():
     with serving_stub({ABANDON: {"status": upload_unknown}}, "--session-s", "2") as server:
         opened(server.client())
         assert server.metric("registryd_uploads") == 1
-        assert until(lambda: server.metric("registryd_uploads") == 0, 5), server.metric("registryd_uploads")
+        assert until(lambda: server.metric("registryd_uploads") == 0), server.metric("registryd_uploads")
 
 
 def an_upload_that_the_store_keeps_is_tried_again():
