@@ -1,19 +1,62 @@
 #!/usr/bin/env python3
 """Tests which blobd `registryd/run` takes: in a copy of its scripts, with stubs for the toolchain and for the programs."""
-import contextlib, hashlib, os, shutil, subprocess, tempfile
+import contextlib, hashlib, json, os, shutil, subprocess, tempfile, time
 
 from playing import play, until
 from server import TOP
 
 STUBS = {
-    # Prints what it was started with.
-    "stub": '#!/bin/sh\necho "$@"\n',
-    "registryd/build": '#!/bin/sh\necho "$(dirname "$0")/../stub"\n',
-    "package/unproved": '#!/bin/sh\nmkdir -p "${1%/*}"\necho unproved > "$1"\nchmod +x "$1"\n"${0%/*}/sources" > "$1.sources"\necho built\n',
+    # Prints what it was started with. It goes on while the file `hold` is there.
+    "stub": '''#!/bin/sh
+echo "$@"
+while [ -e "$(dirname "$0")/hold" ]; do sleep 0.02; done
+''',
+    "registryd/build": '''#!/bin/sh
+echo "build$BUILD_STEP" >> "$(dirname "$0")/../steps"
+echo "$(dirname "$0")/../stub"
+''',
+    # With the file `slow`, it takes longer than a proof that fails.
+    "package/unproved": '''#!/bin/sh
+echo "unproved$BUILD_STEP" >> "${0%/*}/../steps"
+[ ! -e "${0%/*}/../slow" ] || sleep 3
+mkdir -p "${1%/*}"
+echo unproved > "$1"
+chmod +x "$1"
+"${0%/*}/sources" > "$1.sources"
+echo built
+''',
     # A proof ends when the file `go` is there, and fails without the file `provable`.
-    "bin/rt": '#!/bin/sh\ncase $1 in\nversion) cat "$(dirname "$0")/version" ;;\n*) top=$PWD/../..\n   while [ -e "$top" ] && [ ! -e "$top/go" ]; do sleep 0.02; done\n'
-              '   [ -e "$top/provable" ] || exit 1\n   echo proved > out/blobd\n   chmod +x out/blobd ;;\nesac\n',
-    "bin/version": "kit 1\n", "crates/blobd/src/main.rt": "1\n", "crates/blobd/README.md": "1\n", "crates.txt": "blobd:\n", "HANDLES": "\n", "go": "", "provable": "", ".gitignore": "out/\ntarget/\n",
+    "bin/rt": '''#!/bin/sh
+case $1 in
+version) cat "$(dirname "$0")/version" ;;
+*)
+    top=$PWD/../..
+    echo $$ $(nice) > "$top/proving"
+    while [ -e "$top" ] && [ ! -e "$top/go" ]; do sleep 0.02; done
+    [ -e "$top/provable" ] || exit 1
+    echo proved > out/blobd
+    chmod +x out/blobd ;;
+esac
+''',
+    "bin/version": "kit 1\n", "crates/blobd/src/main.rt": "1\n", "crates/blobd/README.md": "1\n", "crates.txt": "blobd:\n", "HANDLES": "\n",
+    "go": "", "provable": "", ".gitignore": "out/\ntarget/\nsteps\nproving\n",
+}
+
+
+# A toolchain whose `rt try` takes three seconds.
+TOOLCHAIN = {
+    "bin/rt": '''#!/bin/sh
+case $1 in
+doc) echo "$(dirname "$(dirname "$0")")/page" ;;
+version) echo kit 1 ;;
+try)
+    sleep 3
+    mkdir "$TMPDIR/try"
+    echo compiled > "$TMPDIR/try/program"
+    exec cat < "$7" > "$8" ;;
+esac
+''',
+    "bin/rtlib.py": "", "toolchain/bin/clang": "",
 }
 
 
@@ -25,7 +68,8 @@ class Checkout:
             with open(f"{top}/{path}", "w") as file:
                 file.write(text)
             os.chmod(f"{top}/{path}", 0o755)
-        for path in ("registryd/run", "package/sources", "package/is-proved", "package/record"):
+        os.makedirs(f"{top}/package/man")
+        for path in ("registryd/run", "package/sources", "package/is-proved", "package/record", "package/manual", "package/man/registryd.1"):
             shutil.copy(f"{os.path.dirname(TOP)}/{path}", f"{top}/{path}")
         os.makedirs(f"{top}/crates/blobd/out")
         self.git("init", "--quiet")
@@ -43,13 +87,24 @@ class Checkout:
         with open(f"{self.top}/{path}", "w") as file:
             file.write(text)
 
-    def run(self, *words):
+    def started(self, *words, path=None, errors=subprocess.PIPE):
+        """Starts a registry."""
+        environment = {**os.environ, "PATH": path or f"{self.top}/bin:{os.environ['PATH']}"}
+        return subprocess.Popen([f"{self.top}/registryd/run", *words], env=environment, stdin=subprocess.DEVNULL, stdout=subprocess.PIPE,
+                                stderr=errors, text=True)
+
+    def run(self, *words, status=0, **options):
         """Returns the arguments that registryd got, and what was written to standard error."""
-        environment = {**os.environ, "PATH": f"{self.top}/bin:{os.environ['PATH']}"}
-        done = subprocess.run([f"{self.top}/registryd/run", *words], env=environment, stdin=subprocess.DEVNULL, stdout=subprocess.PIPE,
-                              stderr=subprocess.PIPE, text=True, timeout=60)
-        assert done.returncode == 0, done.stderr
-        return done.stdout.split(), done.stderr
+        process = self.started(*words, **options)
+        said, errors = process.communicate(timeout=60)
+        assert process.returncode == status, (process.returncode, errors)
+        return said.split(), errors
+
+    def proof(self):
+        """Returns the process and the niceness of the proof in the background."""
+        assert until(lambda: os.path.exists(f"{self.top}/proving") and os.path.getsize(f"{self.top}/proving")), "no proof begins"
+        with open(f"{self.top}/proving") as file:
+            return [int(word) for word in file.read().split()]
 
     def record(self):
         with open(f"{self.proved}.proved") as file:
@@ -61,7 +116,8 @@ class Checkout:
 
 @contextlib.contextmanager
 def checkout():
-    with tempfile.TemporaryDirectory() as top:
+    # A proof in the background may still write.
+    with tempfile.TemporaryDirectory(ignore_cleanup_errors=True) as top:
         made = Checkout(os.path.realpath(top))
         try:
             yield made
@@ -74,7 +130,7 @@ def a_start_serves_before_the_proof_ends():
     with checkout() as made:
         os.remove(f"{made.top}/go")
         for said in ("built", ""):
-            words, errors = made.run("--slots", "1", "acme=1")
+            words, errors = made.run("--keep-proving", "--slots", "1", "acme=1")
             assert words == ["--blobd", made.unproved, "--slots", "1", "acme=1"] and "NOT VERIFIED" in errors, (words, errors)
             assert ("built" in errors) == bool(said), errors
         made.write("go", "")
@@ -149,20 +205,112 @@ def the_record_needs_no_git():
         assert made.record()["commit"] == "unknown"
 
 
-def nothing_is_built_for_help_and_for_a_given_program():
+def a_proof_in_the_background_ends_with_the_registry():
+    with checkout() as made, tempfile.NamedTemporaryFile("w+") as errors:
+        os.remove(f"{made.top}/go")
+        made.write("hold", "")
+        registry = made.started("acme=1", errors=errors)
+        try:
+            pid, niceness = made.proof()
+            assert niceness == 19
+            said = lambda: (errors.seek(0), errors.read())[1]
+            assert until(lambda: "NOT VERIFIED until its proof ends" in said()), said()
+            assert not has_ended(pid)
+        finally:
+            registry.kill()
+            registry.communicate()
+        assert until(lambda: has_ended(pid), 20), "the proof goes on"
+        with open(f"{made.top}/crates/blobd/out/proof.log") as log:
+            assert "the proof ends with the registry" in log.read()
+
+
+def a_proof_goes_on_if_it_shall():
     with checkout() as made:
         os.remove(f"{made.top}/go")
-        assert made.run("--help")[0] == ["--help"]
+        made.run("--keep-proving", "acme=1")
+        pid, _ = made.proof()
+        time.sleep(1.5)
+        assert not has_ended(pid)
+
+
+def a_proof_that_has_ended_is_not_waited_for():
+    with checkout() as made:
+        os.remove(f"{made.top}/provable")
+        made.write("slow", "")
+        errors = made.run("acme=1")[1]
+        assert "NOT VERIFIED, and its proof has ended" in errors and "until" not in errors, errors
+
+
+def has_ended(pid):
+    with contextlib.suppress(FileNotFoundError):
+        with open(f"/proc/{pid}/stat") as file:
+            return file.read().split()[2] == "Z"
+    return True
+
+
+def nothing_is_built_for_help_and_little_for_a_given_program():
+    with checkout() as made:
+        os.remove(f"{made.top}/go")
+        for word in ("--help", "-h"):
+            text = " ".join(made.run("acme=1", word)[0])
+            assert "--keep-proving" in text and "--listen ADDR:PORT Listen on this address." in text, text
+        assert not os.path.exists(f"{made.top}/steps"), "something is built"
         assert made.run("--blobd", "/x/blobd", "acme=1")[0] == ["--blobd", "/x/blobd", "acme=1"]
         assert made.run("--version")[0] == ["--blobd", made.unproved, "--version"]
         assert not os.path.exists(made.unproved) and not os.listdir(f"{made.top}/crates/blobd/out")
 
 
+def a_missing_program_is_named_before_anything_is_built():
+    with checkout() as made:
+        # Debian's programs alone.
+        errors = made.run("acme=1", status=3, path="/usr/bin:/bin")[1]
+        assert "rt: not installed: " in errors and "docs/OPERATIONS.md" in errors, errors
+        assert not os.path.exists(f"{made.top}/steps") and not os.listdir(f"{made.top}/crates/blobd/out"), "something is built"
+
+
+def a_first_start_counts_its_steps():
+    with checkout() as made:
+        os.remove(f"{made.top}/provable")
+        for expected in ("build, 1 of 2\nunproved, 2 of 2\n", "build\n"):
+            made.write("steps", "")
+            made.run("acme=1")
+            with open(f"{made.top}/steps") as file:
+                assert file.read() == expected, expected
+
+
+def a_long_build_of_registryd_says_how_far_it_is():
+    def artifact(name, kind="lib"):
+        return json.dumps({"reason": "compiler-artifact", "package_id": name, "target": {"kind": [kind]}}) + "\n"
+    reader = subprocess.Popen([f"{TOP}/progress", "building registryd, 1 of 2", "109"], stdin=subprocess.PIPE, stderr=subprocess.PIPE, text=True)
+    # A build script is no crate, nor is another line.
+    reader.stdin.write(artifact("a") + artifact("b", "custom-build") + artifact("b") + "no message\n")
+    reader.stdin.flush()
+    assert reader.stderr.readline() == "registryd/build: building registryd, 1 of 2: 2 of 109 crates\n"
+    assert reader.communicate(artifact("c"), timeout=20)[1] == "" and reader.returncode == 0
+
+
+def a_build_without_proof_says_how_long_it_takes():
+    with tempfile.TemporaryDirectory() as folder:
+        for path, text in TOOLCHAIN.items():
+            os.makedirs(os.path.dirname(f"{folder}/{path}"), exist_ok=True)
+            with open(f"{folder}/{path}", "w") as file:
+                file.write(text)
+            os.chmod(f"{folder}/{path}", 0o755)
+        environment = {**os.environ, "PATH": f"{folder}/bin:{os.environ['PATH']}", "BUILD_STEP": ", 2 of 2"}
+        done = subprocess.run([f"{os.path.dirname(TOP)}/package/unproved", f"{folder}/out/blobd"], env=environment, stderr=subprocess.PIPE,
+                              text=True, timeout=60)
+        assert (done.returncode, done.stderr) == (0, "package/unproved: building blobd without its proof, 2 of 2: 2 s so far\n"), done
+        with open(f"{folder}/out/blobd") as program, open(f"{folder}/out/blobd.sources") as sources:
+            assert program.read() == "compiled\n" and len(sources.read()) == 65
+
+
 def main():
     play("checkout", [
         a_start_serves_before_the_proof_ends, the_record_names_program_sources_and_commit, changed_sources_are_not_proved,
-        each_edit_is_built, what_has_no_name_is_not_taken, the_record_needs_no_git,
-        nothing_is_built_for_help_and_for_a_given_program])
+        each_edit_is_built, what_has_no_name_is_not_taken, the_record_needs_no_git, a_proof_in_the_background_ends_with_the_registry,
+        a_proof_goes_on_if_it_shall, a_proof_that_has_ended_is_not_waited_for, nothing_is_built_for_help_and_little_for_a_given_program,
+        a_missing_program_is_named_before_anything_is_built, a_first_start_counts_its_steps, a_long_build_of_registryd_says_how_far_it_is,
+        a_build_without_proof_says_how_long_it_takes])
 
 
 if __name__ == "__main__":
