@@ -1,0 +1,86 @@
+#!/usr/bin/env python3
+"""Tests the versions of the package: each commit's is greater than those of its ancestors, as dpkg compares them."""
+import contextlib, os, shutil, subprocess, tempfile
+
+from playing import play
+from server import TOP
+
+
+def run(*words, **options):
+    return subprocess.run(words, stdout=subprocess.PIPE, stderr=subprocess.PIPE, text=True, **options)
+
+
+class Repository:
+    """A repository with package/version, and with no other file of the product but that which names the version of registryd."""
+
+    def __init__(self, top):
+        self.top = top
+        for path in ("package/version", "registryd/Cargo.toml"):
+            os.makedirs(os.path.dirname(f"{top}/{path}"))
+            shutil.copy(f"{os.path.dirname(TOP)}/{path}", f"{top}/{path}")
+        self.git("init", "--quiet")
+
+    def git(self, *words):
+        done = run("git", "-C", self.top, "-c", "user.name=a", "-c", "user.email=a@b", *words)
+        assert done.returncode == 0, done.stderr
+        return done.stdout.strip()
+
+    def commit(self, text):
+        with open(f"{self.top}/text", "w") as file:
+            file.write(text)
+        self.git("add", "--all")
+        self.git("commit", "--quiet", "--message", text)
+
+    def version(self):
+        done = run(f"{self.top}/package/version")
+        assert done.returncode == 0, done.stderr
+        return done.stdout.strip()
+
+
+@contextlib.contextmanager
+def repository():
+    with tempfile.TemporaryDirectory() as top:
+        yield Repository(top)
+
+
+def each_commit_has_a_greater_version():
+    with repository() as made:
+        before = "0.1.0"
+        # The names of ten commits are in no order.
+        for number in range(10):
+            made.commit(str(number))
+            version = made.version()
+            assert version == f"0.1.0+{number + 1}.g{made.git('rev-parse', '--short=12', 'HEAD')}", version
+            assert run("dpkg", "--compare-versions", version, "gt", before).returncode == 0, (version, before)
+            before = version
+
+
+def a_change_that_is_not_committed_is_marked():
+    with repository() as made:
+        made.commit("1")
+        version = made.version()
+        with open(f"{made.top}/text", "w") as file:
+            file.write("2")
+        assert made.version() == f"{version}.dirty"
+        made.commit("2")
+        assert run("dpkg", "--compare-versions", made.version(), "gt", f"{version}.dirty").returncode == 0
+
+
+def commits_that_cannot_be_counted_have_no_version():
+    with repository() as made, tempfile.TemporaryDirectory() as folder:
+        made.commit("1")
+        made.commit("2")
+        assert run("git", "clone", "--quiet", "--depth", "1", f"file://{made.top}", f"{folder}/clone").returncode == 0
+        done = run(f"{folder}/clone/package/version")
+        assert done.returncode == 1 and "git fetch --unshallow" in done.stderr, done
+        shutil.rmtree(f"{folder}/clone/.git")
+        done = run(f"{folder}/clone/package/version")
+        assert done.returncode == 1 and "no git repository" in done.stderr, done
+
+
+def main():
+    play("versions", [each_commit_has_a_greater_version, a_change_that_is_not_committed_is_marked, commits_that_cannot_be_counted_have_no_version])
+
+
+if __name__ == "__main__":
+    main()
