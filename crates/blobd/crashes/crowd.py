@@ -1,5 +1,6 @@
 """Kills and losses of power of a program whose connections all use one tenant, so that its sessions, its use, and the commits of its
 log are those of all."""
+import contextlib
 import random
 import threading
 import time
@@ -149,7 +150,8 @@ def quiet_crowds(room):
 
         def asks(place):
             barrier.wait()
-            numbers[place] = lines[place].calls(START, f"{TENANT}/r{place}").first
+            with contextlib.suppress(Ended, OSError):  # if the program was killed, because others got no reply
+                numbers[place] = lines[place].calls(START, f"{TENANT}/r{place}").first
 
         threads = [threading.Thread(target=asks, args=(place,), daemon=True) for place in range(CONNECTIONS)]
         for thread in threads:
