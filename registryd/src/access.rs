@@ -332,6 +332,15 @@ impl Caller {
         has || self.rights.as_ref().map_or(false, |rights| rights.are_public(right, repo))
     }
 
+    /// Returns whether the sender has a right in all repositories of a tenant. A line of the file for the tenant's name holds for
+    /// all of them. An entry of a token holds for one repository only, which may have the tenant's name.
+    pub fn may_in_tenant(&self, right: Right, tenant: &str) -> bool {
+        match (&self.identity, &self.rights) {
+            (Identity::Holder(_), rights) => rights.as_ref().map_or(false, |rights| rights.are_public(right, tenant)),
+            _ => self.may(right, tenant),
+        }
+    }
+
     /// Fails if the sender does not have the right that a request needs.
     pub fn check(&self, demand: &Demand<'_>) -> Result<(), Fault> {
         match &self.identity {

@@ -136,8 +136,11 @@ impl Call {
     /// repository if the sender may not read the other, so that the reply is that for a blob that the other does not have.
     pub fn mount_source(&self) -> String {
         let source = self.query("from").unwrap_or_default();
-        let read = if source.is_empty() { tenant_of(&self.repo) } else { &source };
-        match self.caller.may(Right::Read, read) {
+        let may_read = match source.is_empty() {
+            true => self.caller.may_in_tenant(Right::Read, tenant_of(&self.repo)),
+            false => self.caller.may(Right::Read, &source),
+        };
+        match may_read {
             true => source,
             false => self.repo.clone(),
         }

@@ -5,11 +5,11 @@ import base64, contextlib, hashlib, hmac, http.server, json, os, shutil, subproc
 import urllib.parse
 
 from clients import Docker, run
-from hardships import played
+from hardships import PATCH, played
 from images import image, same_blobs, skopeo
 from limits import CHEAP, basic, users
 from rights import fails, has_podman, podman, put_image, status
-from server import serving
+from server import serving, sha256
 from statuses import check, ended
 
 SERVICE, ISSUER = "registry.test", "login.test"
@@ -159,6 +159,36 @@ def a_token_allows_what_it_lists():
         server.wait_for('status=202 .*user="jo"')
 
 
+def a_mount_without_a_source_needs_the_whole_tenant():
+    """A token for the repository that is named as the tenant is no token for the tenant."""
+    with serving_tokens() as (server, key):
+        def of(*access):
+            return server.client(bearer(token(key, words=claims(access))))
+        secret = b"secret"
+        digest = sha256(secret)
+        def mounted(client, into, query=""):
+            return client.ask("POST", f"/v2/{into}/blobs/uploads/?mount={digest}{query}").status
+        owner = of(entry("acme/secret", "pull", "push"))
+        assert owner.ask("POST", f"/v2/acme/secret/blobs/uploads/?digest={digest}", secret, PATCH).status == 201
+        named_as_tenant = of(entry("acme", "*"), entry("acme/two", "*"))
+        for into in ("acme", "acme/two"):
+            for query in ("", "&from=", "&from=acme", "&from=acme/secret", "&from=acme/secret&from=acme"):
+                assert mounted(named_as_tenant, into, query) == 202, (into, query)
+            assert named_as_tenant.ask("GET", f"/v2/{into}/blobs/{digest}").status == 404, into
+        # What the repository has itself is linked again, and a source that the token lists is read.
+        assert mounted(owner, "acme/secret") == 201
+        both = of(entry("acme/two", "push"), entry("acme/secret", "pull"))
+        assert (mounted(both, "acme/two"), mounted(both, "acme/two", "&from=acme/secret")) == (202, 201)
+    # A line of the rights for the tenant holds for all below it, also for a token if it is everybody's.
+    with users(f"acme:{CHEAP}", f"one:{CHEAP}") as file, users("acme read,write acme", "one read,write acme/one", "* read other") as rights:
+        with serving_tokens("--htpasswd", file, "--rights", rights) as (server, key):
+            acme, one = (server.client(basic(f"{user}:secret")) for user in ("acme", "one"))
+            public = server.client(bearer(token(key, words=claims([entry("other/one", "push", "pull"), entry("other/two", "push")]))))
+            for client, repo in ((acme, "acme/secret"), (public, "other/one")):
+                assert client.ask("POST", f"/v2/{repo}/blobs/uploads/?digest={digest}", secret, PATCH).status == 201
+            assert (mounted(one, "acme/one"), mounted(acme, "acme/one"), mounted(public, "other/two")) == (202, 201, 201)
+
+
 def keys_are_read_again():
     with serving_tokens() as (server, key):
         def status(path, algorithm="RS256"):
@@ -304,7 +334,7 @@ def docker_gets_tokens():
 
 
 TESTS = [a_token_of_each_type_of_key, bad_tokens_are_refused, a_challenge_names_what_is_needed, a_token_allows_what_it_lists,
-         keys_are_read_again, passwords_and_tokens_go_together, a_start_names_the_key, clients_get_tokens, docker_gets_tokens]
+         a_mount_without_a_source_needs_the_whole_tenant, keys_are_read_again, passwords_and_tokens_go_together, a_start_names_the_key, clients_get_tokens, docker_gets_tokens]
 
 
 def main():
