@@ -4,6 +4,7 @@ mod access;
 mod appending;
 mod blobs;
 mod bounds;
+mod browser;
 mod catalog;
 mod clock;
 mod collector;

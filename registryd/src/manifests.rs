@@ -6,7 +6,7 @@ use crate::document::{self, Document, Facts};
 use crate::fault::Fault;
 use crate::frames::{Reason, Refusal};
 use crate::limits::{tenant_of, Limit};
-use crate::media_type::{media_type_of, MediaType};
+use crate::media_type::{check_inert, media_type_of, MediaType};
 use crate::pages::{page_response, WantedPage};
 use crate::registry::{empty, with_body, Call, HandlerResult, Registry};
 use crate::store::{Answer, StoreUnavailable};
@@ -123,6 +123,7 @@ pub async fn put(call: &Call, reference: &str, content: &mut RequestContent) -> 
     }
     let document = document?;
     let given = media_type_of(call.header("content-type"), &document)?;
+    check_inert(&given.text)?;
     let tag = Some(reference).filter(|reference| !is_digest(reference));
     let turn = call.registry.turns.take(&call.repo, &digest).await;
     let facts = facts_to_store(call, &digest, document, given, size_of(&bytes))?;

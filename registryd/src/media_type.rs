@@ -52,6 +52,25 @@ pub fn media_type_of(header: Option<&str>, document: &Document) -> Result<MediaT
     Ok(MediaType { text, is_given })
 }
 
+/// Checks that a browser shows no content with this media type of a manifest as a page or runs it as a script: it is of
+/// `application`, and neither XML (RFC 7303) nor a script (RFC 9239).
+///
+/// # Errors
+///
+/// Fails with any other media type.
+pub fn check_inert(text: &str) -> Result<(), Fault> {
+    let text = text.to_ascii_lowercase();
+    let is_active = |subtype: &str| {
+        subtype == "xml" || subtype.starts_with("xml-") || subtype.ends_with("+xml") || subtype.ends_with("script")
+    };
+    match text.split_once('/') {
+        Some(("application", subtype)) if !is_active(subtype) => Ok(()),
+        _ => Err(Fault::manifest_invalid(format!(
+            "the media type of a manifest is of `application`, not XML and no script: {text:.255}"
+        ))),
+    }
+}
+
 /// Returns a media type without its parameters (RFC 9110, 8.3.1).
 fn without_parameters(text: &str) -> &str {
     text.split(';').next().unwrap_or("").trim()
@@ -114,6 +133,33 @@ mod tests {
         }
         for text in [r#"{"mediaType":"a\nb/c"}"#, r#"{"mediaType":5}"#, "[]", "{", "", r#"{} {}"#] {
             assert_eq!(media_type_text(None, text), None, "{text}");
+        }
+    }
+
+    #[test]
+    fn what_a_browser_shows_or_runs_is_refused() {
+        for text in [IMAGE, DOCKER_IMAGE, INDEX, "application/json", "application/vnd.example.xml.v1+json", "Application/JSON"] {
+            assert!(check_inert(text).is_ok(), "{text}");
+        }
+        let types = [
+            "text/html",
+            "TEXT/HTML",
+            "text/javascript",
+            "text/plain",
+            "text/xsl",
+            "image/svg+xml",
+            "application/xhtml+xml",
+            "Application/XHTML+XML",
+            "application/xml",
+            "application/xml-dtd",
+            "application/atom+xml",
+            "application/javascript",
+            "application/x-ecmascript",
+            "multipart/x-mixed-replace",
+            "applications/json",
+        ];
+        for text in types {
+            assert!(check_inert(text).is_err(), "{text}");
         }
     }
 

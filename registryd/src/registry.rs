@@ -1,6 +1,7 @@
 //! The registry: dispatches requests to the store and to the tables of this process.
 use crate::access::{Access, Caller};
 use crate::bounds::Bounds;
+use crate::browser::restrict;
 use crate::catalog::Catalog;
 use crate::collector::SweepRequests;
 use crate::content::{RequestContent, MAX_MANIFEST};
@@ -261,7 +262,7 @@ impl Registry {
         let metrics = self.metrics.clone();
         let response = tokio::spawn(self.answer(request)).await.unwrap_or_else(|_| Fault::internal().into_response());
         metrics.count_request(&method, response.status(), begun.elapsed());
-        response
+        restrict(response)
     }
 
     async fn answer(self: Arc<Self>, request: Request<Body>) -> Response<Body> {
@@ -358,7 +359,7 @@ impl Registry {
                 None => Err(Fault::path()),
             }
         });
-        answered.await.unwrap_or_else(|_| Err(Fault::internal())).unwrap_or_else(Fault::into_response)
+        restrict(answered.await.unwrap_or_else(|_| Err(Fault::internal())).unwrap_or_else(Fault::into_response))
     }
 
     /// Asks the store how often its log was synced, if it has one, and notes the number.

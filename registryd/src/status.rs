@@ -93,7 +93,7 @@ fn source_of(element: &str) -> String {
 
 /// Returns a response that no cache keeps.
 fn fresh(media_type: &str, text: String, headers: &[(&str, &str)]) -> HandlerResult {
-    let own = [("Content-Type", media_type), ("Cache-Control", "no-store"), ("X-Content-Type-Options", "nosniff")];
+    let own = [("Content-Type", media_type), ("Cache-Control", "no-store")];
     with_body(StatusCode::OK, &[&own[..], headers].concat(), text.into())
 }
 

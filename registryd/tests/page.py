@@ -1,8 +1,10 @@
 #!/usr/bin/env python3
 """Opens the page of a registry in Chromium, and checks that it shows what was pushed. A second server gives the page names that no
-registry has, which must not become markup. With `--screenshot FILE` it writes a picture of the page instead."""
-import contextlib, html, http.server, json, re, shutil, subprocess, sys, tempfile, threading
+registry has, which must not become markup. Manifests of hostile media types must not run scripts, also those that an older version
+stored. With `--screenshot FILE` it writes a picture of the page instead."""
+import contextlib, html, http.server, json, re, shutil, sqlite3, subprocess, sys, tempfile, threading
 
+from limits import CHEAP, basic, users
 from playing import play, until
 from referrers import descriptor, index, put
 from restarts import folder, pushed
@@ -11,11 +13,11 @@ from server import serving, sha256
 HOSTILE = '<img src="x" onerror="document.title=1"></td><script>document.title=2</script>&amp;'
 
 
-def chromium(address, *words):
+def chromium(address, *words, path="/"):
     """Runs a browser without a window on a page, and returns what it prints. The page's clock runs ahead of the machine's."""
     with tempfile.TemporaryDirectory() as profile:
         command = ["chromium", "--headless", "--no-sandbox", "--disable-gpu", "--disable-dev-shm-usage", "--no-first-run", "--hide-scrollbars",
-                   "--disable-background-networking", f"--user-data-dir={profile}", "--virtual-time-budget=8000", *words, f"http://{address}/"]
+                   "--disable-background-networking", f"--user-data-dir={profile}", "--virtual-time-budget=8000", *words, f"http://{address}{path}"]
         return subprocess.run(command, stdout=subprocess.PIPE, stderr=subprocess.DEVNULL, text=True, timeout=120, check=True).stdout
 
 
@@ -86,13 +88,71 @@ def names_are_no_markup():
         assert shown(dom).count(HOSTILE) == 8, shown(dom)
 
 
+# A manifest that is a page: its script reads the state of all tenants, and shows that it did.
+SCRIPT = "document.title = 'it ran'; fetch('/status').then(reply => reply.text()).then(text => { document.title = 'it read ' + text })"
+PAGES = ("text/html", "TEXT/HTML", "text/javascript", "text/xml", "image/svg+xml", "application/xhtml+xml", "application/xml", "multipart/related")
+
+
+def hostile_manifest(kind=None):
+    named = {"mediaType": kind} if kind else {}
+    return json.dumps({"schemaVersion": 2, **named, "manifests": [], "annotations": {"x": f"<script>{SCRIPT}</script>"}}).encode()
+
+
+def a_manifest_is_no_page():
+    with serving() as server:
+        client = server.client()
+        for kind in PAGES:
+            for body, headers in ((hostile_manifest(), {"Content-Type": kind}), (hostile_manifest(kind), {})):
+                answer = client.ask("PUT", "/v2/acme/web/manifests/v1", body, headers)
+                assert answer.status == 400 and answer.code() == "MANIFEST_INVALID", (kind, headers, answer.status)
+        assert client.ask("GET", "/v2/acme/web/manifests/v1").status == 404
+
+
+def a_manifest_of_an_older_version_is_no_page():
+    """The script would run in the session of an administrator who may read the state of all tenants."""
+    with folder() as path, users(f"acme:{CHEAP}", f"admin:{CHEAP}") as file, users("acme read,write acme", "admin read *") as rights:
+        words = ("--data", path, "--htpasswd", file, "--rights", rights, "--metrics-user", "admin")
+        body = hostile_manifest()
+        at = f"/v2/acme/web/manifests/{sha256(body)}"
+        with serving(*words) as server:
+            assert server.client(basic("acme:secret")).ask("PUT", at, body).status == 201
+            assert server.end() == 0
+        for kind in ("text/html", "application/xhtml+xml"):
+            with contextlib.closing(sqlite3.connect(f"{path}/registry.db")) as rows, rows:
+                assert rows.execute("UPDATE manifests SET media_type = ?", (kind,)).rowcount == 1
+            with serving(*words) as server:
+                answer = server.client(basic("admin:secret")).ask("GET", at)
+                assert (answer.status, answer["Content-Type"], answer.body) == (200, kind, body)
+                dom = chromium(f"admin:secret@{server.address}", "--dump-dom", path=at)
+                server.wait_for(f'path="{at}" status=200 .*user="admin"')
+                assert "it r" not in re.sub(r"<script>.*?</script>", "", dom), dom
+                assert 'path="/status"' not in server.logged(), (kind, dom)
+                assert server.end() == 0
+
+
+def each_reply_restricts_a_browser():
+    with serving() as server:
+        client = server.client()
+        put(client, "acme/web", index())
+        paths = ["/v2/", "/v2/_catalog", "/v2/acme/web/tags/list", f"/v2/acme/web/manifests/{sha256(index())}", "/v2/acme/web/manifests/none",
+                 f"/v2/acme/web/referrers/{sha256(b'x')}", f"/v2/acme/web/blobs/{sha256(b'x')}", "/status", "/metrics", "/healthz", "/none"]
+        for path in paths:
+            for method in ("GET", "HEAD", "POST"):
+                answer = client.ask(method, path)
+                given = answer["X-Content-Type-Options"], answer["Content-Security-Policy"]
+                assert given == ("nosniff", "default-src 'none'; sandbox"), (method, path, given)
+        page = client.ask("GET", "/")
+        assert page["X-Content-Type-Options"] == "nosniff" and "script-src 'sha256-" in page["Content-Security-Policy"]
+
+
 def main():
     if sys.argv[1:2] == ["--screenshot"]:
         with a_registry() as (server, *_), tempfile.TemporaryDirectory() as place:
             chromium(server.address, "--window-size=1000,900", f"--screenshot={place}/page.png")
             shutil.move(f"{place}/page.png", sys.argv[2])
         return
-    play("page", [what_was_pushed_is_shown, names_are_no_markup])
+    play("page", [what_was_pushed_is_shown, names_are_no_markup, a_manifest_is_no_page, a_manifest_of_an_older_version_is_no_page,
+                  each_reply_restricts_a_browser])
 
 
 if __name__ == "__main__":
