@@ -2,12 +2,15 @@
 //! Codes").
 use crate::bounds::Excess;
 use crate::frames::{Reason, Refusal};
-use crate::limits::{tenant_of, Limit, MAX_MANIFESTS, MAX_REPOSITORIES, MAX_UPLOADS};
+use crate::limits::{tenant_of, Limit, MAX_LASTING, MAX_MANIFESTS, MAX_REPOSITORIES, MAX_UPLOADS};
 use crate::store::StoreUnavailable;
 use crate::writer::DatabaseUnavailable;
 use hyper::header::{HeaderValue, CONTENT_TYPE};
 use hyper::{Body, Response, StatusCode};
 use serde_json::{json, Value};
+
+/// The time after which a client may retry if its tenant has too many uploads, in seconds. `skopeo` retries four times.
+const UPLOADS_REST: &str = "5";
 
 /// A failure of a request.
 #[derive(Debug)]
@@ -119,17 +122,19 @@ impl Fault {
         Fault::new(StatusCode::FORBIDDEN, "DENIED", format!("{user} does not have the right to {right} in {repo}"))
     }
 
-    /// A call on a repository has reached a limit. The status is 403 because clients do not show the message of a 507.
+    /// A call on a repository has reached a limit. The status is 403 because clients do not show the message of a 507. For uploads it
+    /// is 429, since they end without anybody's doing, and clients wait.
     pub fn limit(limit: Limit, repo: &str) -> Fault {
         let tenant = tenant_of(repo);
         let (code, name, most) = match limit {
             Limit::Uploads => ("TOOMANYREQUESTS", "uploads", MAX_UPLOADS),
+            Limit::LastingUploads => ("TOOMANYREQUESTS", "uploads", MAX_LASTING),
             Limit::Repositories => ("DENIED", "repositories", MAX_REPOSITORIES),
             Limit::Manifests => ("DENIED", "manifests", MAX_MANIFESTS),
         };
         let message = match limit {
-            Limit::Uploads => {
-                format!("tenant {tenant} has {most} open uploads, which is the maximum: finish or delete one")
+            Limit::Uploads | Limit::LastingUploads => {
+                format!("tenant {tenant} has {most} open uploads, which is the maximum: retry, or finish or delete one")
             }
             Limit::Repositories => {
                 format!("tenant {tenant} has {most} repositories, which is the maximum: delete all that one of them has")
@@ -138,7 +143,14 @@ impl Fault {
                 format!("repository {repo} has {most} manifests, which is the maximum: delete one")
             }
         };
-        Fault::new(StatusCode::FORBIDDEN, code, message).with_detail(json!({ "limit": name, "most": most }))
+        let detail = json!({ "limit": name, "most": most });
+        match limit {
+            Limit::Uploads | Limit::LastingUploads => {
+                Fault::new(StatusCode::TOO_MANY_REQUESTS, code, message).with_header("Retry-After", UPLOADS_REST)
+            }
+            Limit::Repositories | Limit::Manifests => Fault::new(StatusCode::FORBIDDEN, code, message),
+        }
+        .with_detail(detail)
     }
 
     /// A blob is new to a tenant that has the maximum number of blobs. The status is 403 as for the other limits of a tenant.

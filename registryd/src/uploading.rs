@@ -2,10 +2,11 @@
 use crate::content::{Piece, RequestContent, Then};
 use crate::fault::{range_text, Fault};
 use crate::frames::{Reason, Refusal};
-use crate::limits::tenant_of;
+use crate::limits::{tenant_of, Limit};
 use crate::range::content_range;
 use crate::registry::{empty, Call, HandlerResult, Registry};
 use crate::store::{Answer, MountResult, SlotUse, StoreUnavailable};
+use crate::tenants::is_repository;
 use crate::uploads::{AppendingRequest, UploadInUse};
 use bytes::Bytes;
 use hyper::StatusCode;
@@ -17,28 +18,20 @@ use uuid::Uuid;
 
 /// end-4, end-11: opens an upload, stores a blob in one request, or mounts one.
 pub async fn open(call: &Call, content: &mut RequestContent) -> HandlerResult {
-    let Registry { store, loose, .. } = &*call.registry;
-    let mut entering = call.enter_repository().await?;
+    let store = &call.registry.store;
     if let Some(digest) = call.query("mount") {
-        let turn = loose.begin_link(&call.repo, &digest).await;
-        let mounted = store.mount(&call.repo, &digest, &call.mount_source()).await;
-        if let Ok(Ok(MountResult::Linked)) = mounted {
-            loose.end_link(&call.repo, &digest, &mounted);
-        }
-        drop(turn);
-        let mounted = call.check_entered(mounted?, &mut entering)?;
-        drop(entering);
-        return match mounted {
-            MountResult::Linked => stored_response(call, &digest),
-            MountResult::Session(session) => mounted_response(call, session).await,
-        };
+        return mount(call, &digest).await;
     }
     let digest = call.query("digest");
+    if digest.is_none() {
+        check_room(call)?;
+    }
+    let mut entering = call.enter_repository().await?;
     let session = call.check_entered(store.start_upload(&call.repo).await?, &mut entering)?;
     drop(entering);
     let digest = match digest {
         Some(digest) => digest,
-        None => return opened_response(call, session),
+        None => return opened_response(call, session).await,
     };
     // No other request knows this upload. It is abandoned if it does not become a blob, or later if the store cannot do so
     // now.
@@ -50,6 +43,24 @@ pub async fn open(call: &Call, content: &mut RequestContent) -> HandlerResult {
     }
     closed?;
     stored_response(call, &digest)
+}
+
+/// end-11: links a blob of another repository, or opens an upload.
+async fn mount(call: &Call, digest: &str) -> HandlerResult {
+    let Registry { store, loose, .. } = &*call.registry;
+    let mut entering = call.enter_repository().await?;
+    let turn = loose.begin_link(&call.repo, digest).await;
+    let mounted = store.mount(&call.repo, digest, &call.mount_source()).await;
+    if let Ok(Ok(MountResult::Linked)) = mounted {
+        loose.end_link(&call.repo, digest, &mounted);
+    }
+    drop(turn);
+    let mounted = call.check_entered(mounted?, &mut entering)?;
+    drop(entering);
+    match mounted {
+        MountResult::Linked => stored_response(call, digest),
+        MountResult::Session(session) => opened_response(call, session).await,
+    }
 }
 
 /// end-13: returns the number of bytes of an upload that were received.
@@ -99,18 +110,27 @@ fn find<'c>(call: &'c Call, name: &str) -> Result<UploadInUse<'c>, Fault> {
     call.registry.uploads.enter(&call.repo, name)
 }
 
-/// Returns the response for an upload that was opened.
-fn opened_response(call: &Call, session: u32) -> HandlerResult {
-    let name = call.registry.uploads.add(&call.repo, session);
-    progress_response(call, StatusCode::ACCEPTED, &name, 0)
+/// Fails if no upload of the tenant can stay open, before one is opened. The store checks the name of the repository.
+fn check_room(call: &Call) -> Result<(), Fault> {
+    let Registry { uploads, repositories, .. } = &*call.registry;
+    match !is_repository(&call.repo) || uploads.have_room(tenant_of(&call.repo)) {
+        true => Ok(()),
+        false => Err(Fault::limit(repositories.reached(&call.repo, Limit::LastingUploads), &call.repo)),
+    }
 }
 
-/// Returns the response for an upload that a mount opened. The upload is abandoned if the disk is almost full.
-async fn mounted_response(call: &Call, session: u32) -> HandlerResult {
-    let name = call.registry.uploads.add(&call.repo, session);
-    if let Err(fault) = call.check_disk() {
+/// Returns the response for an upload that was opened and stays open. It is abandoned instead if the tenant has the maximum number of
+/// them, or if the disk is almost full, which is not checked before a mount.
+async fn opened_response(call: &Call, session: u32) -> HandlerResult {
+    let uploads = &call.registry.uploads;
+    let name = uploads.add(&call.repo, session);
+    let checked = match uploads.keep_open(&name) {
+        true => call.check_disk(),
+        false => Err(Fault::limit(Limit::LastingUploads, &call.repo)),
+    };
+    if let Err(fault) = checked {
         if call.registry.abandon_session(&call.repo, session).await?.is_ok() {
-            call.registry.uploads.remove(&name);
+            uploads.remove(&name);
         }
         return Err(fault);
     }

@@ -1,6 +1,7 @@
 //! The open uploads. Clients know an upload by a name that cannot be guessed. Each upload has a session in the store. With a
 //! database, each has a row there, so that it is abandoned some time after a restart if nobody continues it.
 use crate::fault::Fault;
+use crate::limits::{tenant_of, MAX_LASTING};
 use crate::upload_name::Secret;
 use crate::writer::{Change, Writer};
 use std::collections::HashMap;
@@ -20,6 +21,8 @@ pub struct Upload {
     requests: u32,
     /// Whether a client has sent a byte of it.
     is_begun: bool,
+    /// Whether it stays open for a later request.
+    is_lasting: bool,
 }
 
 /// The length of an upload: the number of bytes that the store has received, by its replies.
@@ -95,6 +98,7 @@ impl Upload {
             used: Instant::now(),
             requests: 0,
             is_begun: received > 0,
+            is_lasting: false,
         }
     }
 
@@ -110,19 +114,41 @@ impl Uploads {
         Uploads { secret, writer, by_name: Mutex::default() }
     }
 
-    /// Adds an upload that was opened, and returns its name.
+    /// Adds an upload that was opened, and returns its name. It does not count as one that stays open.
     pub fn add(&self, repo: &str, session: u32) -> Uuid {
         if let Some(writer) = &self.writer {
             writer.note(Change::OpenUpload { repo: repo.to_string(), number: session });
         }
-        self.add_known(repo, session, 0)
+        self.insert(Upload::of(repo, session, 0))
     }
 
     /// Adds an upload that was opened before a restart, and returns its name. It counts as used now.
     pub fn add_known(&self, repo: &str, session: u32, received: u64) -> Uuid {
-        let name = self.secret.name(repo, session);
-        self.by_name.lock().unwrap().insert(name, Upload::of(repo, session, received));
+        self.insert(Upload { is_lasting: true, ..Upload::of(repo, session, received) })
+    }
+
+    fn insert(&self, upload: Upload) -> Uuid {
+        let name = self.secret.name(&upload.repo, upload.session);
+        self.by_name.lock().unwrap().insert(name, upload);
         name
+    }
+
+    /// Lets an upload stay open for a later request, unless its tenant has the maximum number of them. Returns whether it stays.
+    pub fn keep_open(&self, name: &Uuid) -> bool {
+        let mut uploads = self.by_name.lock().unwrap();
+        let has_room = uploads.get(name).map_or(false, |upload| has_room(&uploads, tenant_of(&upload.repo)));
+        match uploads.get_mut(name).filter(|_| has_room) {
+            Some(upload) => {
+                upload.is_lasting = true;
+                true
+            }
+            None => false,
+        }
+    }
+
+    /// Returns whether a tenant has less than the maximum number of uploads that stay open.
+    pub fn have_room(&self, tenant: &str) -> bool {
+        has_room(&self.by_name.lock().unwrap(), tenant)
     }
 
     /// Begins to use an upload of a repository.
@@ -175,6 +201,11 @@ impl Uploads {
     pub fn put_back(&self, name: Uuid, upload: Upload) {
         self.by_name.lock().unwrap().insert(name, Upload { used: Instant::now(), ..upload });
     }
+}
+
+/// Returns whether a tenant has less than the maximum number of uploads that stay open. The store bounds the number of all uploads.
+fn has_room(uploads: &HashMap<Uuid, Upload>, tenant: &str) -> bool {
+    uploads.values().filter(|upload| upload.is_lasting && tenant_of(&upload.repo) == tenant).count() < MAX_LASTING
 }
 
 impl<'u> UploadInUse<'u> {
@@ -267,6 +298,22 @@ mod tests {
         assert_eq!(uploads.len(), 0);
         uploads.put_back(name, upload);
         assert_eq!(uploads.unused(NOW), [name]);
+    }
+
+    #[test]
+    fn a_tenant_keeps_some_uploads_open() {
+        let uploads = uploads();
+        let names: Vec<Uuid> = (0..MAX_LASTING as u32).map(|session| uploads.add(&format!("acme/{session}"), session)).collect();
+        assert!(uploads.have_room("acme") && names.iter().all(|name| uploads.keep_open(name)));
+        let (more, other) = (uploads.add("acme/more", 100), uploads.add("acmes/web", 1));
+        assert!(!uploads.have_room("acme") && !uploads.keep_open(&more) && uploads.keep_open(&other));
+        assert!(!uploads.keep_open(&Uuid::new_v4()));
+        // One of an earlier start is kept in any case.
+        uploads.add_known("acme/known", 101, 0);
+        uploads.remove(&names[0]);
+        assert!(!uploads.keep_open(&more));
+        uploads.remove(&names[1]);
+        assert!(uploads.keep_open(&more) && !uploads.have_room("acme"));
     }
 
     #[test]

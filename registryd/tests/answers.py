@@ -2,7 +2,7 @@
 """Tests rarely used names, limits, methods and conditions of requests."""
 import json, subprocess
 
-from playing import play, serving_stub
+from playing import LASTING, Asking, play, serving_stub, until
 from server import MANIFEST, manifest_of, serving, sha256
 
 PATCH = {"Content-Type": "application/octet-stream"}
@@ -52,10 +52,11 @@ def each_limit_is_named():
             reported = json.loads(answer.body)["errors"][0]
             assert (answer.status, reported["code"], reported["detail"]) == (status, code, {"limit": limit, "most": most}), (answer.status, reported)
             assert word in reported["message"] and str(most) in reported["message"], reported
-        opened = [client.ask("POST", "/v2/acme/one/blobs/uploads/") for _ in range(64)]
+        opened = [client.ask("POST", "/v2/acme/one/blobs/uploads/") for _ in range(LASTING)]
         assert {answer.status for answer in opened} == {202}
-        refused(client.ask("POST", "/v2/acme/one/blobs/uploads/"), 403, "TOOMANYREQUESTS", "uploads", 64, "acme")
-        refused(client.ask("POST", f"/v2/acme/one/blobs/uploads/?mount={sha256(b'no')}"), 403, "TOOMANYREQUESTS", "uploads", 64, "acme")
+        too_many = (429, "TOOMANYREQUESTS", "uploads", LASTING, "acme")
+        refused(client.ask("POST", "/v2/acme/one/blobs/uploads/"), *too_many)
+        refused(client.ask("POST", f"/v2/acme/one/blobs/uploads/?mount={sha256(b'no')}"), *too_many)
         assert client.ask("DELETE", opened[0]["Location"]).status == 204
         assert client.ask("POST", f"/v2/acme/one/blobs/uploads/?digest={sha256(b'{}')}", b"{}", PATCH).status == 201
         for number in range(1023):

@@ -2,6 +2,7 @@
 """Tests clients that disconnect, are slow, send too much or nothing, or have no user, and programs that are killed."""
 import base64, os, random, signal, subprocess, sys, tempfile, time, traceback
 
+from playing import LASTING
 from server import serving, sha256
 
 PATCH = {"Content-Type": "application/octet-stream"}
@@ -211,9 +212,9 @@ def limits_are_reported():
         assert (longer.status, longer.code()) == (413, "SIZE_INVALID"), longer.body
         status = [push(data).status for data in (b"a" * 1000, b"b", b"c")]
         assert status == [201, 201, 507], status
-        opened = [client.ask("POST", "/v2/other/one/blobs/uploads/") for _ in range(65)]
-        assert {answer.status for answer in opened[:64]} == {202} and opened[64].status == 403, opened[64].status
-        assert opened[64].code() == "TOOMANYREQUESTS"
+        *opened, refused = [client.ask("POST", "/v2/other/one/blobs/uploads/") for _ in range(LASTING + 1)]
+        assert {answer.status for answer in opened} == {202} and refused.status == 429, refused.status
+        assert refused.code() == "TOOMANYREQUESTS"
 
 
 def a_piece_is_refused_while_the_next_is_on_its_way():

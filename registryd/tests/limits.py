@@ -5,7 +5,7 @@ import base64, contextlib, json, os, random, resource, select, shutil, signal, s
 
 import server as servers
 from hardships import MIB, PATCH, head_of, played
-from playing import STUB, serving_stub
+from playing import STUB, every_upload, serving_stub
 from server import REGISTRYD, serving, sha256, sha512
 
 STAT = "17"
@@ -240,8 +240,8 @@ def a_hanging_store_is_reported():
         until(lambda: client.ask("GET", "/healthz").status == 200, "the store does not continue")
         # No connection is lost, and no session and no lease remains.
         assert [client.ask("GET", blob).body for _ in range(10)] == [b"abc"] * 10
-        opened = [client.ask("POST", "/v2/acme/one/blobs/uploads/").status for _ in range(64)]
-        assert set(opened) == {202}, opened
+        with every_upload(server, "acme/one"):
+            pass
         assert client.ask("DELETE", blob).status == 202
         until(lambda: server.metric("registryd_free_slots") == 4096, "a lease remains")
 

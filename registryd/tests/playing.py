@@ -3,6 +3,9 @@ import collections, contextlib, json, os, re, sys, threading, time
 
 import server
 
+# The numbers of a tenant's uploads that stay open for a later request, and of those that end with their request.
+LASTING, PASSING = 60, 4
+
 STUB = os.path.join(os.path.dirname(os.path.abspath(__file__)), "stub_store.py")
 
 
@@ -39,6 +42,26 @@ class Asking(threading.Thread):
         self.join(60)
         assert self.answer is not None, f"{self.words[:2]} has no response"
         return self.answer
+
+
+@contextlib.contextmanager
+def every_upload(served, repo):
+    """Opens the maximum number of a tenant's uploads: some that stay open, whose paths it returns, and some by requests whose content
+    does not end before this does."""
+    client = served.client()
+    before = served.metric("registryd_uploads")
+    opened = [client.ask("POST", f"/v2/{repo}/blobs/uploads/") for _ in range(LASTING)]
+    assert {answer.status for answer in opened} == {202}, [answer.status for answer in opened]
+    head = f"POST /v2/{repo}/blobs/uploads/?digest={server.sha256(b'ab')} HTTP/1.1\r\nHost: x\r\nContent-Length: 2\r\n\r\na"
+    lines = [served.socket() for _ in range(PASSING)]
+    try:
+        for line in lines:
+            line.sendall(head.encode())
+        assert until(lambda: served.metric("registryd_uploads") == before + LASTING + PASSING), served.metric("registryd_uploads")
+        yield [answer["Location"] for answer in opened]
+    finally:
+        for line in lines:
+            line.close()
 
 
 def took(ask):

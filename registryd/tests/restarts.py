@@ -3,7 +3,7 @@
 import contextlib, json, os, random, signal, sqlite3, tempfile, threading, time
 
 from crash.paths import log_of
-from playing import play, until
+from playing import LASTING, every_upload, play, until
 from referrers import artifact, descriptor, index, page, referrers
 from server import INDEX, MANIFEST, manifest_of, serving, sha256, sha512
 
@@ -203,8 +203,9 @@ def all_open_uploads_are_found():
             client = server.client()
             for _ in range(30):
                 assert client.ask("DELETE", opened(client, "other/one")).status == 204
-            ats = [opened(client, f"acme/r{number % 7}") for number in range(64)] + [opened(client, "other/two")]
-            by_kill_of_both(server)
+            with every_upload(server, "acme/one") as ats:
+                ats.append(opened(client, "other/two"))
+                by_kill_of_both(server)
         for _ in range(2):
             with serving("--data", path) as server:
                 client = server.client()
@@ -421,10 +422,11 @@ def refused_uploads_leave_no_repository():
     with folder() as path:
         with serving("--data", path) as server:
             client = server.client()
-            for _ in range(64):
+            for _ in range(LASTING):
                 opened(client, "acme/full")
-            refused = [client.ask("POST", f"/v2/acme/r{number}/blobs/uploads/") for number in range(5)]
-            assert {(answer.status, answer.code()) for answer in refused} == {(403, "TOOMANYREQUESTS")}
+            paths = [f"/v2/acme/r{number}/blobs/uploads/" for number in range(5)]
+            refused = [client.ask("POST", path + query) for path in paths for query in ("", f"?mount={sha256(b'none')}")]
+            assert {(answer.status, answer.code()) for answer in refused} == {(429, "TOOMANYREQUESTS")}
             for name in ("nobody/x", "acme/X", "acme//x"):
                 assert client.ask("POST", f"/v2/{name}/blobs/uploads/").status in (400, 404), name
             by_signal(server)

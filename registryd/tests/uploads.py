@@ -2,8 +2,8 @@
 """Tests uploads that take long or are abandoned, and chunks whose headers do not match them."""
 import threading, time
 
-from playing import Asking, calls, play, serving_stub, until
-from server import sha256
+from playing import LASTING, Asking, calls, every_upload, play, serving_stub, until
+from server import serving, sha256
 
 PATCH = {"Content-Type": "application/octet-stream"}
 STATUS, APPEND, CLOSE, ABANDON = "2", "3", "4", "5"
@@ -245,6 +245,37 @@ def the_length_is_asked_for_while_and_after_two_add_at_once():
         assert patched(client, at, b"jkl") == (202, "0-11") and calls(server)[STATUS] == 2, calls(server)
 
 
+def too_many_uploads_may_be_retried():
+    """Only uploads that stay open are too many: a mount of a stored blob needs none, and a blob in one request ends its own."""
+    with serving() as server:
+        client = server.client()
+        def post(query, repo="acme/one", data=None):
+            return client.ask("POST", f"/v2/{repo}/blobs/uploads/{query}", data, PATCH)
+        whole = f"?digest={sha256(b'whole')}"
+        assert post(f"?digest={sha256(b'stored')}", data=b"stored").status == 201
+        ats = [opened(client) for _ in range(LASTING)]
+        mounts = [f"?mount={sha256(b'none')}{source}" for source in ("", "&from=acme/one")]
+        for _ in range(20):
+            for query in ("", *mounts):
+                answer = post(query, "acme/two")
+                assert (answer.status, answer.code(), answer["Retry-After"]) == (429, "TOOMANYREQUESTS", "5"), (query, answer.status)
+            assert post(whole, data=b"whole").status == 201 and post(whole, "acme/three", b"whole").status == 201
+            assert post(f"?digest={sha256(b'other')}", data=b"whole").status == 400
+            assert post(f"?mount={sha256(b'stored')}&from=acme/one", "acme/four").status == 201
+        # No refused request left an upload, and another tenant has its own.
+        assert server.metric("registryd_uploads") == LASTING and opened(client, "other/one")
+        assert post("", "acme//two").code() == "NAME_INVALID"
+        for at in ats:
+            assert client.ask("DELETE", at).status == 204
+        with every_upload(server, "acme/one") as ats:
+            for query in ("", whole, *mounts):
+                answer = post(query, data=b"whole")
+                assert (answer.status, answer.code(), answer["Retry-After"]) == (429, "TOOMANYREQUESTS", "5"), (query, answer.status)
+            assert post(f"?mount={sha256(b'stored')}&from=acme/one", "acme/five").status == 201
+            # An upload that is open goes on.
+            assert closed(client, ats[0], b"one") == 201 and post(whole, data=b"whole").status == 201
+
+
 def main():
     play("uploads", [
         an_upload_that_is_being_sent_is_not_given_up, an_upload_without_bytes_is_given_up_early,
@@ -253,7 +284,7 @@ def main():
         a_blob_that_is_too_long_is_refused_before_it_is_sent, chunks_and_closes_do_not_ask_for_the_length,
         a_chunk_at_another_place_is_answered_with_the_length_of_the_store, a_length_that_is_out_of_date_costs_a_chunk_and_nothing_else,
         the_length_is_asked_for_after_a_reply_that_came_too_late, the_length_is_asked_for_after_a_refusal,
-        a_chunk_that_breaks_off_is_gone_on_with, the_length_is_asked_for_while_and_after_two_add_at_once])
+        a_chunk_that_breaks_off_is_gone_on_with, the_length_is_asked_for_while_and_after_two_add_at_once, too_many_uploads_may_be_retried])
 
 
 if __name__ == "__main__":
