@@ -3,12 +3,23 @@ use crate::connections::Connection;
 use bytes::Bytes;
 use hyper::body::{HttpBody, SizeHint};
 use hyper::header::HeaderValue;
-use hyper::{Body, HeaderMap, Method, Request, Response, StatusCode};
+use hyper::{Body, HeaderMap, Request, Response, StatusCode};
 use std::pin::Pin;
 use std::sync::atomic::{AtomicU64, Ordering};
 use std::sync::{Arc, Mutex};
 use std::task::{Context, Poll};
 use std::time::{Duration, Instant};
+
+/// The maximum number of bytes of a path, a user and a method in a log record.
+const LOGGED: (usize, usize, usize) = (512, 128, 32);
+
+/// Returns a text, or its beginning and its length if it has more than `most` bytes.
+fn shortened(text: &str, most: usize) -> String {
+    match (0..=most).rev().find(|end| text.is_char_boundary(*end)) {
+        Some(end) if text.len() > most => format!("{}... ({} bytes)", &text[..end], text.len()),
+        _ => text.to_string(),
+    }
+}
 
 /// A request that is being served. Its connection counts it until the last copy is dropped.
 #[derive(Debug)]
@@ -48,7 +59,7 @@ impl Exchange {
 
     /// Notes the user of the request.
     pub fn set_user(&self, user: &str) {
-        *self.user.lock().unwrap_or_else(|poisoned| poisoned.into_inner()) = Some(user.to_string());
+        *self.user.lock().unwrap_or_else(|poisoned| poisoned.into_inner()) = Some(shortened(user, LOGGED.1));
     }
 }
 
@@ -56,7 +67,7 @@ impl Exchange {
 #[derive(Debug)]
 struct Record {
     exchange: Arc<Exchange>,
-    method: Method,
+    method: String,
     path: String,
     begun: Instant,
     status: StatusCode,
@@ -85,7 +96,7 @@ impl Drop for Record {
 /// A log record before the response exists.
 pub struct OpenRecord {
     exchange: Arc<Exchange>,
-    method: Method,
+    method: String,
     path: String,
     begun: Instant,
 }
@@ -93,7 +104,8 @@ pub struct OpenRecord {
 impl OpenRecord {
     /// Begins the record of a request, and attaches its exchange to the request.
     pub fn note(request: &mut Request<Body>, connection: Arc<Connection>) -> OpenRecord {
-        let (method, path) = (request.method().clone(), request.uri().path().to_string());
+        let method = shortened(request.method().as_str(), LOGGED.2);
+        let path = shortened(request.uri().path(), LOGGED.0);
         let exchange = Exchange::begin(connection);
         request.extensions_mut().insert(exchange.clone());
         OpenRecord { exchange, method, path, begun: Instant::now() }
@@ -144,5 +156,18 @@ impl HttpBody for CountedBody {
 
     fn size_hint(&self) -> SizeHint {
         self.body.size_hint()
+    }
+}
+
+#[cfg(test)]
+mod tests {
+    use super::*;
+
+    #[test]
+    fn a_long_text_is_cut_between_two_letters() {
+        assert_eq!(shortened("abcd", 4), "abcd");
+        assert_eq!(shortened("abcde", 4), "abcd... (5 bytes)");
+        assert_eq!(shortened("abcäe", 4), "abc... (6 bytes)");
+        assert_eq!(shortened("", 4), "");
     }
 }

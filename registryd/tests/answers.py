@@ -1,8 +1,8 @@
 #!/usr/bin/env python3
 """Tests rarely used names, limits, methods and conditions of requests."""
-import json, subprocess
+import json, re, subprocess
 
-from playing import LASTING, Asking, play, serving_stub, until
+from playing import LASTING, play, serving_stub, until
 from server import MANIFEST, manifest_of, serving, sha256
 
 PATCH = {"Content-Type": "application/octet-stream"}
@@ -42,6 +42,15 @@ def paths_are_decoded_once(server):
     twice = client.ask("GET", f"/v2/acme%252Fcoded/blobs/{sha256(b'abc')}")
     assert (twice.status, twice.code()) == (400, "NAME_INVALID"), twice.status
     assert client.ask("GET", f"/v2/acme/%ff/blobs/{sha256(b'abc')}").status == 404
+
+
+def a_log_line_is_bounded():
+    with serving() as server:
+        for method, path in (("GET", "/" + "x" * 60_000), ("X" * 5_000, "/v2/"), ("GET", "/v2/acme/" + "%C3%A4" * 5_000 + "/tags/list")):
+            before = len(server.logged())
+            assert server.client().ask(method, path).status >= 400
+            assert until(lambda: re.search(r"status=\d+ .*micros=\d+\n", server.logged()[before:])), server.logged()[before:][-300:]
+            assert len(server.logged()) - before < 1_500, (method[:9], path[:9], len(server.logged()) - before)
 
 
 def each_limit_is_named():
@@ -127,7 +136,7 @@ def bad_tenants_are_named():
 def main():
     with serving("--slots", "64") as server:
         play("answers", [
-            (every_valid_name_can_be_used, server), (paths_are_decoded_once, server), each_limit_is_named,
+            (every_valid_name_can_be_used, server), (paths_are_decoded_once, server), each_limit_is_named, a_log_line_is_bounded,
             unsupported_methods_are_rejected, (content_that_a_client_has_is_not_sent_again, server), bad_tenants_are_named])
 
 

@@ -189,6 +189,14 @@ def a_mount_without_a_source_needs_the_whole_tenant():
             assert (mounted(one, "acme/one"), mounted(acme, "acme/one"), mounted(public, "other/two")) == (202, 201, 201)
 
 
+def a_log_line_has_a_short_user():
+    with serving_tokens() as (server, key):
+        before = len(server.logged())
+        assert server.client(bearer(token(key, words=claims(sub="x" * 5_000)))).ask("GET", "/v2/").status == 200
+        server.wait_for(r"status=200 .*\.\.\. \(5000 bytes\)")
+        assert len(server.logged()) - before < 1_000, len(server.logged()) - before
+
+
 def keys_are_read_again():
     with serving_tokens() as (server, key):
         def status(path, algorithm="RS256"):
@@ -334,7 +342,7 @@ def docker_gets_tokens():
 
 
 TESTS = [a_token_of_each_type_of_key, bad_tokens_are_refused, a_challenge_names_what_is_needed, a_token_allows_what_it_lists,
-         a_mount_without_a_source_needs_the_whole_tenant, keys_are_read_again, passwords_and_tokens_go_together, a_start_names_the_key, clients_get_tokens, docker_gets_tokens]
+         a_mount_without_a_source_needs_the_whole_tenant, a_log_line_has_a_short_user, keys_are_read_again, passwords_and_tokens_go_together, a_start_names_the_key, clients_get_tokens, docker_gets_tokens]
 
 
 def main():
