@@ -3,7 +3,7 @@
 //! user's name.
 use crate::fault::Fault;
 use crate::limits::tenant_of;
-use crate::reload::FromFile;
+use crate::reload::{read_text, FromFile};
 use crate::rights::{Demand, Right, Rights};
 use crate::tokens::{Issuer, Token};
 use hyper::header::AUTHORIZATION;
@@ -121,7 +121,7 @@ impl Users {
     /// - The file cannot be read.
     /// - A line is not `USER:HASH`, or its hash cannot be checked. The message has the number of the first such line.
     pub fn read(path: &Path) -> io::Result<Users> {
-        let text = std::fs::read_to_string(path)?;
+        let text = read_text(path)?;
         let (mut hashes, mut tried) = (HashMap::new(), HashSet::new());
         for (at, line) in text.lines().map(str::trim).enumerate() {
             if line.is_empty() || line.starts_with('#') {

@@ -1,5 +1,8 @@
 //! Values that are read from files at the start and again on SIGHUP.
-use std::io;
+use std::fs::OpenOptions;
+use std::io::{self, Read as _};
+use std::os::unix::fs::OpenOptionsExt;
+use std::path::Path;
 use std::sync::{Arc, RwLock};
 use tokio::signal::unix::{signal, Signal, SignalKind};
 
@@ -23,6 +26,27 @@ impl<T> FromFile<T> {
     pub fn get(&self) -> Arc<T> {
         self.current.read().unwrap_or_else(|poisoned| poisoned.into_inner()).clone()
     }
+}
+
+/// Reads a regular file. The open of a pipe would wait for a writer, and its content could not be read again.
+///
+/// # Errors
+///
+/// - The file cannot be opened or read.
+/// - It is not a regular file.
+pub fn read_file(path: &Path) -> io::Result<Vec<u8>> {
+    let mut file = OpenOptions::new().read(true).custom_flags(libc::O_NONBLOCK).open(path)?;
+    if !file.metadata()?.is_file() {
+        return Err(io::Error::new(io::ErrorKind::InvalidInput, "not a regular file"));
+    }
+    let mut bytes = Vec::new();
+    file.read_to_end(&mut bytes)?;
+    Ok(bytes)
+}
+
+/// Reads a regular file whose content is UTF-8.
+pub fn read_text(path: &Path) -> io::Result<String> {
+    String::from_utf8(read_file(path)?).map_err(|_| io::Error::new(io::ErrorKind::InvalidData, "not UTF-8"))
 }
 
 /// A value that can be read again.

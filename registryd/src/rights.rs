@@ -1,5 +1,6 @@
 //! Rights of users in repositories, and the file that lists them.
 use crate::path::Target;
+use crate::reload::read_text;
 use crate::tenants::is_repository;
 use hyper::Method;
 use std::collections::HashMap;
@@ -104,7 +105,7 @@ impl Rights {
     /// - A line is not `USER RIGHTS PREFIX`. The message has the number of the first such line.
     pub fn read(path: &Path) -> Result<Rights, String> {
         let fault = |why: String| format!("cannot read the rights: {}: {why}", path.display());
-        let text = std::fs::read_to_string(path).map_err(|error| fault(error.to_string()))?;
+        let text = read_text(path).map_err(|error| fault(error.to_string()))?;
         Rights::parse(&text).map_err(fault)
     }
 

@@ -1,6 +1,6 @@
 //! TLS 1.2 and 1.3 for clients that connect without a proxy: the certificate, its key, and handshakes.
 use crate::connections::WatchedStream;
-use crate::reload::FromFile;
+use crate::reload::{read_file, FromFile};
 use rustls::sign::{any_supported_type, SigningKey};
 use rustls::{Certificate, PrivateKey, ServerConfig, SignatureScheme};
 use rustls_pemfile::Item;
@@ -24,7 +24,7 @@ static SCHEMES: [(SignatureScheme, &webpki::SignatureAlgorithm); 4] = [
 
 /// Reads the items of a PEM file.
 fn items(path: &Path) -> Result<Vec<Item>, String> {
-    let read = || rustls_pemfile::read_all(&mut io::BufReader::new(std::fs::File::open(path)?));
+    let read = || rustls_pemfile::read_all(&mut &*read_file(path)?);
     read().map_err(|error| format!("cannot read PEM: {}: {error}", path.display()))
 }
 

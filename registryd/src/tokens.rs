@@ -1,6 +1,6 @@
 //! Bearer tokens of an issuer, by Docker's "Token Authentication Specification": signed JSON Web Tokens (RFC 7519) that list what
 //! their holder may do.
-use crate::reload::FromFile;
+use crate::reload::{read_file, FromFile};
 use crate::rights::{Demand, Right};
 use crate::tenants::is_repository;
 use jsonwebtoken::errors::{Error, ErrorKind};
@@ -59,7 +59,7 @@ impl Key {
     /// - A block is no public key, or a key is not of RSA from 2,048 bits, P-256 or Ed25519.
     pub fn read(path: &Path) -> Result<Vec<Key>, String> {
         let fault = |why: String| format!("cannot read the token keys: {}: {why}", path.display());
-        let text = std::fs::read(path).map_err(|error| fault(error.to_string()))?;
+        let text = read_file(path).map_err(|error| fault(error.to_string()))?;
         let blocks = pem::parse_many(text).map_err(|error| fault(error.to_string()))?;
         let keys = blocks.iter().map(Key::of).collect::<Result<Vec<Key>, String>>().map_err(fault)?;
         match keys.is_empty() {

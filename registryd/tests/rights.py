@@ -113,6 +113,19 @@ def put_image(client, repo):
     return manifest, sha256(manifest), sha256(b"layer")
 
 
+def a_pipe_is_read_by_nobody():
+    """The open of a pipe would wait for a writer, so that no later reload would end."""
+    with users(f"acme:{CHEAP}") as file, users("acme read,write acme") as rights, serving("--htpasswd", file, "--rights", rights) as server:
+        for name, path in (("users", file), ("rights", rights)):
+            os.rename(path, f"{path}.old")
+            os.mkfifo(path)
+            server.reload(f"cannot read the {name}: {path}: not a regular file: kept the {name} that were read before")
+            assert status(server, "acme") == 200
+            os.rename(f"{path}.old", path)
+            server.reload(f"read the {name} again")
+            assert status(server, "acme") == 200
+
+
 def each_request_needs_its_right():
     with serving_rights() as (server, _):
         manifest, _, layer = put_image(server.client(basic("acme:secret")), "acme/app")
@@ -254,7 +267,7 @@ def a_start_names_the_line():
 
 
 TESTS = [a_removed_user_is_refused, a_changed_password_is_another, a_broken_file_keeps_the_users, open_requests_go_on,
-         a_reload_without_files_is_no_end, each_request_needs_its_right, prefixes_are_of_whole_components, a_mount_reads_its_source,
+         a_reload_without_files_is_no_end, a_pipe_is_read_by_nobody, each_request_needs_its_right, prefixes_are_of_whole_components, a_mount_reads_its_source,
          everybody_reads_what_is_public, skopeo_and_podman_push_with_a_password_and_pull_without, rights_are_read_again,
          a_start_names_the_line]
 

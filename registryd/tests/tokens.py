@@ -217,6 +217,10 @@ def keys_are_read_again():
                 file.write(text)
             server.reload(f"{key}.pub: {why}: kept the token keys")
             assert (status(key), status(new, "ES256")) == (401, 200)
+        os.remove(f"{key}.pub")
+        os.mkfifo(f"{key}.pub")
+        server.reload(f"{key}.pub: not a regular file: kept the token keys")
+        assert (status(key), status(new, "ES256")) == (401, 200)
 
 
 def passwords_and_tokens_go_together():
