@@ -4,7 +4,7 @@
 use crate::fault::Fault;
 use crate::limits::tenant_of;
 use crate::reload::{read_text, FromFile};
-use crate::rights::{Demand, Right, Rights};
+use crate::rights::{Demand, Right, Rights, Scope};
 use crate::tokens::{Issuer, Token};
 use hyper::header::AUTHORIZATION;
 use hyper::HeaderMap;
@@ -281,13 +281,13 @@ fn password(words: &str) -> Option<(String, String)> {
 
 /// Returns the failure of a request whose credentials are missing, wrong or insufficient. With an issuer the challenge is for a token
 /// with what the request needs, since clients do not choose among several challenges in the same way.
-fn unauthorized(issuer: &Option<Arc<Issuer>>, demand: Option<&Demand<'_>>, error: Option<&str>) -> Fault {
-    Fault::unauthorized(issuer.as_ref().map_or_else(|| BASIC.to_string(), |issuer| issuer.challenge(demand, error)))
+fn unauthorized(issuer: &Option<Arc<Issuer>>, scope: Scope<'_>, error: Option<&str>) -> Fault {
+    Fault::unauthorized(issuer.as_ref().map_or_else(|| BASIC.to_string(), |issuer| issuer.challenge(scope, error)))
 }
 
 impl Access {
     /// Returns the sender of a request after checking its credentials. A challenge names what the request needs.
-    pub async fn caller(&self, headers: &HeaderMap, demand: Option<&Demand<'_>>) -> Result<Caller, Fault> {
+    pub async fn caller(&self, headers: &HeaderMap, scope: Scope<'_>) -> Result<Caller, Fault> {
         let identity = match (credentials(headers), &self.users, &self.issuer) {
             (_, None, None) => Identity::Anybody,
             (Credentials::Missing, _, _) => Identity::Anonymous,
@@ -296,9 +296,9 @@ impl Access {
             }
             (Credentials::Token(text), _, Some(issuer)) => match issuer.verify(&text) {
                 Some(token) => Identity::Holder(token),
-                None => return Err(unauthorized(&self.issuer, demand, Some("invalid_token"))),
+                None => return Err(unauthorized(&self.issuer, scope, Some("invalid_token"))),
             },
-            _ => return Err(unauthorized(&self.issuer, demand, None)),
+            _ => return Err(unauthorized(&self.issuer, scope, None)),
         };
         let rights = self.rights.as_ref().map(|rights| rights.get());
         Ok(Caller { identity, rights, issuer: self.issuer.clone() })
@@ -341,20 +341,25 @@ impl Caller {
         }
     }
 
+    /// Returns whether the list of repositories shows a repository to the sender.
+    pub fn may_list(&self, repo: &str) -> bool {
+        matches!(&self.identity, Identity::Holder(token) if token.lists_catalog()) || self.may(Right::Read, repo)
+    }
+
     /// Fails if the sender does not have the right that a request needs.
     pub fn check(&self, demand: &Demand<'_>) -> Result<(), Fault> {
         match &self.identity {
             _ if self.may(demand.right, demand.repo) => Ok(()),
             Identity::User(user) => Err(Fault::denied(user, demand.right.word(), demand.repo)),
-            Identity::Holder(_) => Err(unauthorized(&self.issuer, Some(demand), Some("insufficient_scope"))),
-            Identity::Anybody | Identity::Anonymous => Err(unauthorized(&self.issuer, Some(demand), None)),
+            Identity::Holder(_) => Err(unauthorized(&self.issuer, Scope::Repository(*demand), Some("insufficient_scope"))),
+            Identity::Anybody | Identity::Anonymous => Err(unauthorized(&self.issuer, Scope::Repository(*demand), None)),
         }
     }
 
     /// Fails if the sender sent no credentials, and the registry has users or an issuer.
-    pub fn check_known(&self) -> Result<(), Fault> {
+    pub fn check_known(&self, scope: Scope<'_>) -> Result<(), Fault> {
         match &self.identity {
-            Identity::Anonymous => Err(unauthorized(&self.issuer, None, None)),
+            Identity::Anonymous => Err(unauthorized(&self.issuer, scope, None)),
             Identity::Anybody | Identity::User(_) | Identity::Holder(_) => Ok(()),
         }
     }
@@ -418,7 +423,8 @@ mod tests {
             assert_eq!(sender.may(right, repo), expected, "{text}");
             assert_eq!(sender.check(&Demand { right, repo }).is_ok(), expected);
         }
-        assert!(caller(Identity::Anonymous, lines).check_known().is_err() && caller(user("x"), lines).check_known().is_ok());
+        assert!(caller(Identity::Anonymous, lines).check_known(Scope::Nothing).is_err());
+        assert!(caller(user("x"), lines).check_known(Scope::Nothing).is_ok());
     }
 
     #[test]

@@ -15,7 +15,7 @@ use crate::memory::{Memory, Reserved};
 use crate::metrics::Metrics;
 use crate::path::{decoded, query_value, Target};
 use crate::provenance::Provenance;
-use crate::rights::{Demand, Right};
+use crate::rights::{Demand, Right, Scope};
 use crate::status::{SweepHistory, View};
 use crate::store::{Store, StoreUnavailable};
 use crate::tenants;
@@ -287,12 +287,13 @@ impl Registry {
         let decoded = decoded(&path);
         let target = decoded.as_deref().and_then(Target::of);
         let demand = target.as_ref().and_then(|target| Demand::of(&head.method, target));
-        let caller = self.access.caller(&head.headers, demand.as_ref()).await?;
+        let scope = Scope::of(target.as_ref(), demand);
+        let caller = self.access.caller(&head.headers, scope).await?;
         if let (Some(exchange), Some(user)) = (&content.exchange, caller.user()) {
             exchange.set_user(user);
         }
         if demand.is_none() {
-            caller.check_known()?;
+            caller.check_known(scope)?;
         }
         if let Some(view) = View::of(&path).filter(|_| self.metrics_access != MetricsAccess::Elsewhere) {
             self.metrics_access.check(&caller)?;

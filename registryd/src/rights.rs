@@ -60,6 +60,43 @@ impl<'p> Demand<'p> {
     }
 }
 
+/// What a token has to list for a request.
+#[derive(Clone, Copy, Debug, PartialEq, Eq)]
+pub enum Scope<'p> {
+    /// Nothing: any token is enough.
+    Nothing,
+    /// The list of all repositories. A token without it lists those that it may read.
+    Catalog,
+    Repository(Demand<'p>),
+}
+
+impl<'p> Scope<'p> {
+    /// Returns what a token has to list for a request to a resource.
+    pub fn of(target: Option<&Target<'p>>, demand: Option<Demand<'p>>) -> Scope<'p> {
+        match (target, demand) {
+            (Some(Target::Catalog), _) => Scope::Catalog,
+            (_, Some(demand)) => Scope::Repository(demand),
+            (_, None) => Scope::Nothing,
+        }
+    }
+
+    /// Returns the scope's text in a challenge (Docker's "Token Scope Documentation"), if it has one.
+    pub fn text(&self) -> Option<String> {
+        match self {
+            Scope::Nothing => None,
+            Scope::Catalog => Some("registry:catalog:*".to_string()),
+            Scope::Repository(Demand { right, repo }) => {
+                let actions = match right {
+                    Right::Read => "pull",
+                    Right::Write => "pull,push",
+                    Right::Delete => "delete",
+                };
+                is_repository(repo).then(|| format!("repository:{repo}:{actions}"))
+            }
+        }
+    }
+}
+
 /// Returns whether a repository is the one that a prefix names, or is below it.
 fn is_below(repo: &str, prefix: &str) -> bool {
     prefix == EVERYWHERE || repo.strip_prefix(prefix).map_or(false, |rest| rest.is_empty() || rest.starts_with('/'))

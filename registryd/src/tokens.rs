@@ -1,8 +1,7 @@
 //! Bearer tokens of an issuer, by Docker's "Token Authentication Specification": signed JSON Web Tokens (RFC 7519) that list what
 //! their holder may do.
 use crate::reload::{read_file, FromFile};
-use crate::rights::{Demand, Right};
-use crate::tenants::is_repository;
+use crate::rights::{Right, Scope};
 use jsonwebtoken::errors::{Error, ErrorKind};
 use jsonwebtoken::{decode, Algorithm, DecodingKey, Validation};
 use serde::Deserialize;
@@ -115,6 +114,12 @@ impl Token {
         let entries = self.claims.access.iter().flatten().filter(|entry| entry.kind == "repository" && entry.name == repo);
         entries.flat_map(|entry| entry.actions.iter().flatten()).any(|listed| listed == action || listed == "*")
     }
+
+    /// Returns whether the token lists the catalog: `registry:catalog:*` (Docker's "Token Scope Documentation").
+    pub fn lists_catalog(&self) -> bool {
+        let mut entries = self.claims.access.iter().flatten().filter(|entry| entry.kind == "registry" && entry.name == "catalog");
+        entries.any(|entry| entry.actions.iter().flatten().any(|listed| listed == "*"))
+    }
 }
 
 /// The issuer of tokens, as clients and this registry know it.
@@ -160,15 +165,10 @@ impl Issuer {
 
     /// Returns the challenge to a client that has to send a token for what it wants, or another one because of an error (RFC 6750,
     /// 3.1).
-    pub fn challenge(&self, demand: Option<&Demand<'_>>, error: Option<&str>) -> String {
+    pub fn challenge(&self, scope: Scope<'_>, error: Option<&str>) -> String {
         let mut text = format!("Bearer realm=\"{}\",service=\"{}\"", self.realm, self.service);
-        if let Some(demand) = demand.filter(|demand| is_repository(demand.repo)) {
-            let actions = match demand.right {
-                Right::Read => "pull",
-                Right::Write => "pull,push",
-                Right::Delete => "delete",
-            };
-            text.extend([",scope=\"repository:", demand.repo, ":", actions, "\""]);
+        if let Some(scope) = scope.text() {
+            text.extend([",scope=\"", &scope, "\""]);
         }
         if let Some(error) = error {
             text.extend([",error=\"", error, "\""]);
@@ -180,6 +180,7 @@ impl Issuer {
 #[cfg(test)]
 mod tests {
     use super::*;
+    use crate::rights::Demand;
     use jsonwebtoken::{encode, get_current_timestamp, EncodingKey, Header};
     use ring::signature::{EcdsaKeyPair, KeyPair};
     use serde_json::json;
@@ -383,13 +384,17 @@ mod tests {
     fn a_challenge_names_the_scope() {
         let issuer = issuer(OTHER);
         let base = "Bearer realm=\"https://login/token\",service=\"registry\"";
-        assert_eq!(issuer.challenge(None, None), base);
+        assert_eq!(issuer.challenge(Scope::Nothing, None), base);
+        assert_eq!(issuer.challenge(Scope::Catalog, None), format!("{base},scope=\"registry:catalog:*\""));
         for (right, actions) in [(Right::Read, "pull"), (Right::Write, "pull,push"), (Right::Delete, "delete")] {
             let demand = Demand { right, repo: "acme/app" };
-            assert_eq!(issuer.challenge(Some(&demand), None), format!("{base},scope=\"repository:acme/app:{actions}\""));
+            assert_eq!(
+                issuer.challenge(Scope::Repository(demand), None),
+                format!("{base},scope=\"repository:acme/app:{actions}\"")
+            );
         }
         let odd = Demand { right: Right::Read, repo: "a\",error=\"b" };
-        assert_eq!(issuer.challenge(Some(&odd), Some("invalid_token")), format!("{base},error=\"invalid_token\""));
+        assert_eq!(issuer.challenge(Scope::Repository(odd), Some("invalid_token")), format!("{base},error=\"invalid_token\""));
     }
 
     #[test]

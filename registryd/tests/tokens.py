@@ -189,6 +189,30 @@ def a_mount_without_a_source_needs_the_whole_tenant():
             assert (mounted(one, "acme/one"), mounted(acme, "acme/one"), mounted(public, "other/two")) == (202, 201, 201)
 
 
+def a_token_may_list_the_catalog():
+    """By `registry:catalog:*`, which the challenge names (Docker's "Token Scope Documentation")."""
+    with serving_tokens() as (server, key):
+        def of(*access):
+            return server.client(bearer(token(key, words=claims(access))))
+        for repo in ("acme/one", "other/two"):
+            put_image(of(entry(repo, "pull", "push")), repo)
+        scope = 'scope="registry:catalog:*"'
+        for client in (server.client(), server.client(bearer("a.b.c"))):
+            answer = client.ask("GET", "/v2/_catalog")
+            assert answer.status == 401 and scope in answer["WWW-Authenticate"], answer["WWW-Authenticate"]
+        def listed(*access):
+            answer = of(*access).ask("GET", "/v2/_catalog")
+            assert answer.status == 200, answer.status
+            return json.loads(answer.body)["repositories"]
+        catalog = {"type": "registry", "name": "catalog", "actions": ["*"]}
+        assert listed(catalog) == ["acme/one", "other/two"]
+        assert listed(entry("other/two", "pull")) == ["other/two"]
+        for other in ({**catalog, "type": "repository"}, {**catalog, "name": "other"}, {**catalog, "actions": ["pull"]}, {**catalog, "actions": None}):
+            assert listed(other) == [], other
+        # The list gives no right to read what it names.
+        assert of(catalog).ask("GET", "/v2/acme/one/manifests/v1").status == 401
+
+
 def a_log_line_has_a_short_user():
     with serving_tokens() as (server, key):
         before = len(server.logged())
@@ -346,7 +370,7 @@ def docker_gets_tokens():
 
 
 TESTS = [a_token_of_each_type_of_key, bad_tokens_are_refused, a_challenge_names_what_is_needed, a_token_allows_what_it_lists,
-         a_mount_without_a_source_needs_the_whole_tenant, a_log_line_has_a_short_user, keys_are_read_again, passwords_and_tokens_go_together, a_start_names_the_key, clients_get_tokens, docker_gets_tokens]
+         a_mount_without_a_source_needs_the_whole_tenant, a_token_may_list_the_catalog, a_log_line_has_a_short_user, keys_are_read_again, passwords_and_tokens_go_together, a_start_names_the_key, clients_get_tokens, docker_gets_tokens]
 
 
 def main():
