@@ -334,6 +334,7 @@ async fn start(options: &Options, access: Access) -> Result<Started, Failure> {
         slots: options.slots,
         max_blob: options.max_blob,
         bounds: options.bounds(),
+        asked_removal: options.asked_removal(),
         started: status::now(),
     });
     work_in_background(&registry, options);

@@ -203,7 +203,7 @@ fn facts_to_store(call: &Call, digest: &str, document: Document, given: MediaTyp
 /// end-9: deletes a manifest and its tags, or one tag.
 pub async fn delete(call: &Call, reference: &str) -> HandlerResult {
     if is_digest(reference) {
-        let deleted = delete_manifest(&call.registry, &call.repo, reference, Removal::Asked).await?;
+        let deleted = delete_manifest(&call.registry, &call.repo, reference, call.registry.asked_removal).await?;
         if let Err(Kept::ListedBy(index)) = deleted {
             call.registry.store.stat_manifest(&call.repo, reference).await??;
             return Err(Fault::listed(&index));

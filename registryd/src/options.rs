@@ -2,6 +2,7 @@
 use crate::bounds::Bounds;
 use crate::registry::MetricsAccess;
 use crate::retention::hours;
+use crate::tags::Removal;
 use crate::tenants::{self, tenant_word};
 use crate::uploads::UploadTimeouts;
 use clap::{Parser, ValueEnum};
@@ -76,6 +77,9 @@ pub struct Options {
     /// Delete manifests that nothing has held for this time
     #[arg(long, value_name = "HOURS", value_parser = hours)]
     pub keep_untagged: Option<Duration>,
+    /// Let clients delete manifests that an index lists
+    #[arg(long)]
+    pub delete_listed: bool,
     /// Keep all data in this folder
     #[arg(long, value_name = "DIR")]
     pub data: Option<PathBuf>,
@@ -161,6 +165,14 @@ impl Options {
     pub fn bounds(&self) -> Bounds {
         let Options { manifests, manifest_bytes, tags, .. } = *self;
         Bounds { manifests, manifest_bytes, tags }
+    }
+
+    /// Returns the condition on which a client's delete of a manifest is made.
+    pub fn asked_removal(&self) -> Removal {
+        match self.delete_listed {
+            true => Removal::AskedEvenIfListed,
+            false => Removal::Asked,
+        }
     }
 
     /// Returns when changes are on the disk.

@@ -18,6 +18,7 @@ use crate::provenance::Provenance;
 use crate::rights::{Demand, Right, Scope};
 use crate::status::{SweepHistory, View};
 use crate::store::{Store, StoreUnavailable};
+use crate::tags::Removal;
 use crate::tenants;
 use crate::turns::Turns;
 use crate::uploads::{Upload, UploadTimeouts, Uploads};
@@ -57,6 +58,8 @@ pub struct Registry {
     pub max_blob: u64,
     /// The bounds on the manifests and tags of each tenant.
     pub bounds: Bounds,
+    /// The condition on which a client's delete of a manifest is made.
+    pub asked_removal: Removal,
     /// Where the store's program comes from.
     pub provenance: Provenance,
     /// The time of the start, in seconds since 1970.

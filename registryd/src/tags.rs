@@ -89,6 +89,8 @@ impl Referrer {
 pub enum Removal {
     /// No index lists it: a client asked for the delete.
     Asked,
+    /// None: a client asked for the delete, and may delete what an index lists.
+    AskedEvenIfListed,
     /// Nothing holds it, nothing has held it since this time, in seconds since 1970, and it was pushed before.
     UnheldSince(u64),
 }
@@ -260,6 +262,7 @@ impl Repository {
     fn check_removal(&self, digest: &str, removal: Removal) -> Result<(), Kept> {
         match removal {
             Removal::Asked => self.listed.first(digest).map_or(Ok(()), |index| Err(Kept::ListedBy(index.clone()))),
+            Removal::AskedEvenIfListed => Ok(()),
             Removal::UnheldSince(time) => match self.manifest(digest) {
                 Some(manifest) if manifest.since <= time && self.holder(digest).is_none() => {
                     let is_tagged = self.tags.values().any(|tagged| tagged == digest);

@@ -172,6 +172,22 @@ def an_index_protects_what_it_lists(server):
     assert client.ask("DELETE", f"/v2/acme/copies/manifests/{sha256(index())}").status == 202
 
 
+def an_image_may_be_deleted_although_an_index_lists_it():
+    """With --delete-listed, as other registries do."""
+    with serving("--delete-listed") as server:
+        client, repo = server.client(), "acme/listed"
+        image = repository(client, repo)
+        listing = index(descriptor(image))
+        put(client, repo, listing, "all")
+        at = f"/v2/{repo}/manifests/{sha256(image)}"
+        assert client.ask("DELETE", at).status == 202
+        assert (client.ask("GET", at).status, client.ask("DELETE", at).status) == (404, 404)
+        assert client.ask("GET", f"/v2/{repo}/manifests/all").body == listing
+        # The image can be pushed again, and the index is deleted like any other.
+        put(client, repo, image, "v1")
+        assert client.ask("DELETE", at).status == client.ask("DELETE", f"/v2/{repo}/manifests/{sha256(listing)}").status == 202
+
+
 def an_index_may_list_what_is_missing(server):
     client, repo = server.client(), "acme/sparse"
     image = repository(client, repo)
@@ -252,7 +268,7 @@ def main():
     with serving("--slots", "16") as server:
         play("referrers", [
             (each_kind_is_described, server), (a_subject_need_not_exist, server), (unknown_and_invalid_names, server),
-            pages_have_a_bound, (an_index_protects_what_it_lists, server), (an_index_may_list_what_is_missing, server),
+            pages_have_a_bound, (an_index_protects_what_it_lists, server), an_image_may_be_deleted_although_an_index_lists_it, (an_index_may_list_what_is_missing, server),
             (writers_at_once_leave_true_lists, server), repositories_are_listed])
 
 
