@@ -2,29 +2,14 @@
 use crate::conditional::{entity_tag, has_content, is_range_wanted, not_modified};
 use crate::content::HELD_LEN;
 use crate::fault::Fault;
-use crate::frames::Refusal;
 use crate::memory::Reserved;
-use crate::range::{requested_range, Part, RequestedRange, MAX_PLACE};
-use crate::registry::{empty, with_body, Call, HandlerResult, Registry};
-use crate::store::{Answer, FetchResult, LeasedBlob, StoreUnavailable, MAX_FETCHED};
-use crate::store_connection::WHOLE_LEN;
-use bytes::Bytes;
-use hyper::body::Sender;
+use crate::range::{parts, requested_ranges, Part, RequestedRange, MAX_PLACE};
+use crate::registry::{empty, with_body, Call, HandlerResult};
+use crate::store::{FetchResult, LeasedBlob, MAX_FETCHED};
+use crate::transfer::{Span, Transfer, PIECE_LEN};
 use hyper::{Body, StatusCode};
 use std::collections::VecDeque;
-use std::sync::Arc;
-use std::time::Duration;
-use tokio::task::JoinHandle;
-
-/// The maximum number of bytes that one read returns.
-const PIECE_LEN: u64 = WHOLE_LEN as u64;
-
-/// The number of pieces that are read at once, each on its own connection to the store. One is taken out of its pipe while
-/// the next is written into another.
-const READS_AT_ONCE: usize = 2;
-
-/// The time for which a client may take no byte of a piece.
-const IDLE_TIME: Duration = Duration::from_secs(300);
+use uuid::Uuid;
 
 const OCTETS: (&str, &str) = ("Content-Type", "application/octet-stream");
 
@@ -51,7 +36,14 @@ pub async fn get(call: &Call, digest: &str) -> HandlerResult {
         return not_modified(digest);
     }
     let range = call.header("range").filter(|_| is_range_wanted(call, digest));
-    let requested = range.map_or(RequestedRange::All, requested_range);
+    match range.map_or_else(|| vec![RequestedRange::All], requested_ranges)[..] {
+        [requested] => get_part(call, digest, requested).await,
+        ref ranges => get_parts(call, digest, ranges).await,
+    }
+}
+
+/// Returns a response with a blob or one part of it.
+async fn get_part(call: &Call, digest: &str, requested: RequestedRange) -> HandlerResult {
     match fetch(call, digest, requested).await? {
         (FetchResult::LeasedBlob(leased), _) => get_leased(call, digest, requested, leased).await,
         (FetchResult::Piece { size, bytes }, reserved) => match Slice::of(requested, size) {
@@ -110,13 +102,49 @@ async fn get_leased(call: &Call, digest: &str, requested: RequestedRange, leased
     let body = match end - start {
         0..=PIECE_LEN => short_body(call, leased, digest, start, end).await?,
         _ => {
-            let (sender, body) = Body::channel();
-            let (registry, digest) = (call.registry.clone(), digest.to_string());
-            tokio::spawn(Transfer { registry, leased, digest, start, end, reads: VecDeque::new() }.send(sender));
-            body
+            let spans = [Span::Content(start, end)].into();
+            Transfer::begin(&call.registry, leased, digest, spans)
         }
     };
     slice.response(digest, body, Some(reserved))
+}
+
+/// Returns a response with several parts of a blob (RFC 9110, 14.6), or with one if the ranges have no two parts.
+async fn get_parts(call: &Call, digest: &str, ranges: &[RequestedRange]) -> HandlerResult {
+    let leased = call.registry.store.lease(&call.repo, digest).await??;
+    let parts = match parts(ranges, leased.size) {
+        Ok(parts) => parts,
+        Err(requested) => return get_leased(call, digest, requested, leased).await,
+    };
+    let boundary = Uuid::new_v4().to_string();
+    let spans = multipart(&parts, leased.size, &boundary);
+    let len: u64 = spans.iter().map(Span::len).sum();
+    let reserved = match call.reserve(len.min(HELD_LEN)) {
+        Ok(reserved) => reserved,
+        Err(fault) => {
+            call.registry.store.give_back(leased.number).await??;
+            return Err(fault);
+        }
+    };
+    let (tag, len, media_type) = (entity_tag(digest), len.to_string(), format!("multipart/byteranges; boundary={boundary}"));
+    let mut headers = headers_of(digest, &tag, &len);
+    headers[0] = ("Content-Type", &media_type);
+    let mut response = with_body(StatusCode::PARTIAL_CONTENT, &headers, Transfer::begin(&call.registry, leased, digest, spans))?;
+    response.extensions_mut().insert(reserved);
+    Ok(response)
+}
+
+/// Returns the content of a response with several parts of a blob of `size` bytes, each with its first and its last offset.
+fn multipart(parts: &[(u64, u64)], size: u64, boundary: &str) -> VecDeque<Span> {
+    let mut spans = VecDeque::with_capacity(2 * parts.len() + 1);
+    for (start, last) in parts {
+        let (name, media_type) = OCTETS;
+        let head = format!("\r\n--{boundary}\r\n{name}: {media_type}\r\nContent-Range: bytes {start}-{last}/{size}\r\n\r\n");
+        spans.push_back(Span::Text(head.into()));
+        spans.push_back(Span::Content(*start, last + 1));
+    }
+    spans.push_back(Span::Text(format!("\r\n--{boundary}--\r\n").into()));
+    spans
 }
 
 /// The bytes of a blob from `start` to `end` exclusive, and the status of the response that carries them.
@@ -175,76 +203,4 @@ pub async fn delete(call: &Call, digest: &str) -> HandlerResult {
     call.registry.end_delete(&call.repo, &deleted).await;
     deleted??;
     empty(StatusCode::ACCEPTED, &[])
-}
-
-/// The transfer of a leased blob to a client.
-struct Transfer {
-    registry: Arc<Registry>,
-    leased: LeasedBlob,
-    digest: String,
-    /// The start of the next read, and the end of the last one.
-    start: u64,
-    end: u64,
-    /// The reads in progress, in order.
-    reads: VecDeque<JoinHandle<Answer<Bytes>>>,
-}
-
-/// The reason why a transfer stopped early.
-enum TransferError {
-    StoreUnavailable,
-    Refused(Refusal),
-    /// The client disconnected, or takes no bytes.
-    Left,
-}
-
-impl From<StoreUnavailable> for TransferError {
-    fn from(_: StoreUnavailable) -> TransferError {
-        TransferError::StoreUnavailable
-    }
-}
-
-impl Transfer {
-    /// Sends the bytes, and releases the lease after its last read.
-    async fn send(mut self, mut sender: Sender) {
-        if let Err(stopped) = self.send_pieces(&mut sender).await {
-            if let TransferError::Refused(refusal) = stopped {
-                tracing::error!(reason = ?refusal.reason, "cannot read a leased blob");
-            }
-            sender.abort();
-        }
-        for read in self.reads.drain(..) {
-            let _ = read.await;
-        }
-        let number = self.leased.number;
-        if let Ok(Err(refusal)) = self.registry.store.give_back(number).await {
-            tracing::error!(reason = ?refusal.reason, "cannot release a lease");
-        }
-    }
-
-    /// Begins to read the next piece, if there is one.
-    fn read_next(&mut self) {
-        if self.start < self.end {
-            let (start, last) = (self.start, self.end.min(self.start + PIECE_LEN) - 1);
-            let (registry, digest, number) = (self.registry.clone(), self.digest.clone(), self.leased.number);
-            self.reads.push_back(tokio::spawn(async move { registry.store.read(number, &digest, start, last).await }));
-            self.start = last + 1;
-        }
-    }
-
-    /// Sends the bytes piece by piece. It holds no connection to the store while it waits for the client.
-    async fn send_pieces(&mut self, sender: &mut Sender) -> Result<(), TransferError> {
-        for _ in 0..READS_AT_ONCE {
-            self.read_next();
-        }
-        while let Some(read) = self.reads.pop_front() {
-            let bytes = read.await.map_err(|_| StoreUnavailable)??.map_err(TransferError::Refused)?;
-            self.read_next();
-            let count = bytes.len();
-            match tokio::time::timeout(IDLE_TIME, sender.send_data(bytes)).await {
-                Ok(Ok(())) => self.registry.metrics.sent(count),
-                Ok(Err(_)) | Err(_) => return Err(TransferError::Left),
-            }
-        }
-        Ok(())
-    }
 }

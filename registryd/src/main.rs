@@ -49,6 +49,7 @@ mod tags;
 mod tenants;
 mod tls;
 mod tokens;
+mod transfer;
 mod turns;
 mod undo;
 mod upload_name;

@@ -1,5 +1,7 @@
 #!/usr/bin/env python3
-"""Counts the calls to the store that a GET of a blob makes, for the full content and for ranges."""
+"""Counts the calls to the store that a GET of a blob makes, for the full content and for ranges, and compares what it sends."""
+import email, email.policy
+
 from hardships import head_of
 from playing import calls, play, serving_stub, until
 from server import serving, sha256
@@ -133,13 +135,79 @@ def parts_are_those_of_the_content():
         assert not server.left(), server.left()
 
 
+def ranges_of(answer):
+    """Returns the ranges and the contents of the parts of a response (RFC 9110, 14.6)."""
+    kind, boundary = answer["Content-Type"].split("; boundary=")
+    assert (answer.status, kind) == (206, "multipart/byteranges") and answer["Content-Range"] is None, answer.headers
+    assert len(answer.body) == int(answer["Content-Length"])
+    head = f"Content-Type: {answer['Content-Type']}\r\n\r\n".encode()
+    message = email.message_from_bytes(head + answer.body, policy=email.policy.HTTP)
+    *pieces, end = answer.body.split(f"\r\n--{boundary}".encode())[1:]
+    assert message.is_multipart() and end == b"--\r\n", end
+    contents = [piece.split(b"\r\n\r\n", 1)[1] for piece in pieces]
+    assert {part.get_content_type() for part in message.get_payload()} == {"application/octet-stream"}
+    return [part["Content-Range"] for part in message.get_payload()], contents
+
+
+def several_parts_are_sent_together():
+    """With a boundary that the content cannot have by chance. Several reads of a long part and one of a short one take one lease."""
+    data = bytes(range(256)) * (MIB // 64) + b"\r\n--the end--\r\n"
+    size = len(data)
+    cases = [([(0, 1), (5, 9)], "0-0,5-8"), ([(9, 12), (0, 8)], " 9-11 ,\t0-7,"), ([(3, 4), (size - 7, size)], "3-3,-7"),
+             ([(1, 2 * PIECE + 4), (2 * PIECE + 4, size)], f"1-{2 * PIECE + 3},{2 * PIECE + 4}-"), ([(0, 1), (7, size)], f"0-0,7-{size + 9},{size}-"),
+             ([(2 * at, 2 * at + 1) for at in range(16)], ",".join(f"{2 * at}-{2 * at}" for at in range(16)))]
+    with serving_stub({}) as server:
+        client = server.client()
+        at = pushed(client, data)
+        for spans, text in cases:
+            before = counts(server)
+            answer = client.ask("GET", at, headers={"Range": f"bytes={text}"})
+            ranges, contents = ranges_of(answer)
+            assert ranges == [f"bytes {start}-{end - 1}/{size}" for start, end in spans], (text, ranges)
+            assert contents == [data[start:end] for start, end in spans], text
+            assert (answer["ETag"], answer["Docker-Content-Digest"]) == (f'"{sha256(data)}"', sha256(data))
+            reads = sum(-(-(end - start) // PIECE) for start, end in spans)
+            wanted = {LEASE: 1, READ: reads, GIVE_BACK: 1}
+            made = lambda: {name: count - before.get(name, 0) for name, count in counts(server).items() if count > before.get(name, 0)}
+            assert until(lambda: made() == wanted), (text, made(), wanted)
+
+
+def some_ranges_are_one_part_or_all():
+    with serving() as server:
+        client, data = server.client(), b"0123456789" * 1000
+        at = pushed(client, data)
+        def got(text, **headers):
+            answer = client.ask("GET", at, headers={"Range": f"bytes={text}", **headers})
+            return answer.status, answer.body, answer["Content-Range"]
+        whole = (200, data, None)
+        # Two that overlap, too many, and one that is malformed.
+        many = ",".join(f"{2 * at}-{2 * at}" for at in range(17))
+        for text in ("0-5,5-9", "0-,-1", "3-4,0-9", many, "0-0,x", "0-0,7-3", ","):
+            assert got(text) == whole, text
+        assert got("0-0,10000-") == (206, b"0", "bytes 0-0/10000")
+        assert got("10000-,20000-") == (416, b"", "bytes */10000")
+        assert got("0-0,2-2", **{"If-Range": '"other"'}) == whole
+        assert client.ask("HEAD", at, headers={"Range": "bytes=0-0,2-2"})["Content-Length"] == "10000"
+        assert client.ask("GET", f"/v2/acme/one/blobs/{sha256(b'none')}", headers={"Range": "bytes=0-0,2-2"}).status == 404
+        # A client that leaves gives its lease back.
+        long = pushed(client, bytes(8 * MIB))
+        for _ in range(3):
+            line = server.socket()
+            line.sendall(f"GET {long} HTTP/1.1\r\nHost: x\r\nRange: bytes=0-9,100-8000000\r\n\r\n".encode())
+            assert line.recv(100).startswith(b"HTTP/1.1 206")
+            line.close()
+        for path in (at, long):
+            assert client.ask("DELETE", path).status == 202
+        assert not server.left(), server.left()
+
+
 def main():
     play("blobs", [
         a_short_blob_takes_one_call, a_long_blob_takes_a_fetch_in_place_of_a_lease, a_short_part_takes_one_call,
         a_part_that_is_not_there_takes_one_call, a_part_whose_place_depends_on_the_size_takes_a_lease,
         a_part_that_is_not_wanted_is_not_fetched, a_blob_that_is_not_there_takes_one_call,
         without_memory_for_a_fetch_the_size_is_asked_for_first, a_fetch_that_came_too_late_leaves_no_lease,
-        parts_are_those_of_the_content])
+        parts_are_those_of_the_content, several_parts_are_sent_together, some_ranges_are_one_part_or_all])
 
 
 if __name__ == "__main__":
