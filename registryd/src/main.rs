@@ -18,6 +18,7 @@ mod exchange;
 mod fault;
 mod folder;
 mod frames;
+mod framing;
 mod limits;
 mod loose;
 mod manifests;

@@ -22,9 +22,9 @@ use crate::tags::Removal;
 use crate::tenants;
 use crate::turns::Turns;
 use crate::uploads::{Upload, UploadTimeouts, Uploads};
-use crate::{blobs, manifests, referrers, repositories, retention, uploading};
+use crate::{blobs, framing, manifests, referrers, repositories, retention, uploading};
 use hyper::body::HttpBody;
-use hyper::header::{EXPECT, HOST};
+use hyper::header::{HeaderValue, CONNECTION, EXPECT, HOST};
 use hyper::http::request::Parts;
 use hyper::http::uri::Authority;
 use hyper::{Body, Method, Request, Response, StatusCode, Version};
@@ -271,19 +271,25 @@ impl Registry {
     async fn answer(self: Arc<Self>, request: Request<Body>) -> Response<Body> {
         let (head, body) = request.into_parts();
         let is_awaited = head.headers.contains_key(EXPECT);
+        let is_last = framing::is_last(&head.headers);
         let exchange = head.extensions.get::<Arc<Exchange>>().cloned();
         let mut content = RequestContent::new(body, is_awaited, self.metrics.clone()).of(exchange);
-        self.route(head, &mut content).await.unwrap_or_else(|fault| {
+        let mut answer = self.route(head, &mut content).await.unwrap_or_else(|fault| {
             let fault = if content.is_short { Fault::unavailable("out of memory") } else { fault };
             let mut answer = fault.into_response();
             content.drain(&mut answer);
             answer
-        })
+        });
+        if is_last {
+            answer.headers_mut().insert(CONNECTION, HeaderValue::from_static("close"));
+        }
+        answer
     }
 
     async fn route(self: Arc<Self>, head: Parts, content: &mut RequestContent) -> HandlerResult {
         let path = head.uri.path().to_string();
         check_host(&head)?;
+        framing::check(&head.headers)?;
         if path == "/healthz" {
             return self.probe(&[]).await;
         }

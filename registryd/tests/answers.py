@@ -1,6 +1,6 @@
 #!/usr/bin/env python3
-"""Tests rarely used names, limits, methods and conditions of requests."""
-import json, re, subprocess
+"""Tests rarely used names, limits, methods and conditions, codings and expectations of requests, and their log lines."""
+import contextlib, json, re, subprocess
 
 from playing import LASTING, play, serving_stub, until
 from server import MANIFEST, manifest_of, serving, sha256
@@ -42,6 +42,36 @@ def paths_are_decoded_once(server):
     twice = client.ask("GET", f"/v2/acme%252Fcoded/blobs/{sha256(b'abc')}")
     assert (twice.status, twice.code()) == (400, "NAME_INVALID"), twice.status
     assert client.ask("GET", f"/v2/acme/%ff/blobs/{sha256(b'abc')}").status == 404
+
+
+def asked(server, *lines, body=b""):
+    """Sends a request on a connection of its own, and returns the status, the header's lines, and whether the connection ended."""
+    with contextlib.closing(server.socket()) as line:
+        line.sendall("\r\n".join([*lines, "Host: x", "", ""]).encode() + body)
+        line.settimeout(3)
+        received = b""
+        with contextlib.suppress(TimeoutError):
+            while part := line.recv(10_000):
+                received += part
+            return int(received.split()[1]), received.lower(), True
+        return int(received.split()[1]), received.lower(), False
+
+
+def the_end_of_a_content_is_certain():
+    """RFC 9112, 6.1."""
+    with serving() as server:
+        at = server.client().ask("POST", "/v2/acme/one/blobs/uploads/")["Location"]
+        chunked, chunk = "Transfer-Encoding: chunked", b"3\r\nabc\r\n0\r\n\r\n"
+        status, received, has_ended = asked(server, f"PATCH {at} HTTP/1.1", "Content-Length: 5", chunked, body=chunk)
+        assert status == 202 and b"connection: close" in received and has_ended, received
+        assert asked(server, f"PATCH {at} HTTP/1.1", chunked, body=chunk)[::2] == (202, False)
+        for codings in (["Transfer-Encoding: gzip, chunked"], ["Transfer-Encoding: gzip", chunked]):
+            status, received, has_ended = asked(server, f"PATCH {at} HTTP/1.1", *codings, body=chunk)
+            assert status == 501 and has_ended, received
+        assert server.client().ask("GET", at)["Range"] == "0-5"
+        for expected, status in (("nonsense", 417), ("100-continue, nonsense", 417), ("100-Continue", 100)):
+            got = asked(server, f"PATCH {at} HTTP/1.1", "Content-Length: 3", f"Expect: {expected}", body=b"abc")
+            assert got[0] == status, (expected, got)
 
 
 def a_log_line_is_bounded():
@@ -136,7 +166,7 @@ def bad_tenants_are_named():
 def main():
     with serving("--slots", "64") as server:
         play("answers", [
-            (every_valid_name_can_be_used, server), (paths_are_decoded_once, server), each_limit_is_named, a_log_line_is_bounded,
+            (every_valid_name_can_be_used, server), (paths_are_decoded_once, server), each_limit_is_named, a_log_line_is_bounded, the_end_of_a_content_is_certain,
             unsupported_methods_are_rejected, (content_that_a_client_has_is_not_sent_again, server), bad_tenants_are_named])
 
 
