@@ -55,6 +55,12 @@ impl Fault {
         Fault::new(StatusCode::NOT_FOUND, "BLOB_UPLOAD_UNKNOWN", "there is no such upload")
     }
 
+    /// The repository's tenant does not exist.
+    pub fn tenant_unknown(repo: &str) -> Fault {
+        let message = format!("there is no such tenant: {:.255}", tenant_of(repo));
+        Fault::new(StatusCode::NOT_FOUND, "NAME_UNKNOWN", message)
+    }
+
     pub fn manifest_unknown() -> Fault {
         Fault::new(StatusCode::NOT_FOUND, "MANIFEST_UNKNOWN", "the repository has no such manifest")
     }

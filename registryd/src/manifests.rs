@@ -29,7 +29,8 @@ pub fn is_digest(reference: &str) -> bool {
 async fn look_up(call: &Call, reference: &str) -> Result<NamedManifest, Fault> {
     let tags = &call.registry.tags;
     if !is_digest(reference) {
-        return tags.by_tag(&call.repo, reference).ok_or_else(Fault::manifest_unknown);
+        let unknown = || if call.has_tenant() { Fault::manifest_unknown() } else { Fault::tenant_unknown(&call.repo) };
+        return tags.by_tag(&call.repo, reference).ok_or_else(unknown);
     }
     if let Some(named) = tags.by_digest(&call.repo, reference) {
         tags.touch(&call.repo, reference);
@@ -243,7 +244,8 @@ pub async fn delete_manifest(registry: &Registry, repo: &str, digest: &str, remo
 pub async fn tags(call: &Call) -> HandlerResult {
     let wanted = WantedPage::of(call.head.uri.query())?;
     let page = call.registry.tags.page(&call.repo, &wanted.last, wanted.most);
-    let page = page.ok_or_else(|| Fault::new(StatusCode::NOT_FOUND, "NAME_UNKNOWN", "the repository has no manifests"))?;
+    let unknown = || Fault::new(StatusCode::NOT_FOUND, "NAME_UNKNOWN", "the repository has no manifests");
+    let page = page.ok_or_else(|| if call.has_tenant() { unknown() } else { Fault::tenant_unknown(&call.repo) })?;
     let last = page.items.last().filter(|_| page.more);
     let link = last.map(|last| wanted.next(&format!("/v2/{}/tags/list", call.repo), last, &[]));
     page_response(&json!({ "name": call.repo, "tags": page.items }), link)

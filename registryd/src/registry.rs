@@ -162,6 +162,11 @@ impl Call {
         }
     }
 
+    /// Returns whether the repository's tenant exists.
+    pub fn has_tenant(&self) -> bool {
+        self.registry.store.has_tenant(&self.repo)
+    }
+
     /// Fails if the disk of the folder has less free than its minimum.
     pub fn check_disk(&self) -> Result<(), Fault> {
         self.registry.folder.as_ref().map_or(Ok(()), Folder::check)

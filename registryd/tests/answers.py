@@ -74,6 +74,16 @@ def the_end_of_a_content_is_certain():
             assert got[0] == status, (expected, got)
 
 
+def a_missing_tenant_is_named():
+    with serving() as server:
+        for path, word in (("tags/list", b"no such tenant: nobody"), ("manifests/v1", b"no such tenant: nobody"),
+                           (f"manifests/{sha256(b'x')}", b"no such tenant"), (f"blobs/{sha256(b'x')}", b"no such tenant")):
+            answer = server.client().ask("GET", f"/v2/nobody/x/{path}")
+            assert answer.status == 404 and answer.code() == "NAME_UNKNOWN" and word in answer.body, (path, answer.body)
+        answer = server.client().ask("GET", "/v2/acme/x/tags/list")
+        assert answer.status == 404 and b"the repository has no manifests" in answer.body, answer.body
+
+
 def a_log_line_is_bounded():
     with serving() as server:
         for method, path in (("GET", "/" + "x" * 60_000), ("X" * 5_000, "/v2/"), ("GET", "/v2/acme/" + "%C3%A4" * 5_000 + "/tags/list")):
@@ -167,6 +177,7 @@ def main():
     with serving("--slots", "64") as server:
         play("answers", [
             (every_valid_name_can_be_used, server), (paths_are_decoded_once, server), each_limit_is_named, a_log_line_is_bounded, the_end_of_a_content_is_certain,
+            a_missing_tenant_is_named,
             unsupported_methods_are_rejected, (content_that_a_client_has_is_not_sent_again, server), bad_tenants_are_named])
 
 
