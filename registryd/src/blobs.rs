@@ -1,5 +1,5 @@
 //! Reading and deleting blobs.
-use crate::conditional::{entity_tag, has_content, is_range_wanted, not_modified};
+use crate::conditional::{check_match, entity_tag, has_content, is_range_wanted, not_modified};
 use crate::content::HELD_LEN;
 use crate::fault::Fault;
 use crate::memory::Reserved;
@@ -22,6 +22,7 @@ fn headers_of<'h>(digest: &'h str, tag: &'h str, len: &'h str) -> [(&'static str
 pub async fn head(call: &Call, digest: &str) -> HandlerResult {
     call.registry.loose.ask(&call.repo, digest)?;
     let size = call.registry.store.stat(&call.repo, digest).await??.to_string();
+    check_match(call, Some(digest))?;
     if has_content(call, digest) {
         return not_modified(digest);
     }
@@ -31,8 +32,10 @@ pub async fn head(call: &Call, digest: &str) -> HandlerResult {
 /// end-2: returns a blob or a part of it.
 pub async fn get(call: &Call, digest: &str) -> HandlerResult {
     call.registry.loose.ask(&call.repo, digest)?;
-    if has_content(call, digest) {
+    let matched = check_match(call, Some(digest));
+    if matched.is_err() || has_content(call, digest) {
         call.registry.store.stat(&call.repo, digest).await??;
+        matched?;
         return not_modified(digest);
     }
     let range = call.header("range").filter(|_| is_range_wanted(call, digest));
@@ -199,6 +202,10 @@ async fn short_body(call: &Call, leased: LeasedBlob, digest: &str, start: u64, e
 
 /// end-10: removes a blob from a repository.
 pub async fn delete(call: &Call, digest: &str) -> HandlerResult {
+    if let Err(fault) = check_match(call, Some(digest)) {
+        call.registry.store.stat(&call.repo, digest).await??;
+        return Err(fault);
+    }
     let deleted = call.registry.store.delete(&call.repo, digest).await;
     call.registry.end_delete(&call.repo, &deleted).await;
     deleted??;

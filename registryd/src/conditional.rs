@@ -1,6 +1,7 @@
 //! Conditional requests (RFC 9110, 13). The digest of the content is its entity tag.
+use crate::fault::Fault;
 use crate::registry::{empty, Call, HandlerResult};
-use hyper::header::{HeaderMap, IF_NONE_MATCH, IF_RANGE};
+use hyper::header::{HeaderMap, IF_MATCH, IF_NONE_MATCH, IF_RANGE};
 use hyper::StatusCode;
 
 /// Returns the strong entity tag of the content with a digest (RFC 9110, 8.8.3).
@@ -16,6 +17,26 @@ pub fn has_content(call: &Call, digest: &str) -> bool {
 /// Returns the response to a client that already has the content.
 pub fn not_modified(digest: &str) -> HandlerResult {
     empty(StatusCode::NOT_MODIFIED, &[("ETag", &entity_tag(digest)), ("Docker-Content-Digest", digest)])
+}
+
+/// Checks the header `If-Match`, if there is one: it is `*`, or lists the entity tag of the content by strong comparison (RFC 9110,
+/// 13.1.1). There is no content if `digest` is missing.
+///
+/// # Errors
+///
+/// Fails if the header names other content only.
+pub fn check_match(call: &Call, digest: Option<&str>) -> Result<(), Fault> {
+    match is_matched(&call.head.headers, digest) {
+        true => Ok(()),
+        false => Err(Fault::new(StatusCode::PRECONDITION_FAILED, "DENIED", "the content is not that of If-Match")),
+    }
+}
+
+fn is_matched(headers: &HeaderMap, digest: Option<&str>) -> bool {
+    let tag = digest.map(entity_tag);
+    let is_it = |text: &str| tag.as_deref().map_or(false, |tag| text.trim() == "*" || text.trim() == tag);
+    let mut lists = headers.get_all(IF_MATCH).iter();
+    !headers.contains_key(IF_MATCH) || lists.any(|list| list.to_str().map_or(false, |list| list.split(',').any(is_it)))
 }
 
 /// Returns whether a header `Range` applies: it does unless `If-Range` names other content (RFC 9110, 13.1.5).
@@ -38,6 +59,18 @@ fn is_listed(headers: &HeaderMap, digest: &str) -> bool {
 #[cfg(test)]
 mod tests {
     use super::*;
+
+    #[test]
+    fn a_tag_is_matched_by_strong_comparison() {
+        let is_in = |list: &str, digest| is_matched(&[(IF_MATCH, list.parse().unwrap())].into_iter().collect(), digest);
+        for list in ["\"sha256:0\"", "*", "\"x\", \"sha256:0\""] {
+            assert!(is_in(list, Some("sha256:0")) && !is_in(list, None), "{list}");
+        }
+        for list in ["\"x\"", "W/\"sha256:0\"", "sha256:0", "", "\"sha256:00\""] {
+            assert!(!is_in(list, Some("sha256:0")), "{list}");
+        }
+        assert!(is_matched(&HeaderMap::new(), None));
+    }
 
     #[test]
     fn a_tag_is_found_in_a_list() {

@@ -1,6 +1,6 @@
 //! Manifests and tags.
 use crate::clock::now;
-use crate::conditional::{entity_tag, has_content, not_modified};
+use crate::conditional::{check_match, entity_tag, has_content, not_modified};
 use crate::content::{RequestContent, MAX_MANIFEST};
 use crate::document::{self, Document, Facts};
 use crate::fault::Fault;
@@ -11,7 +11,9 @@ use crate::pages::{page_response, WantedPage};
 use crate::registry::{empty, with_body, Call, HandlerResult, Registry};
 use crate::store::{Answer, StoreUnavailable};
 use crate::tags::{is_tag, Kept, NamedManifest, Removal};
+use crate::turns::Turn;
 use bytes::Bytes;
+use hyper::header::IF_MATCH;
 use hyper::{Body, StatusCode};
 use serde_json::json;
 use sha2::{Digest, Sha256};
@@ -88,6 +90,7 @@ where
 pub async fn get(call: &Call, reference: &str) -> HandlerResult {
     let ask = |digest: String| async move { call.registry.store.get_manifest(&call.repo, &digest).await };
     let (NamedManifest { digest, media_type }, bytes) = read(call, reference, ask).await?;
+    check_match(call, Some(&digest))?;
     if has_content(call, &digest) {
         return not_modified(&digest);
     }
@@ -99,6 +102,7 @@ pub async fn get(call: &Call, reference: &str) -> HandlerResult {
 pub async fn head(call: &Call, reference: &str) -> HandlerResult {
     let ask = |digest: String| async move { call.registry.store.stat_manifest(&call.repo, &digest).await };
     let (NamedManifest { digest, media_type }, size) = read(call, reference, ask).await?;
+    check_match(call, Some(&digest))?;
     if has_content(call, &digest) {
         return not_modified(&digest);
     }
@@ -126,6 +130,7 @@ pub async fn put(call: &Call, reference: &str, content: &mut RequestContent) -> 
     let given = media_type_of(call.header("content-type"), &document)?;
     check_inert(&given.text)?;
     let tag = Some(reference).filter(|reference| !is_digest(reference));
+    let condition = turn_by_condition(call, reference).await?;
     let turn = call.registry.turns.take(&call.repo, &digest).await;
     let facts = facts_to_store(call, &digest, document, given, size_of(&bytes))?;
     let room = tags.reserve(&call.repo, (&digest, facts.size), tag, bounds).map_err(exceeds)?;
@@ -136,8 +141,24 @@ pub async fn put(call: &Call, reference: &str, content: &mut RequestContent) -> 
     drop(room);
     // With a database, the repository is recorded there from now on.
     call.registry.repositories.add(&call.repo);
-    drop((changing, turn));
+    drop((changing, turn, condition));
     accepted(call, &digest, subject.as_deref(), missing)
+}
+
+/// Returns the digest of the manifest that a reference names now.
+fn current(call: &Call, reference: &str) -> Option<String> {
+    let tags = &call.registry.tags;
+    let named = if is_digest(reference) { tags.by_digest(&call.repo, reference) } else { tags.by_tag(&call.repo, reference) };
+    named.map(|named| named.digest)
+}
+
+/// Checks the header `If-Match` of a push. Pushes to one tag with this header take turns, so that each checks what the last one put.
+/// A push without it does not wait.
+async fn turn_by_condition<'c>(call: &'c Call, reference: &str) -> Result<Option<Turn<'c>>, Fault> {
+    let has_turn = call.head.headers.contains_key(IF_MATCH) && !is_digest(reference);
+    let turn = if has_turn { Some(call.registry.turns.take(&call.repo, reference).await) } else { None };
+    check_match(call, current(call, reference).as_deref())?;
+    Ok(turn)
 }
 
 /// Returns the response to a manifest that was put. `missing` is how many of the manifests that it lists are missing.
@@ -203,6 +224,9 @@ fn facts_to_store(call: &Call, digest: &str, document: Document, given: MediaTyp
 
 /// end-9: deletes a manifest and its tags, or one tag.
 pub async fn delete(call: &Call, reference: &str) -> HandlerResult {
+    if let Some(digest) = current(call, reference) {
+        check_match(call, Some(&digest))?;
+    }
     if is_digest(reference) {
         let deleted = delete_manifest(&call.registry, &call.repo, reference, call.registry.asked_removal).await?;
         if let Err(Kept::ListedBy(index)) = deleted {

@@ -1,8 +1,8 @@
 #!/usr/bin/env python3
-"""Tests rarely used names, limits, methods and conditions, codings and expectations of requests, and their log lines."""
+"""Tests rarely used names, limits, methods, conditions, codings and expectations of requests, and their log lines."""
 import contextlib, json, re, subprocess
 
-from playing import LASTING, play, serving_stub, until
+from playing import LASTING, Asking, play, serving_stub, until
 from server import MANIFEST, manifest_of, serving, sha256
 
 PATCH = {"Content-Type": "application/octet-stream"}
@@ -72,6 +72,38 @@ def the_end_of_a_content_is_certain():
         for expected, status in (("nonsense", 417), ("100-continue, nonsense", 417), ("100-Continue", 100)):
             got = asked(server, f"PATCH {at} HTTP/1.1", "Content-Length: 3", f"Expect: {expected}", body=b"abc")
             assert got[0] == status, (expected, got)
+
+
+def a_condition_that_fails_is_412():
+    """RFC 9110, 13.1.1. A push to a tag is made only if the tag names what the client believes."""
+    with serving() as server:
+        client, config, data = server.client(), b"{}", b"blob"
+        for content in (config, data):
+            assert client.ask("POST", f"/v2/acme/one/blobs/uploads/?digest={sha256(content)}", content, PATCH).status == 201
+        one, two = manifest_of(config, []), manifest_of(config, [data])
+        at, blob = "/v2/acme/one/manifests/v1", f"/v2/acme/one/blobs/{sha256(data)}"
+        def put(body, match):
+            return client.ask("PUT", at, body, {**KIND, "If-Match": match}).status
+        tag = lambda body: f'"{sha256(body)}"'
+        assert (put(one, "*"), client.ask("PUT", at, one, KIND).status) == (412, 201)
+        assert (put(two, tag(two)), put(two, "W/" + tag(one)), put(two, f'"x", {tag(one)}'), put(one, "*")) == (412, 412, 201, 201)
+        for path, body in ((at, one), (f"/v2/acme/one/manifests/{sha256(one)}", one), (blob, data)):
+            for method in ("GET", "HEAD", "DELETE"):
+                answer = client.ask(method, path, headers={"If-Match": '"x"'})
+                assert answer.status == 412, (method, path, answer.status)
+            for match in ("*", tag(body), f'"x", {tag(body)}'):
+                answer = client.ask("GET", path, headers={"If-Match": match})
+                assert (answer.status, answer.body) == (200, body), (match, path, answer.status)
+        # What is not there is 404, whatever the condition.
+        for path in ("/v2/acme/one/manifests/v2", f"/v2/acme/one/blobs/{sha256(b'none')}"):
+            for method in ("GET", "DELETE"):
+                assert client.ask(method, path, headers={"If-Match": '"x"'}).status == 404, (method, path)
+        assert client.ask("DELETE", at, headers={"If-Match": tag(one)}).status == 202
+        # Of several pushes that want to replace the same manifest, one succeeds.
+        assert client.ask("PUT", at, one, KIND).status == 201
+        index = lambda number: b'{"schemaVersion":2,"manifests":[],"annotations":{"n":"%d"}}' % number
+        pushes = [Asking(server, "PUT", at, index(number), {"If-Match": tag(one)}) for number in range(8)]
+        assert sorted(push.answered().status for push in pushes) == [201] + [412] * 7
 
 
 def a_missing_tenant_is_named():
@@ -176,8 +208,8 @@ def bad_tenants_are_named():
 def main():
     with serving("--slots", "64") as server:
         play("answers", [
-            (every_valid_name_can_be_used, server), (paths_are_decoded_once, server), each_limit_is_named, a_log_line_is_bounded, the_end_of_a_content_is_certain,
-            a_missing_tenant_is_named,
+            (every_valid_name_can_be_used, server), (paths_are_decoded_once, server), each_limit_is_named,
+            the_end_of_a_content_is_certain, a_condition_that_fails_is_412, a_missing_tenant_is_named, a_log_line_is_bounded,
             unsupported_methods_are_rejected, (content_that_a_client_has_is_not_sent_again, server), bad_tenants_are_named])
 
 
