@@ -1,9 +1,10 @@
 #!/usr/bin/env python3
 """skopeo pushes an image, pulls it by tag and by digest, copies it within the registry and deletes it. The image pulled has
 to equal the one pushed, and after a sweep the store has to be empty. It does the same with an index of two images, and
-pushes an artifact that describes an image."""
-import filecmp, gzip, io, json, os, random, shutil, subprocess, tarfile, tempfile
+pushes an artifact that describes an image. It waits while the tenant has too many uploads."""
+import filecmp, gzip, io, json, os, random, shutil, subprocess, tarfile, tempfile, threading
 
+from playing import LASTING
 from server import INDEX, MANIFEST, serving, sha256
 
 
@@ -86,7 +87,7 @@ def play(server, folder):
 def delete_blobs(server, folder):
     """Deletes the blobs. skopeo deletes only manifests; a client of the specification deletes the blobs too."""
     client = server.client()
-    for name in ("tiny", "many", "big", "index", "described", "artifact"):
+    for name in ("tiny", "many", "big", "index", "described", "artifact", "waiting"):
         for blob in os.listdir(f"{folder}/{name}/blobs/sha256"):
             for repo in (name, f"copy-of-{name}", "described"):
                 client.ask("DELETE", f"/v2/acme/{repo}/blobs/sha256:{blob}")
@@ -148,11 +149,29 @@ def play_referrer(server, folder):
     assert listed() == []
 
 
+def wait_for_an_upload(server, folder):
+    """Pushes an image while the tenant has all uploads that it may leave open. They end after a second. skopeo waits for that."""
+    client = server.client()
+    opened = [client.ask("POST", "/v2/acme/held/blobs/uploads/")["Location"] for _ in range(LASTING)]
+    def end():
+        ender = server.client()
+        for at in opened:
+            ender.ask("DELETE", at)
+    image(f"{folder}/waiting", [1000], 400)
+    timer = threading.Timer(1, end)
+    timer.start()
+    skopeo("copy", "--dest-tls-verify=false", f"oci:{folder}/waiting:latest", f"docker://{server.address}/acme/waiting:v1")
+    timer.join()
+    assert "status=429" in server.logged()
+    skopeo("delete", "--tls-verify=false", f"docker://{server.address}/acme/waiting:v1")
+
+
 def main():
     with tempfile.TemporaryDirectory() as folder, serving("--slots", "128", "--sweep-ms", "20") as server:
         play(server, folder)
         play_index(server, folder)
         play_referrer(server, folder)
+        wait_for_an_upload(server, folder)
         delete_blobs(server, folder)
         assert server.end() == 0
     print("images: three, an index and a referrer were pushed, pulled, copied and deleted; the store is empty")
