@@ -2,11 +2,11 @@
 use crate::conditional::{check_match, entity_tag, has_content, is_range_wanted, not_modified};
 use crate::content::HELD_LEN;
 use crate::fault::Fault;
-use crate::memory::Reserved;
+use crate::in_flight::Reserved;
 use crate::range::{parts, requested_ranges, Part, RequestedRange, MAX_PLACE};
 use crate::registry::{empty, with_body, Call, HandlerResult};
 use crate::store::{FetchResult, LeasedBlob, MAX_FETCHED};
-use crate::transfer::{Span, Transfer, PIECE_LEN};
+use crate::transfer::{Pace, Span, Transfer, LEAST_HELD, PIECE_LEN};
 use hyper::{Body, StatusCode};
 use std::collections::VecDeque;
 use uuid::Uuid;
@@ -60,7 +60,8 @@ async fn get_part(call: &Call, digest: &str, requested: RequestedRange) -> Handl
 }
 
 /// Fetches the requested bytes, with memory reserved for them. It leases the blob instead in three cases: the bytes are more
-/// than a fetch returns, their place depends on the blob's size, or no memory is left for the longest possible piece.
+/// than a fetch returns, their place depends on the blob's size, or the tenant holds too much memory to reserve the longest
+/// possible piece.
 async fn fetch(call: &Call, digest: &str, requested: RequestedRange) -> Result<(FetchResult, Option<Reserved>), Fault> {
     let store = &call.registry.store;
     let asked = match requested {
@@ -71,7 +72,7 @@ async fn fetch(call: &Call, digest: &str, requested: RequestedRange) -> Result<(
         }
         RequestedRange::Last(_) => None,
     };
-    let asked = asked.and_then(|(range, most)| Some((range, call.reserve(most).ok()?)));
+    let asked = asked.and_then(|(range, most)| Some((range, call.registry.memory.try_reserve(&call.holder(), most)?)));
     let (range, mut reserved) = match asked {
         Some(asked) => asked,
         None => return Ok((FetchResult::LeasedBlob(store.lease(&call.repo, digest).await??), None)),
@@ -95,18 +96,20 @@ async fn get_leased(call: &Call, digest: &str, requested: RequestedRange, leased
         }
     };
     let (start, end) = (slice.start, slice.end);
-    let reserved = match call.reserve((end - start).min(HELD_LEN)) {
+    let (least, most) = ((end - start).min(LEAST_HELD), (end - start).min(HELD_LEN));
+    let reserved = match call.registry.memory.reserve_between(&call.holder(), least, most).await {
         Ok(reserved) => reserved,
         Err(fault) => {
             call.registry.store.give_back(leased.number).await??;
             return Err(fault);
         }
     };
+    let has_most = reserved.bytes() == most;
     let body = match end - start {
-        0..=PIECE_LEN => short_body(call, leased, digest, start, end).await?,
+        0..=PIECE_LEN if has_most => short_body(call, leased, digest, start, end).await?,
         _ => {
             let spans = [Span::Content(start, end)].into();
-            Transfer::begin(&call.registry, leased, digest, spans)
+            Transfer::begin(&call.registry, leased, digest, spans, Pace::of(has_most))
         }
     };
     slice.response(digest, body, Some(reserved))
@@ -122,7 +125,8 @@ async fn get_parts(call: &Call, digest: &str, ranges: &[RequestedRange]) -> Hand
     let boundary = Uuid::new_v4().to_string();
     let spans = multipart(&parts, leased.size, &boundary);
     let len: u64 = spans.iter().map(Span::len).sum();
-    let reserved = match call.reserve(len.min(HELD_LEN)) {
+    let (least, most) = (len.min(LEAST_HELD), len.min(HELD_LEN));
+    let reserved = match call.registry.memory.reserve_between(&call.holder(), least, most).await {
         Ok(reserved) => reserved,
         Err(fault) => {
             call.registry.store.give_back(leased.number).await??;
@@ -132,7 +136,8 @@ async fn get_parts(call: &Call, digest: &str, ranges: &[RequestedRange]) -> Hand
     let (tag, len, media_type) = (entity_tag(digest), len.to_string(), format!("multipart/byteranges; boundary={boundary}"));
     let mut headers = headers_of(digest, &tag, &len);
     headers[0] = ("Content-Type", &media_type);
-    let mut response = with_body(StatusCode::PARTIAL_CONTENT, &headers, Transfer::begin(&call.registry, leased, digest, spans))?;
+    let body = Transfer::begin(&call.registry, leased, digest, spans, Pace::of(reserved.bytes() == most));
+    let mut response = with_body(StatusCode::PARTIAL_CONTENT, &headers, body)?;
     response.extensions_mut().insert(reserved);
     Ok(response)
 }

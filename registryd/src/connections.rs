@@ -16,6 +16,9 @@ const YIELD_TIME: Duration = Duration::from_secs(5);
 /// Pause between two checks of the connections' deadlines.
 const WATCH_REST: Duration = Duration::from_millis(100);
 
+/// The time over which a client's pace is measured.
+const PACE_TIME: Duration = Duration::from_secs(5);
+
 /// The bounds on connections.
 #[derive(Clone, Copy, Debug)]
 pub struct Limits {
@@ -39,7 +42,40 @@ struct State {
     awaited: Option<Instant>,
     /// The time since which the client takes no bytes.
     stalled: Option<Instant>,
+    /// The client's pace in the current request, from the first time on that the server waits for the client.
+    pace: Option<Pace>,
     is_closing: bool,
+}
+
+/// The bytes that a client sends and takes, in a period and in the one before.
+#[derive(Debug)]
+struct Pace {
+    since: Instant,
+    bytes: u64,
+    before: (Duration, u64),
+}
+
+impl Pace {
+    fn new(now: Instant) -> Pace {
+        Pace { since: now, bytes: 0, before: (Duration::ZERO, 0) }
+    }
+
+    fn add(&mut self, count: usize, now: Instant) {
+        self.bytes += count as u64;
+        let elapsed = now.saturating_duration_since(self.since);
+        if elapsed >= PACE_TIME {
+            *self = Pace { since: now, bytes: 0, before: (elapsed, self.bytes) };
+        }
+    }
+
+    /// Returns the bytes a second, or `None` if the time is too short. A client may take many bytes at once after a pause, so
+    /// the period before counts too, unless the current one is long.
+    fn get(&self, now: Instant) -> Option<u64> {
+        let current = now.saturating_duration_since(self.since);
+        let before = if current >= 2 * PACE_TIME { (Duration::ZERO, 0) } else { self.before };
+        let (elapsed, bytes) = (before.0 + current, before.1 + self.bytes);
+        (elapsed >= PACE_TIME).then(|| (u128::from(bytes) * 1000 / elapsed.as_millis()) as u64)
+    }
 }
 
 /// A connection of a client.
@@ -57,7 +93,7 @@ impl Connection {
     /// Makes the state of a connection on which nothing was received.
     pub fn new(client: SocketAddr, idle: Duration) -> Connection {
         let since = Instant::now();
-        let state = State { requests: 0, since, has_head: false, awaited: None, stalled: None, is_closing: false };
+        let state = State { requests: 0, since, has_head: false, awaited: None, stalled: None, pace: None, is_closing: false };
         Connection { client, idle, state: Mutex::new(state), closing: Notify::new() }
     }
 
@@ -70,6 +106,7 @@ impl Connection {
         let mut state = self.state();
         state.requests += 1;
         state.has_head = false;
+        state.pace = None;
     }
 
     /// Notes that a response was sent.
@@ -88,39 +125,64 @@ impl Connection {
 
     /// Notes whether a request waits for more of its body.
     pub fn await_body(&self, is_awaited: bool) {
-        self.state().awaited = is_awaited.then(Instant::now);
+        let mut state = self.state();
+        let now = Instant::now();
+        state.awaited = is_awaited.then(|| now);
+        if is_awaited {
+            state.pace.get_or_insert_with(|| Pace::new(now));
+        }
     }
 
-    /// Notes that bytes were received.
-    fn heard(&self) {
+    /// Notes that `count` bytes were received.
+    pub fn heard(&self, count: usize) {
         let mut state = self.state();
+        if let Some(pace) = &mut state.pace {
+            pace.add(count, Instant::now());
+        }
         if state.requests == 0 && !state.has_head {
             state.has_head = true;
             state.since = Instant::now();
         }
     }
 
-    /// Notes whether the client took bytes.
-    fn wrote(&self, is_taken: bool) {
+    /// Notes that the client took `count` bytes, or that it takes none.
+    fn wrote(&self, count: Option<usize>) {
         let mut state = self.state();
         let now = Instant::now();
-        match is_taken {
-            true => {
+        match count {
+            Some(count) => {
                 state.stalled = None;
+                if let Some(pace) = &mut state.pace {
+                    pace.add(count, now);
+                }
                 if state.requests == 0 && !state.has_head {
                     state.since = now;
                 }
             }
-            false => {
+            None => {
                 state.stalled.get_or_insert(now);
+                state.pace.get_or_insert_with(|| Pace::new(now));
             }
         }
     }
 
     /// Signals the connection's task to close it.
-    fn close(&self) {
+    pub fn close(&self) {
         self.state().is_closing = true;
         self.closing.notify_one();
+    }
+
+    /// Returns whether the connection is closed, or is being closed.
+    pub fn is_closing(&self) -> bool {
+        self.state().is_closing
+    }
+
+    /// Returns the bytes a second that the client sends or takes, if the server waits for the client and has waited before for
+    /// a time that suffices.
+    pub fn pace(&self, now: Instant) -> Option<u64> {
+        let state = self.state();
+        let waits = state.stalled.is_some() || state.awaited.is_some();
+        state.pace.as_ref().filter(|_| waits)?.get(now)
     }
 
     /// Returns whether no request is being served.
@@ -182,6 +244,7 @@ pub struct Admitted {
 
 impl Drop for Admitted {
     fn drop(&mut self) {
+        self.connection.state().is_closing = true;
         self.table.open().by_number.remove(&self.number);
         self.table.place_freed.notify_one();
     }
@@ -272,8 +335,8 @@ impl WatchedStream {
 
     fn note(&self, written: Poll<io::Result<usize>>) -> Poll<io::Result<usize>> {
         match written {
-            Poll::Pending => self.connection.wrote(false),
-            Poll::Ready(Ok(count)) if count > 0 => self.connection.wrote(true),
+            Poll::Pending => self.connection.wrote(None),
+            Poll::Ready(Ok(count)) if count > 0 => self.connection.wrote(Some(count)),
             Poll::Ready(_) => {}
         }
         written
@@ -284,8 +347,9 @@ impl AsyncRead for WatchedStream {
     fn poll_read(mut self: Pin<&mut Self>, context: &mut Context<'_>, buffer: &mut ReadBuf<'_>) -> Poll<io::Result<()>> {
         let before = buffer.filled().len();
         let read = Pin::new(&mut self.stream).poll_read(context, buffer);
-        if buffer.filled().len() > before {
-            self.connection.heard();
+        let count = buffer.filled().len() - before;
+        if count > 0 {
+            self.connection.heard(count);
         }
         read
     }
@@ -338,16 +402,41 @@ mod tests {
         let connection = Connection::new(client(), LIMITS.idle);
         assert!(!connection.is_overdue(&LIMITS, later(8)));
         assert!(connection.is_overdue(&LIMITS, later(10)));
-        connection.heard();
+        connection.heard(1);
         assert!(connection.is_overdue(&LIMITS, later(2)));
         connection.begin_request();
         assert!(!connection.is_overdue(&LIMITS, later(100)));
-        connection.wrote(false);
+        connection.wrote(None);
         assert!(connection.is_overdue(&LIMITS, later(10)));
-        connection.wrote(true);
+        connection.wrote(Some(1));
         connection.end_request();
         assert!(!connection.is_overdue(&LIMITS, later(8)));
         assert!(connection.is_overdue(&LIMITS, later(10)));
+    }
+
+    #[test]
+    fn a_pace_is_that_of_the_last_seconds() {
+        let begun = Instant::now();
+        let at = |seconds| begun + Duration::from_secs(seconds);
+        let mut pace = Pace::new(begun);
+        assert_eq!((pace.get(at(4)), pace.get(at(5))), (None, Some(0)));
+        pace.add(6000, at(6));
+        assert_eq!((pace.get(at(6)), pace.get(at(12))), (Some(1000), Some(500)));
+        assert_eq!(pace.get(at(16)), Some(0), "bytes of long ago count");
+        pace.add(1, at(17));
+        assert_eq!(pace.get(at(17)), Some(0));
+    }
+
+    #[test]
+    fn only_a_client_for_which_the_server_waits_has_a_pace() {
+        let connection = Connection::new(client(), LIMITS.idle);
+        connection.begin_request();
+        connection.wrote(Some(1 << 20));
+        assert_eq!(connection.pace(later(9)), None);
+        connection.wrote(None);
+        assert_eq!(connection.pace(later(9)), Some(0));
+        connection.wrote(Some(1));
+        assert_eq!(connection.pace(later(9)), None);
     }
 
     #[test]

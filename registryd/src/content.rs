@@ -7,7 +7,8 @@ use std::time::Duration;
 
 use crate::exchange::Exchange;
 use crate::fault::Fault;
-use crate::memory::{self, Memory, Reserved};
+use crate::in_flight::{Holder, Memory, Reserved};
+use crate::memory;
 use crate::metrics::Metrics;
 use crate::store_connection::WHOLE_LEN;
 
@@ -81,9 +82,9 @@ impl RequestContent {
     }
 
     /// Reserves the memory for the pieces.
-    pub fn reserve(&mut self, memory: &Arc<Memory>, sharer: usize) -> Result<(), Fault> {
+    pub async fn reserve(&mut self, memory: &Arc<Memory>, holder: &Holder) -> Result<(), Fault> {
         let bytes = self.len.unwrap_or(u64::MAX).min(HELD_LEN);
-        self.reserved = Some(memory.reserve(sharer, bytes)?);
+        self.reserved = Some(memory.reserve(holder, bytes).await?);
         Ok(())
     }
 

@@ -24,7 +24,7 @@ fn shortened(text: &str, most: usize) -> String {
 /// A request that is being served. Its connection counts it until the last copy is dropped.
 #[derive(Debug)]
 pub struct Exchange {
-    connection: Arc<Connection>,
+    pub connection: Arc<Connection>,
     user: Mutex<Option<String>>,
     received: AtomicU64,
 }

@@ -7,6 +7,7 @@ use crate::content::MAX_MANIFEST;
 use crate::document;
 use crate::fault::Fault;
 use crate::frames::{Reason, Refusal};
+use crate::in_flight::Holder;
 use crate::registry::Registry;
 use crate::store::{Answer, StoreUnavailable};
 use crate::turns::{Turn, Turns};
@@ -145,7 +146,9 @@ impl Registry {
         if !self.loose.is_on {
             return Ok(Vec::new());
         }
-        let _reserved = self.memory.reserve(self.store.sharer(repo), MAX_MANIFEST as u64)?;
+        let size = self.tags.any_facts(repo, digest).map_or(MAX_MANIFEST as u64, |(facts, _)| facts.size);
+        let holder = Holder { sharer: self.store.sharer(repo), connection: None };
+        let _reserved = self.memory.reserve(&holder, size).await?;
         match self.store.get_manifest(repo, digest).await? {
             Ok(content) => Ok(tokio::task::block_in_place(|| document::blobs(&content))),
             Err(Refusal { reason: Reason::ManifestUnknown, .. }) => Ok(Vec::new()),

@@ -1,7 +1,7 @@
 //! Manifests and tags.
 use crate::clock::now;
 use crate::conditional::{check_match, entity_tag, has_content, not_modified};
-use crate::content::{RequestContent, MAX_MANIFEST};
+use crate::content::RequestContent;
 use crate::document::{self, Document, Facts};
 use crate::fault::Fault;
 use crate::frames::{Reason, Refusal};
@@ -9,7 +9,7 @@ use crate::limits::{tenant_of, Limit};
 use crate::media_type::{check_inert, media_type_of, MediaType};
 use crate::pages::{page_response, WantedPage};
 use crate::registry::{empty, with_body, Call, HandlerResult, Registry};
-use crate::store::{Answer, StoreUnavailable};
+use crate::store::StoreUnavailable;
 use crate::tags::{is_tag, Kept, NamedManifest, Removal};
 use crate::turns::Turn;
 use bytes::Bytes;
@@ -40,18 +40,18 @@ async fn look_up(call: &Call, reference: &str) -> Result<NamedManifest, Fault> {
     }
     // The store checks the name and the digest. A manifest that it has is being put or deleted at this moment, or it was put
     // when the program or the machine stopped.
-    call.registry.store.stat_manifest(&call.repo, reference).await??;
+    let size = call.registry.store.stat_manifest(&call.repo, reference).await??;
     if !tags.is_kept() || tags.is_known(&call.repo, reference) {
         return Err(Fault::manifest_unknown());
     }
-    adopt(call, reference).await
+    adopt(call, reference, size).await
 }
 
-/// Adds a manifest that the store has and the catalog has not: the program stopped before it was added. Its media type is
-/// that of its content.
-async fn adopt(call: &Call, digest: &str) -> Result<NamedManifest, Fault> {
+/// Adds a manifest of `size` bytes that the store has and the catalog has not: the program stopped before it was added. Its
+/// media type is that of its content.
+async fn adopt(call: &Call, digest: &str, size: u64) -> Result<NamedManifest, Fault> {
     let tags = &call.registry.tags;
-    let _reserved = call.reserve(MAX_MANIFEST as u64)?;
+    let _reserved = call.reserve(size).await?;
     let _turn = call.registry.turns.take(&call.repo, digest).await;
     if !tags.is_known(&call.repo, digest) {
         let content = [call.registry.store.get_manifest(&call.repo, digest).await??];
@@ -72,13 +72,13 @@ fn facts_of_stored(content: &[Bytes]) -> Option<Facts> {
 
 /// Finds the manifest of a reference, and asks the store about it. The manifest may be deleted after the look-up while its
 /// tag moves to another one. Then the reference is looked up again.
-async fn read<T, A>(call: &Call, reference: &str, ask: impl Fn(String) -> A) -> Result<(NamedManifest, T), Fault>
+async fn read<T, A>(call: &Call, reference: &str, ask: impl Fn(NamedManifest) -> A) -> Result<(NamedManifest, T), Fault>
 where
-    A: Future<Output = Answer<T>>,
+    A: Future<Output = Result<Result<T, Refusal>, Fault>>,
 {
     for _ in 0..LOOK_UPS {
         let named = look_up(call, reference).await?;
-        match ask(named.digest.clone()).await? {
+        match ask(named.clone()).await? {
             Err(Refusal { reason: Reason::ManifestUnknown, .. }) => {}
             answer => return Ok((named, answer?)),
         }
@@ -86,22 +86,28 @@ where
     Err(Fault::tag_changing())
 }
 
-/// end-3: returns a manifest.
+/// end-3: returns a manifest. The response holds memory for its content until it is sent.
 pub async fn get(call: &Call, reference: &str) -> HandlerResult {
-    let ask = |digest: String| async move { call.registry.store.get_manifest(&call.repo, &digest).await };
-    let (NamedManifest { digest, media_type }, bytes) = read(call, reference, ask).await?;
+    let ask = |named: NamedManifest| async move {
+        let reserved = call.reserve(named.size).await?;
+        let content = call.registry.store.get_manifest(&call.repo, &named.digest).await?;
+        Ok(content.map(|bytes| (bytes, reserved)))
+    };
+    let (NamedManifest { digest, media_type, .. }, (bytes, reserved)) = read(call, reference, ask).await?;
     check_match(call, Some(&digest))?;
     if has_content(call, &digest) {
         return not_modified(&digest);
     }
     let headers = [("Content-Type", &*media_type), ("Docker-Content-Digest", &*digest), ("ETag", &*entity_tag(&digest))];
-    with_body(StatusCode::OK, &headers, Body::from(bytes))
+    let mut response = with_body(StatusCode::OK, &headers, Body::from(bytes))?;
+    response.extensions_mut().insert(reserved);
+    Ok(response)
 }
 
 /// end-3: returns the headers of a manifest, with its length.
 pub async fn head(call: &Call, reference: &str) -> HandlerResult {
-    let ask = |digest: String| async move { call.registry.store.stat_manifest(&call.repo, &digest).await };
-    let (NamedManifest { digest, media_type }, size) = read(call, reference, ask).await?;
+    let ask = |named: NamedManifest| async move { Ok(call.registry.store.stat_manifest(&call.repo, &named.digest).await?) };
+    let (NamedManifest { digest, media_type, .. }, size) = read(call, reference, ask).await?;
     check_match(call, Some(&digest))?;
     if has_content(call, &digest) {
         return not_modified(&digest);

@@ -1,9 +1,7 @@
-//! The memory of requests: a limit on the bytes in flight, and a reserve for the time when the system is out of memory.
-use crate::fault::Fault;
+//! A reserve for the time when the system is out of memory.
 use std::alloc::{GlobalAlloc, Layout, System};
 use std::ptr::null_mut;
 use std::sync::atomic::{AtomicBool, AtomicPtr, Ordering};
-use std::sync::{Arc, Mutex, MutexGuard};
 use std::time::Duration;
 
 /// The length of the reserve, in bytes. Its pages take no memory before they are used.
@@ -17,66 +15,6 @@ const RETRIES: (usize, Duration) = (400, Duration::from_millis(5));
 
 /// The minimum time for which requests fail after the system was out of memory.
 const SHORT_TIME: Duration = Duration::from_secs(1);
-
-/// The numbers of bytes in flight: in total and by sharer.
-struct InFlight {
-    used: u64,
-    held: Vec<u64>,
-}
-
-/// A limit on the bytes of requests and responses in memory.
-pub struct Memory {
-    total: u64,
-    in_flight: Mutex<InFlight>,
-}
-
-/// Bytes that a request may hold. Dropping this returns them.
-pub struct Reserved {
-    bytes: u64,
-    sharer: usize,
-    memory: Arc<Memory>,
-}
-
-impl Memory {
-    /// Makes a limit of `total` bytes for a number of sharers.
-    pub fn new(total: u64, sharers: usize) -> Arc<Memory> {
-        let in_flight = InFlight { used: 0, held: vec![0; sharers] };
-        Arc::new(Memory { total, in_flight: Mutex::new(in_flight) })
-    }
-
-    fn in_flight(&self) -> MutexGuard<'_, InFlight> {
-        self.in_flight.lock().unwrap_or_else(|poisoned| poisoned.into_inner())
-    }
-
-    /// Reserves bytes for a request of a sharer. A sharer may hold at most as many bytes as it leaves for the others.
-    pub fn reserve(self: &Arc<Self>, sharer: usize, bytes: u64) -> Result<Reserved, Fault> {
-        let mut in_flight = self.in_flight();
-        let left = self.total - in_flight.used;
-        if is_short() || in_flight.held[sharer] + bytes > left {
-            return Err(Fault::unavailable("too many bytes in flight"));
-        }
-        in_flight.used += bytes;
-        in_flight.held[sharer] += bytes;
-        Ok(Reserved { bytes, sharer, memory: self.clone() })
-    }
-}
-
-impl Reserved {
-    /// Returns the reserved bytes above `bytes`.
-    pub fn shrink(&mut self, bytes: u64) {
-        let surplus = self.bytes.saturating_sub(bytes);
-        self.bytes -= surplus;
-        let mut in_flight = self.memory.in_flight();
-        in_flight.used -= surplus;
-        in_flight.held[self.sharer] -= surplus;
-    }
-}
-
-impl Drop for Reserved {
-    fn drop(&mut self) {
-        self.shrink(0);
-    }
-}
 
 /// The reserve, or null while it is released.
 static RESERVE: AtomicPtr<libc::c_void> = AtomicPtr::new(null_mut());
@@ -180,33 +118,5 @@ unsafe impl GlobalAlloc for Reserving {
 
     unsafe fn dealloc(&self, block: *mut u8, layout: Layout) {
         System.dealloc(block, layout)
-    }
-}
-
-#[cfg(test)]
-mod tests {
-    use super::*;
-
-    #[test]
-    fn a_sharer_leaves_bytes_for_the_others() {
-        let memory = Memory::new(100, 3);
-        let mine = memory.reserve(0, 50).unwrap();
-        assert!(memory.reserve(0, 1).is_err());
-        let other = memory.reserve(1, 25).unwrap();
-        assert!(memory.reserve(2, 26).is_err());
-        drop(other);
-        assert!(memory.reserve(2, 50).is_ok());
-        drop(mine);
-        assert_eq!(memory.in_flight().used, 0);
-    }
-
-    #[test]
-    fn a_reservation_shrinks() {
-        let memory = Memory::new(100, 1);
-        let mut reserved = memory.reserve(0, 100).unwrap();
-        reserved.shrink(10);
-        assert_eq!(memory.in_flight().held, [10]);
-        reserved.shrink(20);
-        assert_eq!(memory.in_flight().used, 10);
     }
 }

@@ -17,6 +17,9 @@ use std::fmt::Write;
 /// manifest, so this bounds the length of a page too.
 const PAGE_BYTES: u64 = MAX_MANIFEST as u64 / 2;
 
+/// The maximum length of a descriptor without its annotations, in bytes.
+const DESCRIPTOR_LEN: u64 = 1 << 10;
+
 /// end-12: returns a page of the manifests whose subject is a digest, as an image index.
 pub async fn list(call: &Call, subject: &str) -> HandlerResult {
     if !is_repository(&call.repo) {
@@ -29,9 +32,9 @@ pub async fn list(call: &Call, subject: &str) -> HandlerResult {
     // A `+` that is not encoded is read as a space, which no media type has.
     let artifact_type = call.query("artifactType").filter(|text| !text.is_empty()).map(|text| text.replace(' ', "+"));
     let tags = &call.registry.tags;
-    let mut reserved = call.reserve(MAX_MANIFEST as u64)?;
     let most = (wanted.most, PAGE_BYTES);
     let page = tags.referrers(&call.repo, subject, artifact_type.as_deref(), &wanted.last, most);
+    let mut reserved = call.reserve(page_room(&page.items)).await?;
     let body = Body::from(index_of(call, &page.items).await?);
     let path = format!("/v2/{}/referrers/{subject}", call.repo);
     let filter: Vec<(&str, &str)> = artifact_type.iter().map(|text| ("artifactType", &**text)).collect();
@@ -44,6 +47,12 @@ pub async fn list(call: &Call, subject: &str) -> HandlerResult {
     let mut answer = with_body(StatusCode::OK, &headers, body)?;
     answer.extensions_mut().insert(reserved);
     Ok(answer)
+}
+
+/// Returns the memory for a page: the text of each descriptor, and a manifest.
+fn page_room(referrers: &[Referrer]) -> u64 {
+    let room = referrers.iter().map(|referrer| 2 * referrer.size + DESCRIPTOR_LEN).sum::<u64>();
+    room.clamp(DESCRIPTOR_LEN, MAX_MANIFEST as u64)
 }
 
 /// Returns the text of an image index with the descriptors of manifests. One that was deleted meanwhile is left out.

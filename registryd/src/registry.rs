@@ -4,14 +4,14 @@ use crate::bounds::Bounds;
 use crate::browser::restrict;
 use crate::catalog::Catalog;
 use crate::collector::SweepRequests;
-use crate::content::{RequestContent, MAX_MANIFEST};
+use crate::content::RequestContent;
 use crate::exchange::Exchange;
 use crate::fault::Fault;
 use crate::folder::Folder;
 use crate::frames::{Reason, Refusal};
+use crate::in_flight::{Holder, Memory, Reserved};
 use crate::limits::{tenant_of, Entering, Limit, Repositories};
 use crate::loose::LooseBlobs;
-use crate::memory::{Memory, Reserved};
 use crate::metrics::Metrics;
 use crate::path::{decoded, query_value, Target};
 use crate::provenance::Provenance;
@@ -23,7 +23,6 @@ use crate::tenants;
 use crate::turns::Turns;
 use crate::uploads::{Upload, UploadTimeouts, Uploads};
 use crate::{blobs, framing, manifests, referrers, repositories, retention, uploading};
-use hyper::body::HttpBody;
 use hyper::header::{HeaderValue, CONNECTION, EXPECT, HOST};
 use hyper::http::request::Parts;
 use hyper::http::uri::Authority;
@@ -222,7 +221,7 @@ impl Call {
     /// - The content is charged to the tenant and longer than a blob may be.
     /// - The tenant is unknown.
     /// - The content is charged and exceeds the rest of the tenant's quota.
-    /// - The limit on bytes in flight is reached.
+    /// - The memory for it is not free in time.
     async fn admit(&self, content: &mut RequestContent, is_charged: bool) -> Result<(), Fault> {
         if is_charged {
             uploading::check_len(self, 0, content.len)?;
@@ -233,12 +232,19 @@ impl Call {
         if is_charged && least > quota.saturating_sub(used) {
             return Err(Refusal { reason: Reason::Quota, first: used, second: quota, digest: String::new() }.into());
         }
-        content.reserve(&self.registry.memory, self.registry.store.sharer(&self.repo))
+        content.reserve(&self.registry.memory, &self.holder()).await
+    }
+
+    /// Returns the tenant and the client that hold the memory of the request.
+    pub fn holder(&self) -> Holder {
+        let exchange = self.head.extensions.get::<Arc<Exchange>>();
+        let connection = exchange.map(|exchange| exchange.connection.clone());
+        Holder { sharer: self.registry.store.sharer(&self.repo), connection }
     }
 
     /// Reserves memory for the response.
-    pub fn reserve(&self, bytes: u64) -> Result<Reserved, Fault> {
-        self.registry.memory.reserve(self.registry.store.sharer(&self.repo), bytes)
+    pub async fn reserve(&self, bytes: u64) -> Result<Reserved, Fault> {
+        self.registry.memory.reserve(&self.holder(), bytes).await
     }
 
     /// Returns the text of a header.
@@ -341,13 +347,7 @@ impl Registry {
         match (&method, target) {
             (&Method::GET | &Method::HEAD, Target::Tags { .. }) => manifests::tags(&call).await,
             (&Method::GET | &Method::HEAD, Target::Referrers { digest, .. }) => referrers::list(&call, digest).await,
-            (&Method::GET, Target::Manifest { reference, .. }) => {
-                let mut reserved = call.reserve(MAX_MANIFEST as u64)?;
-                let mut answer = manifests::get(&call, reference).await?;
-                reserved.shrink(answer.size_hint().lower());
-                answer.extensions_mut().insert(reserved);
-                Ok(answer)
-            }
+            (&Method::GET, Target::Manifest { reference, .. }) => manifests::get(&call, reference).await,
             (&Method::HEAD, Target::Manifest { reference, .. }) => manifests::head(&call, reference).await,
             (&Method::PUT, Target::Manifest { reference, .. }) => manifests::put(&call, reference, content).await,
             (&Method::DELETE, Target::Manifest { reference, .. }) => manifests::delete(&call, reference).await,

@@ -62,10 +62,11 @@ pub struct Room<'t> {
 }
 
 /// The manifest that a reference names.
-#[derive(Debug, PartialEq, Eq)]
+#[derive(Clone, Debug, PartialEq, Eq)]
 pub struct NamedManifest {
     pub digest: String,
     pub media_type: String,
+    pub size: u64,
 }
 
 /// A manifest that has a subject.
@@ -154,7 +155,8 @@ impl Repository {
 
     fn named(&self, digest: &str) -> Option<NamedManifest> {
         let manifest = self.manifest(digest)?;
-        Some(NamedManifest { digest: digest.to_string(), media_type: manifest.facts.media_type.clone() })
+        let Facts { media_type, size, .. } = &manifest.facts;
+        Some(NamedManifest { digest: digest.to_string(), media_type: media_type.clone(), size: *size })
     }
 
     /// Returns whether it has no manifest and no tag, and none is being pushed.
@@ -664,7 +666,7 @@ mod tests {
         tags.add("sha256:a", "text/a", Some("v1"));
         tags.add("sha256:b", "text/b", Some("v2"));
         tags.add("sha256:a", "text/a", Some("v3"));
-        let named = NamedManifest { digest: "sha256:a".to_string(), media_type: "text/a".to_string() };
+        let named = NamedManifest { digest: "sha256:a".to_string(), media_type: "text/a".to_string(), size: 0 };
         assert_eq!(tags.by_tag("acme/web", "v1"), Some(named));
         tags.remove_manifest("acme/web", "sha256:a", 2);
         assert_eq!(tags.by_tag("acme/web", "v1"), None);

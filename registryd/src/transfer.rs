@@ -18,6 +18,13 @@ pub const PIECE_LEN: u64 = WHOLE_LEN as u64;
 /// the next is written into another.
 const READS_AT_ONCE: usize = 2;
 
+/// The number of bytes that a transfer holds if its tenant holds much.
+pub const LEAST_HELD: u64 = 128 << 10;
+
+/// The length of the pieces of such a transfer. It reads one at a time. The pieces that are read, wait and are sent, together
+/// with the server's buffer of 64 KiB, are within `LEAST_HELD`.
+const SHORT_PIECE_LEN: u64 = LEAST_HELD / 8;
+
 /// The time for which a client may take no byte of a piece.
 const IDLE_TIME: Duration = Duration::from_secs(300);
 
@@ -39,6 +46,24 @@ impl Span {
     }
 }
 
+/// How much of a blob a transfer reads ahead of its client.
+pub struct Pace {
+    /// The maximum length of a piece.
+    piece_len: u64,
+    /// The number of pieces that are read at once.
+    reads_at_once: usize,
+}
+
+impl Pace {
+    /// Returns the pace of a transfer that holds memory for long pieces, or only `LEAST_HELD` bytes.
+    pub fn of(has_most: bool) -> Pace {
+        match has_most {
+            true => Pace { piece_len: PIECE_LEN, reads_at_once: READS_AT_ONCE },
+            false => Pace { piece_len: SHORT_PIECE_LEN, reads_at_once: 1 },
+        }
+    }
+}
+
 /// A piece of a response's content.
 enum Piece {
     Text(Bytes),
@@ -53,6 +78,7 @@ pub struct Transfer {
     digest: String,
     /// The spans from the next piece on.
     spans: VecDeque<Span>,
+    pace: Pace,
     /// The pieces that are being read, in order.
     pieces: VecDeque<Piece>,
 }
@@ -74,10 +100,10 @@ impl From<StoreUnavailable> for TransferError {
 impl Transfer {
     /// Begins a transfer, and returns the body that it fills. The lease is released after the last read, or if the client
     /// disconnects.
-    pub fn begin(registry: &Arc<Registry>, leased: LeasedBlob, digest: &str, spans: VecDeque<Span>) -> Body {
+    pub fn begin(registry: &Arc<Registry>, leased: LeasedBlob, digest: &str, spans: VecDeque<Span>, pace: Pace) -> Body {
         let (sender, body) = Body::channel();
         let (registry, digest, pieces) = (registry.clone(), digest.to_string(), VecDeque::new());
-        tokio::spawn(Transfer { registry, leased, digest, spans, pieces }.send(sender));
+        tokio::spawn(Transfer { registry, leased, digest, spans, pace, pieces }.send(sender));
         body
     }
 
@@ -106,7 +132,7 @@ impl Transfer {
             None => return,
             Some(Span::Text(text)) => Piece::Text(text),
             Some(Span::Content(start, end)) => {
-                let next = end.min(start + PIECE_LEN);
+                let next = end.min(start + self.pace.piece_len);
                 if next < end {
                     self.spans.push_front(Span::Content(next, end));
                 }
@@ -119,7 +145,7 @@ impl Transfer {
 
     /// Sends the bytes piece by piece. It holds no connection to the store while it waits for the client.
     async fn send_pieces(&mut self, sender: &mut Sender) -> Result<(), TransferError> {
-        for _ in 0..READS_AT_ONCE {
+        for _ in 0..self.pace.reads_at_once {
             self.read_next();
         }
         while let Some(piece) = self.pieces.pop_front() {

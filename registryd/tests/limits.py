@@ -268,9 +268,15 @@ def bytes_in_flight_are_bounded():
             return line, data[100:]
         first, rest = begin("acme")
         time.sleep(0.3)
+        begun = time.time()
         second, _ = begin("acme")
+        # A client that sends nothing would be disconnected for the one that waits.
+        while not select.select([second], [], [], 0.5)[0]:
+            first.sendall(rest[:64 << 10])
+            rest = rest[64 << 10:]
         answer = second.recv(1000)
         assert answer.startswith(b"HTTP/1.1 503") and b"retry-after: 1" in answer.lower(), answer
+        assert 9 < time.time() - begun < 20, "it does not wait for some seconds"
         other, others_rest = begin("other")
         for line, data in ((first, rest), (other, others_rest)):
             line.sendall(data)
