@@ -18,10 +18,13 @@ class Shell:
         self.folder, self.environment = folder, {**os.environ, **dict(environment)}
         for top in ("srv", "backup"):
             os.makedirs(f"{folder}/{top}", exist_ok=True)
-        self.words = {"registryd/run": f"{TOP}/run", **dict(words)}
+        # The package's program is that of this checkout. There is no service, and no user of its own.
+        self.words = {"registryd/run": f"{TOP}/run", "registryd --data": f"{TOP}/run --data", "systemctl ": ": ",
+                      "chown -R registryd:registryd": "chown -R 0:0", **dict(words)}
 
     def replaced(self, text):
-        # Paths of this machine; a colon precedes those of another.
+        # Paths of this machine; a colon precedes those of another. The service's folder is one of them.
+        text = re.sub(r"(?<![\w:])/var/lib/registryd\b", "/srv/registry", text)
         text = re.sub(r"(?<![\w:])/(srv|backup)/", rf"{self.folder}/\1/", text)
         for old, new in self.words.items():
             text = text.replace(old, new)

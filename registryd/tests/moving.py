@@ -107,7 +107,7 @@ def main():
         os.makedirs(f"{folder}/srv")
         data = lambda name: ("--data", f"{folder}/srv/{name}", "--lines", "8", "--sweep-ms", "50")
         with serving(*data("one"), tenants=TENANTS) as one, serving(*data("two"), tenants=TENANTS) as two:
-            words = {"docs/haproxy.cfg": f"{os.path.dirname(TOP)}/docs/haproxy.cfg"}
+            words = {"/usr/share/doc/registryd/examples/haproxy.cfg": f"{os.path.dirname(TOP)}/docs/haproxy.cfg"}
             shell = Shell(folder, {"127.0.0.1:5001": one.address, "127.0.0.1:5002": two.address, **words})
             balancer = Balancer(folder, shell, starting, one, two)
             try:

@@ -126,12 +126,18 @@ def a_folder_is_copied_while_clients_push():
             busy = Busy(server)
             resumed, left = (open_upload(server.client(), data[:100_000]) for _ in range(2))
             busy.copy(lambda: shell.type(copying))
-            with started(shell, only(blocks(DOCUMENT, "Restore")), "--session-s", "4") as client:
+            with started(shell, blocks(DOCUMENT, "Restore")[1], "--session-s", "4") as client:
                 resume(client, resumed, data)
                 busy.check(client)
                 assert until(lambda: uploads(client) == "0", 30), f"{uploads(client)} uploads are open"
                 assert client.ask("GET", left).status == 404
             busy.stop()
+            server.end()
+        # The same copy takes the place of the service's folder.
+        shell.type(blocks(DOCUMENT, "Restore")[0])
+        assert os.path.exists(f"{folder}/srv/registry.before/registry.db")
+        with serving("--data", f"{folder}/srv/registry", tenants=TENANTS) as server:
+            busy.check(server.client())
             server.end()
 
 
@@ -139,7 +145,6 @@ def a_folder_is_copied_while_its_log_is_rewritten():
     """Asks for a rewriting when the copy of the log begins, until the copy has been interrupted by it: files that are copied are
     removed meanwhile."""
     copying, _ = blocks(DOCUMENT, "While clients push")
-    assert copying.count("cp /srv") == 1
     with machine() as (folder, shell):
         registry = f"{folder}/srv/registry"
         with serving("--data", registry, tenants=TENANTS) as server:
@@ -156,7 +161,7 @@ def a_folder_is_copied_while_its_log_is_rewritten():
                 interrupted.append("No such file or directory" in said)
             for _ in range(10):
                 busy.copy(copy)
-                with started(shell, only(blocks(DOCUMENT, "Restore"))) as client:
+                with started(shell, blocks(DOCUMENT, "Restore")[1]) as client:
                     busy.check(client)
                 shutil.rmtree(f"{folder}/srv/restored")
                 if interrupted[-1]:
@@ -170,14 +175,15 @@ def a_copy_may_end_anywhere():
     """Cuts the last file of a copied log at places after those that it had when the database was copied: each is a possible end of a
     copy."""
     copying, _ = blocks(DOCUMENT, "While clients push")
-    restoring = only(blocks(DOCUMENT, "Restore"))
-    measuring = "stat --format '%n %s' /srv/registry/log.* > \"$copy/begun\"\nsleep 0.2\ncp /srv"
-    assert copying.count("cp /srv") == 1
+    restoring = blocks(DOCUMENT, "Restore")[1]
+    begin = "cp /var/lib/registryd"
+    measuring = f"stat --format '%n %s' /var/lib/registryd/log.* > \"$copy/begun\"\nsleep 0.2\n{begin}"
+    assert copying.count(begin) == 1
     with machine() as (folder, shell):
         with serving("--data", f"{folder}/srv/registry", tenants=TENANTS) as server:
             litter(server.client())
             busy = Busy(server)
-            busy.copy(lambda: shell.type(copying.replace("cp /srv", measuring)))
+            busy.copy(lambda: shell.type(copying.replace(begin, measuring)))
             busy.stop()
             server.end()
         backup = f"{folder}/backup/{max(os.listdir(f'{folder}/backup'))}"

@@ -1,6 +1,7 @@
 #!/usr/bin/env python3
-"""Tests the versions of the package: each commit's is greater than those of its ancestors, as dpkg compares them."""
-import contextlib, os, shutil, subprocess, tempfile
+"""Tests the versions of the package: each commit's is greater than those of its ancestors, as dpkg compares them. Tests its documents: each
+link leads to a file of the package, and to a heading of it if it names one."""
+import contextlib, os, re, shutil, subprocess, tempfile
 
 from playing import play
 from server import TOP
@@ -78,8 +79,31 @@ def commits_that_cannot_be_counted_have_no_version():
         assert done.returncode == 1 and "no git repository" in done.stderr, done
 
 
+def anchors(path):
+    with open(path) as file:
+        headings = re.findall(r"^#+ (.*)$", file.read(), re.MULTILINE)
+    return {re.sub(r"[^\w\- ]", "", heading.lower()).replace(" ", "-") for heading in headings}
+
+
+def each_link_of_the_documents_leads_to_a_file():
+    with tempfile.TemporaryDirectory() as folder:
+        assert run(f"{os.path.dirname(TOP)}/package/pages", folder).returncode == 0
+        pages = [name for name in os.listdir(folder) if name.endswith(".md")]
+        assert {"OPERATIONS.md", "BACKUP.md", "LOG.md", "PROTOCOL.md", "SCRIPT.md", "SEMANTICS.md", "THEOREMS.md"} <= set(pages), pages
+        for page in pages:
+            with open(f"{folder}/{page}") as file:
+                text = re.sub(r"^ *```.*?^ *```$", "", file.read(), flags=re.MULTILINE | re.DOTALL)
+            for target in re.findall(r"\]\(([^)\s]+)\)", text):
+                path, _, fragment = target.partition("#")
+                path = f"{folder}/{path or page}"
+                if re.match(r"[a-z]+:", target) or target == "/usr/lib/systemd/system/registryd.service":
+                    continue
+                assert os.path.isfile(path) and (not fragment or fragment in anchors(path)), (page, target)
+
+
 def main():
-    play("versions", [each_commit_has_a_greater_version, a_change_that_is_not_committed_is_marked, commits_that_cannot_be_counted_have_no_version])
+    play("packaging", [each_commit_has_a_greater_version, a_change_that_is_not_committed_is_marked, commits_that_cannot_be_counted_have_no_version,
+                       each_link_of_the_documents_leads_to_a_file])
 
 
 if __name__ == "__main__":
