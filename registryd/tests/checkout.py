@@ -151,6 +151,7 @@ def the_record_names_program_sources_and_commit():
         made.write("crates/blobd/README.md", "x")
         made.commit()
         assert made.run("acme=1")[0][1] == made.proved
+        os.remove(f"{made.top}/provable")
         made.write("crates/blobd/out/blobd", "another\n")
         assert made.run("acme=1")[0][1] == made.unproved
 
@@ -278,6 +279,28 @@ def a_first_start_counts_its_steps():
                 assert file.read() == expected, expected
 
 
+def the_tests_find_a_program_of_the_store():
+    """The C example is a stub, and registryd cannot be built."""
+    with checkout() as made:
+        os.makedirs(f"{made.top}/bindings/c")
+        shutil.copy(f"{TOP}/check", f"{made.top}/registryd/check")
+        for path, text in (("bindings/c/example.c", "int main(void) { return 0; }\n"), ("bindings/c/blobd.c", ""), ("bindings/c/example.txt", "")):
+            made.write(path, text)
+        made.write("registryd/build", "#!/bin/sh\nexit 3\n")
+        def check(**more):
+            environment = {**os.environ, "PATH": f"{made.top}/bin:{os.environ['PATH']}", "BLOBD": "", **more}
+            done = subprocess.run([f"{made.top}/registryd/check"], env=environment, stdout=subprocess.PIPE, stderr=subprocess.STDOUT, text=True, timeout=60)
+            assert done.returncode == 0, done.stdout
+            return done.stdout
+        said = check()
+        assert "built\n" in said and f"NOT VERIFIED: {made.unproved}" in said, said
+        made.write("registryd/build", STUBS["registryd/build"])
+        made.run("--prove", "acme=1")
+        made.write("registryd/build", "#!/bin/sh\nexit 3\n")
+        assert "NOT VERIFIED" not in check() and "built\n" not in check()
+        assert f"NOT VERIFIED: {made.unproved}" in check(BLOBD=made.unproved)
+
+
 def a_long_build_of_registryd_says_how_far_it_is():
     def artifact(name, kind="lib"):
         return json.dumps({"reason": "compiler-artifact", "package_id": name, "target": {"kind": [kind]}}) + "\n"
@@ -297,9 +320,11 @@ def a_build_without_proof_says_how_long_it_takes():
                 file.write(text)
             os.chmod(f"{folder}/{path}", 0o755)
         environment = {**os.environ, "PATH": f"{folder}/bin:{os.environ['PATH']}", "BUILD_STEP": ", 2 of 2"}
-        done = subprocess.run([f"{os.path.dirname(TOP)}/package/unproved", f"{folder}/out/blobd"], env=environment, stderr=subprocess.PIPE,
-                              text=True, timeout=60)
-        assert (done.returncode, done.stderr) == (0, "package/unproved: building blobd without its proof, 2 of 2: 2 s so far\n"), done
+        # The second call finds the program built.
+        for said in ("package/unproved: building blobd without its proof, 2 of 2: 2 s so far\n", ""):
+            done = subprocess.run([f"{os.path.dirname(TOP)}/package/unproved", f"{folder}/out/blobd"], env=environment, stderr=subprocess.PIPE,
+                                  text=True, timeout=60)
+            assert (done.returncode, done.stderr) == (0, said), done
         with open(f"{folder}/out/blobd") as program, open(f"{folder}/out/blobd.sources") as sources:
             assert program.read() == "compiled\n" and len(sources.read()) == 65
 
@@ -309,7 +334,7 @@ def main():
         a_start_serves_before_the_proof_ends, the_record_names_program_sources_and_commit, changed_sources_are_not_proved,
         each_edit_is_built, what_has_no_name_is_not_taken, the_record_needs_no_git, a_proof_in_the_background_ends_with_the_registry,
         a_proof_goes_on_if_it_shall, a_proof_that_has_ended_is_not_waited_for, nothing_is_built_for_help_and_little_for_a_given_program,
-        a_missing_program_is_named_before_anything_is_built, a_first_start_counts_its_steps, a_long_build_of_registryd_says_how_far_it_is,
+        a_missing_program_is_named_before_anything_is_built, a_first_start_counts_its_steps, the_tests_find_a_program_of_the_store, a_long_build_of_registryd_says_how_far_it_is,
         a_build_without_proof_says_how_long_it_takes])
 
 

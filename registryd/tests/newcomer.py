@@ -1,8 +1,8 @@
 #!/usr/bin/env python3
 """Types the commands of README.md and docs/OPERATIONS.md as they are, except for the address: waits until the registry listens, makes an
 image, pushes it, pulls it by tag and by digest, and deletes it. After a sweep the metrics show that nothing of it is left. The commands can
-be typed again, leave no file, and make no request that fails."""
-import os, shutil, subprocess, tempfile, time
+be typed again, leave no file, and make no request that fails. The commands of docs/EMBEDDING.md for the client in C are typed too."""
+import os, shutil, subprocess, tempfile, threading, time
 
 from documented import Shell, blocks
 from images import same_blobs
@@ -23,6 +23,8 @@ class Newcomer:
         self.operators = blocks_of("docs/OPERATIONS.md", "Pushing, pulling, deleting")
         words = line.rstrip("& ").replace("registryd/run", f"{TOP}/run").split()
         self.process = subprocess.Popen([*words, "--listen", self.address, "--blobd", BLOBD], stderr=subprocess.DEVNULL)
+        # As a shell does: a process that has ended and is not waited for counts as running.
+        threading.Thread(target=self.process.wait, daemon=True).start()
 
     def type(self, lines, pid=None):
         words = {ADDRESS: self.address, "$!": str(pid or self.process.pid)}
@@ -79,6 +81,17 @@ def the_commands_for_operators_leave_nothing(newcomer):
         assert until(lambda: slots("registryd_free_slots") == slots("registryd_slots")), "its slots are not free"
 
 
+def the_example_in_c_runs():
+    """On the store's program of this test: to build another one takes minutes."""
+    top = os.path.dirname(TOP)
+    with tempfile.TemporaryDirectory() as folder, open(f"{top}/bindings/c/example.txt") as expected:
+        words = {"package/unproved": f"cp {BLOBD}", "bindings/c": f"{top}/bindings/c"}
+        said = Shell(folder, words, {"TMPDIR": folder}).type(blocks("docs/EMBEDDING.md", "Out of process")[0])
+        # Standard error comes first: it has the totals of the store.
+        assert said.endswith(f"abandoned\n{expected.read()}"), said
+        assert sorted(os.listdir(folder)) == ["backup", "srv"], "a file is left"
+
+
 def the_wait_ends_with_the_registry():
     """If the registry ends, nobody waits for it any more."""
     with tempfile.TemporaryDirectory() as folder:
@@ -92,7 +105,7 @@ def the_wait_ends_with_the_registry():
 
 def main():
     play("newcomer", [(started, the_commands_of_readme_can_be_typed_twice), (started, the_commands_for_operators_leave_nothing),
-                      the_wait_ends_with_the_registry])
+                      the_wait_ends_with_the_registry, the_example_in_c_runs])
 
 
 if __name__ == "__main__":
