@@ -38,6 +38,8 @@ struct State {
     /// If no request is being served: the time at which the last one ended, or the next head began.
     since: Instant,
     has_head: bool,
+    /// Whether a length is in the bytes of a head, or unknown because no byte of the head was looked at.
+    has_length: Option<bool>,
     /// The time since which the server waits for a request's body.
     awaited: Option<Instant>,
     /// The time since which the client takes no bytes.
@@ -93,7 +95,8 @@ impl Connection {
     /// Makes the state of a connection on which nothing was received.
     pub fn new(client: SocketAddr, idle: Duration) -> Connection {
         let since = Instant::now();
-        let state = State { requests: 0, since, has_head: false, awaited: None, stalled: None, pace: None, is_closing: false };
+        let state =
+            State { requests: 0, since, has_head: false, has_length: None, awaited: None, stalled: None, pace: None, is_closing: false };
         Connection { client, idle, state: Mutex::new(state), closing: Notify::new() }
     }
 
@@ -101,12 +104,19 @@ impl Connection {
         self.state.lock().unwrap_or_else(|poisoned| poisoned.into_inner())
     }
 
-    /// Notes that a request's head was read.
-    pub fn begin_request(&self) {
+    /// Notes that a request's head was read. Returns whether it may have a length, by its bytes.
+    pub fn begin_request(&self) -> bool {
         let mut state = self.state();
         state.requests += 1;
         state.has_head = false;
         state.pace = None;
+        state.has_length.take().unwrap_or(true)
+    }
+
+    /// Notes whether bytes of a request's head have a length.
+    pub fn note_head(&self, has_length: bool) {
+        let mut state = self.state();
+        state.has_length = Some(has_length || state.has_length == Some(true));
     }
 
     /// Notes that a response was sent.

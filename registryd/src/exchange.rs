@@ -27,6 +27,8 @@ pub struct Exchange {
     pub connection: Arc<Connection>,
     user: Mutex<Option<String>>,
     received: AtomicU64,
+    /// Whether the bytes of the head may have a length.
+    pub may_have_length: bool,
 }
 
 impl Drop for Exchange {
@@ -38,8 +40,8 @@ impl Drop for Exchange {
 impl Exchange {
     /// Begins a request on a connection.
     pub fn begin(connection: Arc<Connection>) -> Arc<Exchange> {
-        connection.begin_request();
-        Arc::new(Exchange { connection, user: Mutex::default(), received: AtomicU64::new(0) })
+        let may_have_length = connection.begin_request();
+        Arc::new(Exchange { connection, user: Mutex::default(), received: AtomicU64::new(0), may_have_length })
     }
 
     /// Returns the time for which a client may send nothing.

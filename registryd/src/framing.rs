@@ -28,11 +28,11 @@ pub fn check(headers: &HeaderMap) -> Result<(), Fault> {
     Ok(())
 }
 
-/// Returns whether the connection has to end with the request: its content has a length and a transfer coding, so a proxy may have
-/// seen another end of it, or a coding that was not decoded (RFC 9112, 6.1).
-pub fn is_last(headers: &HeaderMap) -> bool {
-    let has_length = headers.contains_key(TRANSFER_ENCODING) && headers.contains_key(CONTENT_LENGTH);
-    has_length || !is_only(headers, TRANSFER_ENCODING, "chunked")
+/// Returns whether the connection has to end with the request: its content has a transfer coding and may have a length, so a proxy may
+/// have seen another end of it, or it has a coding that was not decoded (RFC 9112, 6.1). The library drops a length after the coding.
+pub fn is_last(headers: &HeaderMap, may_have_length: bool) -> bool {
+    let has_length = may_have_length || headers.contains_key(CONTENT_LENGTH);
+    headers.contains_key(TRANSFER_ENCODING) && (has_length || !is_only(headers, TRANSFER_ENCODING, "chunked"))
 }
 
 #[cfg(test)]
@@ -51,7 +51,7 @@ mod tests {
     fn one_coding_and_one_expectation_are_known() {
         let known = [&[][..], &[(TRANSFER_ENCODING, "Chunked")], &[(EXPECT, "100-Continue"), (TRANSFER_ENCODING, "chunked")]];
         for fields in known {
-            assert!(check(&headers(fields)).is_ok() && !is_last(&headers(fields)), "{fields:?}");
+            assert!(check(&headers(fields)).is_ok() && !is_last(&headers(fields), false), "{fields:?}");
         }
         let unknown = [
             &[(TRANSFER_ENCODING, "gzip, chunked")][..],
@@ -67,8 +67,9 @@ mod tests {
 
     #[test]
     fn two_ends_of_a_content_end_the_connection() {
-        assert!(is_last(&headers(&[(CONTENT_LENGTH, "5"), (TRANSFER_ENCODING, "chunked")])));
-        assert!(is_last(&headers(&[(TRANSFER_ENCODING, "gzip, chunked")])));
-        assert!(!is_last(&headers(&[(CONTENT_LENGTH, "5")])));
+        assert!(is_last(&headers(&[(CONTENT_LENGTH, "5"), (TRANSFER_ENCODING, "chunked")]), false));
+        assert!(is_last(&headers(&[(TRANSFER_ENCODING, "chunked")]), true));
+        assert!(is_last(&headers(&[(TRANSFER_ENCODING, "gzip, chunked")]), false));
+        assert!(!is_last(&headers(&[(CONTENT_LENGTH, "5")]), true));
     }
 }

@@ -19,6 +19,7 @@ mod fault;
 mod folder;
 mod frames;
 mod framing;
+mod head_lines;
 mod in_flight;
 mod limits;
 mod loose;

@@ -282,8 +282,8 @@ impl Registry {
     async fn answer(self: Arc<Self>, request: Request<Body>) -> Response<Body> {
         let (head, body) = request.into_parts();
         let is_awaited = head.headers.contains_key(EXPECT);
-        let is_last = framing::is_last(&head.headers);
         let exchange = head.extensions.get::<Arc<Exchange>>().cloned();
+        let is_last = framing::is_last(&head.headers, exchange.as_ref().map_or(false, |exchange| exchange.may_have_length));
         let mut content = RequestContent::new(body, is_awaited, self.metrics.clone()).of(exchange);
         let mut answer = self.route(head, &mut content).await.unwrap_or_else(|fault| {
             let fault = if content.is_short { Fault::unavailable("out of memory") } else { fault };

@@ -1,6 +1,7 @@
 //! Accepts connections and serves their requests, within the limits on connections.
 use crate::connections::{Admitted, Connections, WatchedStream};
 use crate::exchange::{CountedBody, OpenRecord};
+use crate::head_lines::HeadLines;
 use crate::tls::Tls;
 use hyper::server::conn::Http;
 use hyper::service::service_fn;
@@ -118,6 +119,7 @@ where
     F: Future<Output = Response<Body>> + Send + 'static,
 {
     let connection = admitted.connection.clone();
+    let stream = HeadLines::new(stream, connection.clone());
     let noted = connection.clone();
     let service = service_fn(move |mut request: Request<Body>| {
         let begun = OpenRecord::note(&mut request, noted.clone());

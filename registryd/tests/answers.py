@@ -62,13 +62,22 @@ def the_end_of_a_content_is_certain():
     with serving() as server:
         at = server.client().ask("POST", "/v2/acme/one/blobs/uploads/")["Location"]
         chunked, chunk = "Transfer-Encoding: chunked", b"3\r\nabc\r\n0\r\n\r\n"
-        status, received, has_ended = asked(server, f"PATCH {at} HTTP/1.1", "Content-Length: 5", chunked, body=chunk)
-        assert status == 202 and b"connection: close" in received and has_ended, received
+        for lines in (["Content-Length: 5", chunked], [chunked, "CONTENT-length:5"], [chunked, "X: y", "Content-Length: 0"]):
+            status, received, has_ended = asked(server, f"PATCH {at} HTTP/1.1", *lines, body=chunk)
+            assert status == 202 and b"connection: close" in received and has_ended, (lines, received)
         assert asked(server, f"PATCH {at} HTTP/1.1", chunked, body=chunk)[::2] == (202, False)
         for codings in (["Transfer-Encoding: gzip, chunked"], ["Transfer-Encoding: gzip", chunked]):
             status, received, has_ended = asked(server, f"PATCH {at} HTTP/1.1", *codings, body=chunk)
             assert status == 501 and has_ended, received
-        assert server.client().ask("GET", at)["Range"] == "0-5"
+        assert server.client().ask("GET", at)["Range"] == "0-11"
+        # A client that sends one after the other keeps its connection.
+        client = server.client()
+        client.ask("GET", "/v2/")
+        before = client.connection.sock
+        for _ in range(20):
+            assert client.ask("POST", "/v2/acme/two/blobs/uploads/", b"").status == 202
+            assert client.ask("PATCH", at, iter([b"abc"]), {**PATCH, "Transfer-Encoding": "chunked"}).status == 202
+        assert client.connection.sock is before
         for expected, status in (("nonsense", 417), ("100-continue, nonsense", 417), ("100-Continue", 100)):
             got = asked(server, f"PATCH {at} HTTP/1.1", "Content-Length: 3", f"Expect: {expected}", body=b"abc")
             assert got[0] == status, (expected, got)
