@@ -158,16 +158,50 @@ def blobs_go_with_the_last_manifest():
 
 def a_push_waits_for_the_unlink_of_its_blob():
     """The store is slow to unlink a blob. Meanwhile the blob is hidden, and a push of it is not undone by the unlink."""
-    with serving_stub({DELETE: {"slow": 3}}, *KEEP) as server:
+    with serving_stub({DELETE: {"slow": 3, "times": 1}}, *KEEP) as server:
         client, data = server.client(), b"pushed twice"
         push, path = f"/v2/acme/one/blobs/uploads/?digest={sha256(data)}", f"/v2/acme/one/blobs/{sha256(data)}"
         assert client.ask("POST", push, data, PATCH).status == 201
         assert until(lambda: calls(server)[DELETE] == 1), "the blob is not unlinked"
+        begun = time.time()
         pushing = Asking(server, "POST", push, data, PATCH)
-        for method in ("HEAD", "GET"):
-            assert client.ask(method, path).status == 404 and calls(server)[DELETE] == 1
-        assert pushing.answer is None and pushing.answered().status == 201
-        assert client.ask("GET", path).body == data
+        while time.time() < begun + 2:
+            for method in ("HEAD", "GET"):
+                assert client.ask(method, path).status == 404 and calls(server)[DELETE] == 1
+            assert pushing.answer is None, f"the push takes no turn: {pushing.answer.status}"
+            time.sleep(0.2)
+        assert pushing.answered().status == 201
+        while time.time() < begun + 4:
+            assert client.ask("GET", path).body == data, "the unlink undoes the push"
+            time.sleep(0.2)
+
+
+def a_blob_that_is_pushed_after_an_unlink_without_a_reply_is_there():
+    """The store replies too late each time it is asked to unlink the blob. The blob is hidden, until it is pushed again."""
+    with serving_stub({DELETE: {"late": 4}}, *KEEP, "--call-s", "1") as server:
+        client, data = server.client(), b"pushed again"
+        push, path = f"/v2/acme/one/blobs/uploads/?digest={sha256(data)}", f"/v2/acme/one/blobs/{sha256(data)}"
+        assert client.ask("POST", push, data, PATCH).status == 201
+        assert until(lambda: calls(server)[DELETE] == 1, 2 * SECONDS + 5), "the blob is not unlinked"
+        server.wait_for("the store does not reply in time")
+        assert client.ask("GET", path).status == 404
+        assert client.ask("POST", push, data, PATCH).status == 201
+        answer = client.ask("GET", path)
+        assert (answer.status, answer.body) == (200, data), answer.status
+
+
+def a_moved_tag_begins_the_time_of_the_manifest_that_it_leaves():
+    with serving() as server:
+        client, repo = server.client(), "acme/one"
+        first, second = index(annotations={"n": "1"}), index(annotations={"n": "2"})
+        put(client, repo, first, "v1")
+        put(client, repo, second)
+        time.sleep(2.1)
+        moved = int(time.time())
+        put(client, repo, second, "v1")
+        found, _ = untagged(client)
+        assert list(found) == [(repo, sha256(first))], found
+        assert moved <= found[repo, sha256(first)]["since"] <= time.time(), (moved, found)
 
 
 def blobs_are_known_after_a_restart():
@@ -232,7 +266,7 @@ def times_survive_a_restart():
 def what_takes_time():
     """Runs the tests that wait most of the time, each with a registry of its own, at the same time."""
     tests = [what_nothing_holds_is_deleted, what_clients_ask_for_stays, blobs_go_with_the_last_manifest, blobs_are_known_after_a_restart,
-             a_repository_takes_more_pushes_of_one_tag_than_it_has_manifests, times_survive_a_restart]
+             a_moved_tag_begins_the_time_of_the_manifest_that_it_leaves, a_repository_takes_more_pushes_of_one_tag_than_it_has_manifests, times_survive_a_restart]
     def run(test):
         try:
             test()
@@ -247,7 +281,7 @@ def main():
     with serving("--slots", "16") as server:
         play("retention", [
             (manifests_without_tags_are_listed, server), only_an_administrator_sees_the_list, a_push_waits_for_the_unlink_of_its_blob,
-            what_takes_time])
+            a_blob_that_is_pushed_after_an_unlink_without_a_reply_is_there, what_takes_time])
 
 
 if __name__ == "__main__":
