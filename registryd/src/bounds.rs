@@ -36,6 +36,9 @@ impl Sub for Totals {
     }
 }
 
+/// The least default of the bound on the bytes of a tenant's manifests.
+const LEAST_MANIFEST_BYTES: u64 = 16 << 20;
+
 /// The maximum totals of each tenant. A missing number is not limited.
 #[derive(Clone, Copy, Debug, Default, PartialEq, Eq)]
 pub struct Bounds {
@@ -56,6 +59,13 @@ pub enum Excess {
 }
 
 impl Bounds {
+    /// Returns the bounds of a tenant with a quota. The bytes of its manifests have a default: a tenth of the quota, and at
+    /// least 16 MiB.
+    pub fn with_quota(self, quota: u64) -> Bounds {
+        let most = self.manifest_bytes.unwrap_or_else(|| (quota / 10).max(LEAST_MANIFEST_BYTES));
+        Bounds { manifest_bytes: Some(most), ..self }
+    }
+
     /// Checks that a tenant with totals `used` may add others. A number that does not grow is not checked, since it may be above
     /// the bound of a later start.
     ///
@@ -104,6 +114,13 @@ mod tests {
         assert_eq!(bounds.check(totals(9, 900, 9), totals(0, 0, 0)), Ok(()));
         assert_eq!(bounds.check(totals(9, 900, 9), totals(0, 0, 1)), Err(Excess::Tags { most: 0 }));
         assert_eq!(Bounds::default().check(totals(9, 900, 9), totals(1, 4_194_304, 1)), Ok(()));
+    }
+
+    #[test]
+    fn the_bytes_of_manifests_have_a_default() {
+        let most = |given, quota| Bounds { manifest_bytes: given, ..Bounds::default() }.with_quota(quota).manifest_bytes;
+        assert_eq!((most(None, 1 << 30), most(None, 100)), (Some((1 << 30) / 10), Some(16 << 20)));
+        assert_eq!((most(Some(7), 1 << 30), most(Some(u64::MAX), 100)), (Some(7), Some(u64::MAX)));
     }
 
     #[test]

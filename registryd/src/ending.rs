@@ -7,6 +7,9 @@ use std::process::ExitStatus;
 /// The exit status for a database or a log that cannot be written any more.
 const NOT_WRITTEN: u8 = 9;
 
+/// The exit status for a log that needs other settings.
+pub const OTHER_SETTINGS: u8 = 10;
+
 /// A failure that ends the program: its exit status, and what is logged.
 #[derive(Debug)]
 pub struct Failure {
@@ -33,9 +36,10 @@ impl Failure {
                      the loss with --accept-loss-after and the byte that blobd names",
             ),
             (Some(9), _) => (9, "the log cannot be written any more: make room or replace the disk, and start again"),
-            (Some(10), _) => {
-                (10, "the log needs other settings: start with the tenant, quota, share, --slots or --max-blob that blobd names")
-            }
+            (Some(10), _) => (
+                OTHER_SETTINGS,
+                "the log needs other settings: start with the tenant, quota, share, --slots or --max-blob that blobd names",
+            ),
             _ => (1, "see its message"),
         };
         Failure { status, text: format!("{what}: blobd ended: {ended}: {advice}") }

@@ -5,6 +5,7 @@ mod appending;
 mod blobs;
 mod bounds;
 mod browser;
+mod capacity;
 mod catalog;
 mod clock;
 mod collector;
@@ -44,6 +45,7 @@ mod repositories;
 mod retention;
 mod rights;
 mod server;
+mod shares;
 mod startup;
 mod status;
 mod store;
@@ -61,6 +63,7 @@ mod uploads;
 mod writer;
 
 use crate::access::{Access, Users};
+use crate::bounds::Bounds;
 use crate::catalog::Catalog;
 use crate::connections::{Connections, Limits};
 use crate::ending::Failure;
@@ -74,13 +77,15 @@ use crate::provenance::Provenance;
 use crate::registry::Registry;
 use crate::reload::{FromFile, Hangup, Reloads};
 use crate::rights::Rights;
-use crate::store::{Setup, Store};
+use crate::tags::Tags;
+use crate::tenants::Tenant;
 use crate::tls::Tls;
 use crate::tokens::{Issuer, Key};
 use crate::upload_name::Secret;
 use crate::uploads::Uploads;
 use crate::writer::{Writer, WriterThread};
 use clap::{CommandFactory, FromArgMatches};
+use std::collections::HashMap;
 use std::io;
 use std::net::SocketAddr;
 use std::path::Path;
@@ -268,20 +273,24 @@ struct Started {
     database: Option<(Arc<Writer>, WriterThread)>,
 }
 
-/// Starts the store.
-async fn start_store(options: &Options, writer: Option<Arc<Writer>>) -> Result<(Store, Child), Failure> {
-    let setup = Setup {
-        blobd: &options.blobd,
-        words: options.store_options(),
-        writer,
-        slots: options.slots,
-        max_blob: options.max_blob,
-        tenants: &options.tenants,
-        names: options.tenant_names(),
-        connections: options.lines.into(),
-        call: Duration::from_secs(options.call_s),
-    };
-    Store::start(setup).await
+/// Returns the bounds on the manifests and tags of each tenant. A tenant that has more than a default has no such bound.
+fn bounds_by_tenant(options: &Options, tags: &Tags) -> HashMap<String, Bounds> {
+    let mut by_tenant = HashMap::new();
+    for Tenant { name, quota, .. } in options.tenants() {
+        let mut bounds = options.bounds().with_quota(quota);
+        let used = tags.totals(&name).manifest_bytes;
+        if let Some(default) = bounds.manifest_bytes.filter(|most| used > *most && options.manifest_bytes.is_none()) {
+            tracing::warn!(
+                tenant = %name,
+                used,
+                default,
+                "the tenant has more bytes of manifests than the default, and is not limited: give --manifest-bytes"
+            );
+            bounds.manifest_bytes = None;
+        }
+        by_tenant.insert(name, bounds);
+    }
+    by_tenant
 }
 
 /// Starts the store, reads the database if there is one, and makes the registry over both.
@@ -293,7 +302,8 @@ async fn start(options: &Options, access: Access) -> Result<Started, Failure> {
     let limit = Duration::from_secs(options.call_s);
     let writer = options.data.as_ref().map(|_| Writer::new(metrics.add_folder(options.is_durable()), limit));
     let had_log = options.data.as_ref().map_or(false, |path| folder::log_length(path).is_some());
-    let (store, mut child) = start_store(options, writer.clone()).await?;
+    capacity::warn_of_sums(&options.tenants(), options.slots);
+    let (store, mut child) = shares::start_store(options, writer.clone()).await?;
     let kept = match &options.data {
         Some(folder) => match startup::recover(&store, folder.clone(), options.is_durable(), had_log).await {
             Ok(kept) => Some(kept),
@@ -326,7 +336,6 @@ async fn start(options: &Options, access: Access) -> Result<Started, Failure> {
         uploads,
         repositories,
         loose: options.keep_untagged.map_or_else(LooseBlobs::default, |_| LooseBlobs::new(writer.clone(), loose_blobs)),
-        tags: Catalog::new(tags, writer),
         folder: options.data.clone().map(|path| Folder::new(path, options.min_free())),
         turns: Default::default(),
         metrics,
@@ -339,6 +348,8 @@ async fn start(options: &Options, access: Access) -> Result<Started, Failure> {
         max_blob: options.max_blob,
         bounds: options.bounds(),
         asked_removal: options.asked_removal(),
+        bounds_by_tenant: bounds_by_tenant(options, &tags),
+        tags: Catalog::new(tags, writer),
         started: status::now(),
     });
     work_in_background(&registry, options);

@@ -123,7 +123,7 @@ pub async fn put(call: &Call, reference: &str, content: &mut RequestContent) -> 
     if !is_digest(reference) && !is_tag(reference) {
         return Err(Fault::manifest_invalid("the reference is neither a tag nor a digest"));
     }
-    let Registry { tags, bounds, .. } = &*call.registry;
+    let (tags, bounds) = (&call.registry.tags, &call.registry.bounds_of(&call.repo));
     let exceeds = |excess| Fault::bound(excess, tenant_of(&call.repo));
     tags.check_push(&call.repo, reference, content.len, bounds).map_err(exceeds)?;
     let bytes = content.manifest().await?;

@@ -3,7 +3,7 @@ use crate::bounds::Bounds;
 use crate::registry::MetricsAccess;
 use crate::retention::hours;
 use crate::tags::Removal;
-use crate::tenants::{self, tenant_word};
+use crate::tenants::{self, tenant_word, Tenant};
 use crate::uploads::UploadTimeouts;
 use clap::{Parser, ValueEnum};
 use std::ffi::OsString;
@@ -38,7 +38,7 @@ pub struct Options {
     /// Limit the length of a blob
     #[arg(long, value_name = "BYTES", default_value_t = 1 << 32)]
     pub max_blob: u64,
-    /// Limit the bytes of each tenant's manifests
+    /// Limit manifest bytes [default: a tenth of the quota]
     #[arg(long, value_name = "BYTES")]
     pub manifest_bytes: Option<u64>,
     /// Limit the number of each tenant's manifests
@@ -161,7 +161,7 @@ impl Options {
         UploadTimeouts { begun, empty }
     }
 
-    /// Returns the bounds on the manifests and tags of each tenant.
+    /// Returns the bounds on the manifests and tags of each tenant, as far as they are given.
     pub fn bounds(&self) -> Bounds {
         let Options { manifests, manifest_bytes, tags, .. } = *self;
         Bounds { manifests, manifest_bytes, tags }
@@ -218,9 +218,14 @@ impl Options {
         }
     }
 
+    /// Returns the tenants.
+    pub fn tenants(&self) -> Vec<Tenant> {
+        self.tenants.iter().filter_map(|word| Tenant::of(word)).collect()
+    }
+
     /// Returns the names of the tenants.
     pub fn tenant_names(&self) -> Vec<String> {
-        self.tenants.iter().filter_map(|word| word.split_once('=')).map(|(name, _)| name.to_string()).collect()
+        self.tenants().into_iter().map(|tenant| tenant.name).collect()
     }
 }
 

@@ -27,6 +27,7 @@ use hyper::header::{HeaderValue, CONNECTION, EXPECT, HOST};
 use hyper::http::request::Parts;
 use hyper::http::uri::Authority;
 use hyper::{Body, Method, Request, Response, StatusCode, Version};
+use std::collections::HashMap;
 use std::sync::Arc;
 use std::time::{Duration, Instant};
 use uuid::Uuid;
@@ -55,10 +56,12 @@ pub struct Registry {
     pub slots: u32,
     /// The maximum length of a blob, in bytes.
     pub max_blob: u64,
-    /// The bounds on the manifests and tags of each tenant.
+    /// The bounds on the manifests and tags of each tenant, as far as they are given.
     pub bounds: Bounds,
     /// The condition on which a client's delete of a manifest is made.
     pub asked_removal: Removal,
+    /// The bounds of each tenant, with the defaults.
+    pub bounds_by_tenant: HashMap<String, Bounds>,
     /// Where the store's program comes from.
     pub provenance: Provenance,
     /// The time of the start, in seconds since 1970.
@@ -269,6 +272,11 @@ pub fn with_body(status: StatusCode, headers: &[(&str, &str)], body: Body) -> Ha
 }
 
 impl Registry {
+    /// Returns the bounds on the manifests and tags of a repository's tenant.
+    pub fn bounds_of(&self, repo: &str) -> Bounds {
+        self.bounds_by_tenant.get(tenant_of(repo)).copied().unwrap_or(self.bounds)
+    }
+
     /// Serves a request in a task of its own, so that a client that disconnects interrupts no call to the store.
     pub async fn serve(self: Arc<Self>, request: Request<Body>) -> Response<Body> {
         let begun = Instant::now();

@@ -143,6 +143,7 @@ impl Registry {
                 "repositories": self.repositories.count(tenant),
                 "manifests": totals.manifests,
                 "manifest_bytes": totals.manifest_bytes,
+                "most_manifest_bytes": self.bounds_of(tenant).manifest_bytes,
                 "tags": totals.tags,
             }));
         }

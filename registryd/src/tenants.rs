@@ -13,6 +13,26 @@ const MAX_SHARE: u64 = u32::MAX as u64;
 /// The maximum length of a repository's name, and so of a tenant's, in bytes.
 const MAX_NAME: usize = 255;
 
+/// A tenant of the command line.
+#[derive(Clone, Debug, PartialEq, Eq)]
+pub struct Tenant {
+    pub name: String,
+    /// The maximum number of bytes.
+    pub quota: u64,
+    /// The maximum number of distinct blobs, if it is given.
+    pub share: Option<u64>,
+}
+
+impl Tenant {
+    /// Reads an argument that `tenant_word` accepts.
+    pub fn of(word: &str) -> Option<Tenant> {
+        let (name, limits) = word.split_once('=')?;
+        let (quota, share) = limits.split_once(',').map_or((limits, None), |(quota, share)| (quota, Some(share)));
+        let share = share.map(str::parse).transpose().ok()?;
+        Some(Tenant { name: name.to_string(), quota: quota.parse().ok()?, share })
+    }
+}
+
 /// Checks an argument of the form `TENANT=QUOTA` or `TENANT=QUOTA,BLOBS`, and returns it.
 ///
 /// # Errors
@@ -106,6 +126,14 @@ mod tests {
         for word in ["acme=5,", "acme=,5", "acme=5,-1", "acme=5,1,1", "acme=5,4294967296"] {
             assert!(tenant_word(word).unwrap_err().contains(&format!("`{word}`")), "{word}");
         }
+    }
+
+    #[test]
+    fn a_word_has_a_quota_and_may_have_a_share() {
+        let tenant = |quota, share| Some(Tenant { name: "acme".to_string(), quota, share });
+        assert_eq!(Tenant::of("acme=5"), tenant(5, None));
+        assert_eq!(Tenant::of("acme=1125899906842624,4294967295"), tenant(1 << 50, Some(u64::from(u32::MAX))));
+        assert_eq!(Tenant::of("acme=5,x"), None);
     }
 
     #[test]

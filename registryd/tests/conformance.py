@@ -407,7 +407,7 @@ def main():
     words = [word for word in sys.argv[1:] if word != "--all"]
     if words:
         sys.exit(not check(words[0], "--all" in sys.argv))
-    with serving("--slots", "64", tenants=["acme=1000000", "poor=100000"]) as server:
+    with serving("--slots", "64", tenants=["acme=1000000,64", "poor=100000,64"]) as server:
         good = check(server.address, "--all" in sys.argv)
         ended = server.end()
     sys.exit(not good or ended != 0)

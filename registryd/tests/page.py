@@ -45,7 +45,7 @@ def a_registry():
 def what_was_pushed_is_shown():
     with a_registry() as (server, manifest, report):
         text = shown(chromium(server.address, "--dump-dom"))
-        for word in ("acme", "60.0 kB of 100.0 kB", "3 blobs", "0 of 7 blobs", "2 repositories", "acme/web", "acme/tools/build", f"v2 {manifest}", f"referrer {report} application/spdx+json", "1 manifest", "2 manifests", "other",
+        for word in ("acme", "60.0 kB of 100.0 kB", "3 of 2048 blobs", "0 of 7 blobs", "2 repositories", "acme/web", "acme/tools/build", f"v2 {manifest}", f"referrer {report} application/spdx+json", "1 manifest", "2 manifests", "other",
                      "No repository.", "freed 1 slots", "Free slots 4093 of 4096", "Data durable", "Store not verified" if "NOT VERIFIED" in server.logged() else "Store verified",
                      "Last commit of tags", "Last sync of the log"):
             assert word in text, (word, text)

@@ -73,9 +73,9 @@ class Client:
 
 
 class Server:
-    """A registryd and its blobd."""
+    """A registryd and its blobd. Each tenant may take all slots, unless a test is about shares."""
 
-    def __init__(self, *words, tenants=("acme=1000000000", "other=1000000000", "poor=1000000"), **options):
+    def __init__(self, *words, tenants=("acme=1000000000,65536", "other=1000000000,65536", "poor=1000000,65536"), **options):
         self.log = tempfile.TemporaryFile()
         if "WITH_FOLDER" in os.environ:
             self.folder = tempfile.TemporaryDirectory()

@@ -62,7 +62,7 @@ def a_full_share_leaves_slots_for_others(serve):
         assert mounted.status == (202 if serve is STUB else 201), mounted.body
         push(client, "other/one", b"a")
         shares = [(name, tenant_of(status_of(client), name)["blobs"], tenant_of(status_of(client), name)["share"]) for name in ("acme", "other", "free")]
-        assert shares == [("acme", 2, 2), ("other", 1, 1), ("free", 0, None)], shares
+        assert shares == [("acme", 2, 2), ("other", 1, 1), ("free", 0, 1)], shares
         assert refused(pushing(client, "other/one", b"x"))[2:] == ("blobs", 1)
         assert status_of(client)["uploads"] == (serve is STUB)
         # A blob counts until no repository of the tenant has it.
@@ -268,14 +268,87 @@ def a_smaller_share_needs_other_settings():
             by_signal(server)
         with serving("--data", path) as server:
             push(server.client(), "acme/one", b"d")
-            assert tenant_of(status_of(server.client()), "acme")["share"] is None
+            assert tenant_of(status_of(server.client()), "acme")["share"] == 65536
 
 
-WITH_EITHER = [a_full_share_leaves_slots_for_others, a_full_share_keeps_the_upload, manifests_and_tags_have_bounds,
+def tenants_share_the_slots_by_default(serve):
+    with serve("--slots", "5", *NO_SWEEP, tenants=("acme=1000000", "other=1000000")) as server:
+        client = server.client()
+        for data in (b"a", b"b"):
+            push(client, "acme/one", data)
+        assert refused(pushing(client, "acme/one", b"c")) == (403, "DENIED", "blobs", 2)
+        for data in (b"c", b"d"):
+            push(client, "other/one", data)
+        assert "the shares together exceed" not in server.logged()
+    with serve("--slots", "5", *NO_SWEEP, tenants=("acme=1000000,4", "other=1125899906842624")) as server:
+        assert [tenant_of(status_of(server.client()), name)["share"] for name in ("acme", "other")] == [4, 2]
+        for words in ("the shares together exceed the slots", "the quotas together exceed the memory"):
+            assert words in server.logged(), server.logged()
+    with serve("--slots", "5", *NO_SWEEP, tenants=["acme=1000000"]) as server:
+        assert tenant_of(status_of(server.client()), "acme")["share"] is None
+        assert "together exceed" not in server.logged(), server.logged()
+
+
+def manifests_are_bounded_by_default(serve):
+    """A tenant with a small quota may have 16 MiB of manifests, and one with a large quota a tenth of it."""
+    with serve(tenants=("acme=100", "other=1000000000")) as server:
+        client = server.client()
+        for number in range(4):
+            assert by_digest(client, "acme/one", index_of(4 * MIB - number)).status == 201, number
+        answer = by_digest(client, "acme/two", index_of(4 * MIB - 4))
+        assert refused(answer) == (403, "DENIED", "tenant_manifest_bytes", 16 * MIB), answer.body
+        assert by_digest(client, "other/one", index_of(4 * MIB)).status == 201
+        most = [tenant_of(status_of(client), name)["most_manifest_bytes"] for name in ("acme", "other")]
+        assert most == [16 * MIB, 100_000_000], most
+    with serve("--manifest-bytes", "200", tenants=("acme=100", "other=1000000000")) as server:
+        assert [tenant_of(status_of(server.client()), name)["most_manifest_bytes"] for name in ("acme", "other")] == [200, 200]
+
+
+def a_folder_with_more_manifests_than_the_default_takes_more():
+    with folder() as path:
+        large = [index_of(4 * MIB - number) for number in range(6)]
+        with serving("--data", path, "--manifest-bytes", "100000000", tenants=["acme=100"]) as server:
+            for content in large[:5]:
+                assert by_digest(server.client(), "acme/one", content).status == 201
+            by_signal(server)
+        with serving("--data", path, tenants=["acme=100"]) as server:
+            client = server.client()
+            assert "the tenant has more bytes of manifests than the default" in server.logged()
+            assert tenant_of(status_of(client), "acme")["most_manifest_bytes"] is None
+            assert by_digest(client, "acme/one", large[5]).status == 201
+
+
+def a_folder_with_more_blobs_than_a_default_share_starts():
+    """The tenant is not limited, as before, and the others have the default share."""
+    with folder() as path:
+        with serving("--data", path, "--slots", "4", *NO_SWEEP, tenants=["acme=1000000"]) as server:
+            for data in (b"a", b"b", b"c"):
+                push(server.client(), "acme/one", data)
+            by_signal(server)
+        for count in range(2):
+            with serving("--data", path, "--slots", "5", *NO_SWEEP, tenants=["acme=1000000", "other=1000"]) as server:
+                client = server.client()
+                assert "the tenant has more blobs than the default share" in server.logged() and "acme=1000000,BLOBS" in server.logged()
+                assert [tenant_of(status_of(client), name)["share"] for name in ("acme", "other")] == [None, 2]
+                push(client, "acme/one", b"d")
+                assert client.ask("GET", f"/v2/acme/one/blobs/{sha256(b'b')}").body == b"b"
+                by_kill_of_both(server)
+        with serving("--data", path, "--slots", "4", tenants=["acme=1000000,4", "other=1000"]) as server:
+            assert refused(pushing(server.client(), "acme/one", b"e")) == (403, "DENIED", "blobs", 4)
+            assert "more blobs than the default" not in server.logged()
+            for data in (b"b", b"c", b"d"):
+                assert server.client().ask("DELETE", f"/v2/acme/one/blobs/{sha256(data)}").status == 202
+            by_signal(server)
+        with serving("--data", path, "--slots", "4", tenants=["acme=1000000", "other=1000"]) as server:
+            assert tenant_of(status_of(server.client()), "acme")["share"] == 2
+
+
+WITH_EITHER = [tenants_share_the_slots_by_default, manifests_are_bounded_by_default, a_full_share_leaves_slots_for_others, a_full_share_keeps_the_upload, manifests_and_tags_have_bounds,
                content_that_exceeds_a_bound_is_not_read, pushes_at_the_same_time_exceed_no_bound]
 WITH_STUB = [a_push_that_finds_no_free_slot_waits_for_a_sweep, an_upload_is_there_after_two_refusals, a_sweep_serves_all_pushes_that_wait,
              a_push_that_fails_needs_no_room]
-WITH_STORE = [a_deleted_blob_makes_room_at_once, totals_are_the_same_after_a_restart, a_smaller_share_needs_other_settings]
+WITH_STORE = [a_deleted_blob_makes_room_at_once, totals_are_the_same_after_a_restart, a_smaller_share_needs_other_settings,
+              a_folder_with_more_blobs_than_a_default_share_starts, a_folder_with_more_manifests_than_the_default_takes_more]
 
 
 def with_a_folder():

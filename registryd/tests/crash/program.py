@@ -31,7 +31,7 @@ class Killable(Server):
             # no upload ends because the clients are slow
             options += ["--session-s", "3600", "--empty-session-s", "3600"]
         words = [*options, "--slots", str(SLOTS), "--max-blob", str(1 << 24), "--lines", "8", "--sweep-ms", "50", *words]
-        quotas = [f"{tenant}=1000000000" for tenant in TENANTS]
+        quotas = [f"{tenant}=1000000000,{SLOTS}" for tenant in TENANTS]
         self.address = None
         super().__init__(*words, tenants=quotas, start_new_session=True, env={**os.environ, **(environment or {})})
 
