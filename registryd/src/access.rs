@@ -1,6 +1,7 @@
 //! Authentication and authorization. A user has a password (RFC 7617), or a token of an issuer (RFC 6750). A token lists rights. A
 //! file has the rights of users with a password; without it, such a user may use the repositories of the tenant that has the
 //! user's name.
+use crate::checks::{Checks, Sender};
 use crate::fault::Fault;
 use crate::limits::tenant_of;
 use crate::reload::{read_text, FromFile};
@@ -12,13 +13,9 @@ use sha2::{Digest, Sha256};
 use std::collections::{HashMap, HashSet};
 use std::ffi::{CStr, CString};
 use std::io;
+use std::net::IpAddr;
 use std::path::Path;
-use std::sync::atomic::{AtomicUsize, Ordering};
 use std::sync::{Arc, Mutex, MutexGuard};
-use tokio::sync::Semaphore;
-
-/// The maximum number of requests that wait for a password check.
-const MOST_WAITING: usize = 256;
 
 /// A hash that no password has. It is compared if the file has no usable hash.
 const NO_HASH: &str = "$2y$05$nqFXJkfECeUKpyE2Lb3PCOSiG.rBTWlZboZ5DnVm.UMOo.e76iQgC";
@@ -68,18 +65,45 @@ pub struct Caller {
     issuer: Option<Arc<Issuer>>,
 }
 
-/// The users of a file with the hashes of their passwords, and a cache of the passwords that were accepted.
+/// The users of a file with the hashes of their passwords.
 pub struct Users {
     hashes: HashMap<String, String>,
     /// The hashes that a password can have. The password of an unknown user is compared with one of them.
     usable: Vec<String>,
-    /// For each user, a salted hash of the password that was accepted last. Each request carries a password, and the
-    /// system's hashes are slow on purpose.
-    accepted: Mutex<HashMap<String, [u8; 32]>>,
+    logins: Arc<Logins>,
+}
+
+/// A cache of the passwords that were accepted, and the queue of the others. Both stay when the file of users is read again.
+pub struct Logins {
+    /// For each user, the password that was accepted last. Each request carries a password, and the system's hashes are slow
+    /// on purpose.
+    accepted: Mutex<HashMap<String, Accepted>>,
     salt: [u8; 16],
-    /// The permits for password checks, and the number of requests that wait for one.
-    permits: Arc<Semaphore>,
-    waiting: AtomicUsize,
+    checks: Arc<Checks>,
+}
+
+/// A password that was accepted: the hash of the file, and a salted hash of the password.
+#[derive(PartialEq, Eq)]
+struct Accepted {
+    hash: String,
+    salted: [u8; 32],
+}
+
+impl Logins {
+    /// Makes an empty cache and an empty queue. Half of the processors check passwords at once.
+    pub fn new() -> Arc<Logins> {
+        let processors = std::thread::available_parallelism().map_or(1, usize::from);
+        let (salt, checks) = (*uuid::Uuid::new_v4().as_bytes(), Checks::new((processors / 2).max(1)));
+        Arc::new(Logins { accepted: Mutex::default(), salt, checks })
+    }
+
+    fn accepted(&self) -> MutexGuard<'_, HashMap<String, Accepted>> {
+        self.accepted.lock().unwrap_or_else(|poisoned| poisoned.into_inner())
+    }
+
+    fn salted(&self, text: &str) -> [u8; 32] {
+        Sha256::new().chain_update(self.salt).chain_update(text).finalize().into()
+    }
 }
 
 /// Returns the prefix of a hash's format if the system's `crypt` supports it (crypt(5)). The length of the text after the
@@ -114,13 +138,14 @@ fn parse_line<'l>(line: &'l str, tried: &mut HashSet<&'static str>) -> Result<(&
 }
 
 impl Users {
-    /// Reads the lines `USER:HASH` of a file that `htpasswd` wrote.
+    /// Reads the lines `USER:HASH` of a file that `htpasswd` wrote. A password that was accepted stays so as long as the line of
+    /// its user is the same.
     ///
     /// # Errors
     ///
     /// - The file cannot be read.
     /// - A line is not `USER:HASH`, or its hash cannot be checked. The message has the number of the first such line.
-    pub fn read(path: &Path) -> io::Result<Users> {
+    pub fn read(path: &Path, logins: &Arc<Logins>) -> io::Result<Users> {
         let text = read_text(path)?;
         let (mut hashes, mut tried) = (HashMap::new(), HashSet::new());
         for (at, line) in text.lines().map(str::trim).enumerate() {
@@ -131,16 +156,14 @@ impl Users {
                 .map_err(|why| io::Error::new(io::ErrorKind::InvalidData, format!("line {}: {why}", at + 1)))?;
             hashes.insert(user.to_string(), hash.to_string());
         }
-        Ok(Users::of(hashes))
+        Ok(Users::of(hashes, logins.clone()))
     }
 
-    fn of(hashes: HashMap<String, String>) -> Users {
+    fn of(hashes: HashMap<String, String>, logins: Arc<Logins>) -> Users {
         let mut usable: Vec<String> = hashes.values().filter(|hash| !is_locked(hash)).cloned().collect();
         usable.sort();
-        let processors = std::thread::available_parallelism().map_or(1, usize::from);
-        let permits = Arc::new(Semaphore::new((processors / 2).max(1)));
-        let salt = *uuid::Uuid::new_v4().as_bytes();
-        Users { hashes, usable, accepted: Mutex::default(), salt, permits, waiting: AtomicUsize::new(0) }
+        logins.accepted().retain(|user, accepted| hashes.get(user) == Some(&accepted.hash));
+        Users { hashes, usable, logins }
     }
 
     /// Returns whether a user is in the file.
@@ -148,24 +171,17 @@ impl Users {
         self.hashes.contains_key(user)
     }
 
-    fn accepted(&self) -> MutexGuard<'_, HashMap<String, [u8; 32]>> {
-        self.accepted.lock().unwrap_or_else(|poisoned| poisoned.into_inner())
-    }
-
-    fn salted(&self, text: &str) -> [u8; 32] {
-        Sha256::new().chain_update(self.salt).chain_update(text).finalize().into()
-    }
-
-    /// Returns whether a password is the one that was accepted last for the user.
+    /// Returns whether a password is the one that was accepted last for the user, by the hash that the user has now.
     fn is_cached(&self, user: &str, password: &str) -> bool {
-        let salted = self.salted(password);
-        self.accepted().get(user).map_or(false, |accepted| is_same(accepted, &salted))
+        let salted = self.logins.salted(password);
+        let is_of = |accepted: &Accepted| is_same(&accepted.salted, &salted) && self.hashes.get(user) == Some(&accepted.hash);
+        self.logins.accepted().get(user).map_or(false, is_of)
     }
 
     /// Returns a hash to compare for a user that the file does not accept. The comparison takes as long as one with a hash
     /// of the file, and a name always has the same hash. So the time of a reply does not show which users exist.
     fn decoy(&self, user: &str) -> &str {
-        let name = self.salted(user);
+        let name = self.logins.salted(user);
         let at = u32::from_le_bytes([name[0], name[1], name[2], name[3]]) as usize;
         self.usable.get(at % self.usable.len().max(1)).map_or(NO_HASH, String::as_str)
     }
@@ -173,25 +189,27 @@ impl Users {
     /// Returns whether a password is the user's.
     fn check_password(&self, user: &str, password: &str) -> bool {
         let known = self.hashes.get(user).filter(|hash| !is_locked(hash));
-        let is_right = matches_hash(password, known.map_or_else(|| self.decoy(user), String::as_str)) && known.is_some();
-        if is_right {
-            let salted = self.salted(password);
-            self.accepted().insert(user.to_string(), salted);
+        let is_match = matches_hash(password, known.map_or_else(|| self.decoy(user), String::as_str));
+        match known.filter(|_| is_match) {
+            Some(hash) => {
+                let accepted = Accepted { hash: hash.clone(), salted: self.logins.salted(password) };
+                self.logins.accepted().insert(user.to_string(), accepted);
+                true
+            }
+            None => false,
         }
-        is_right
     }
 
     /// Returns whether a password is the user's. The cache is asked first because a hash is slow on purpose.
-    async fn accept(self: &Arc<Self>, user: &str, password: &str) -> Result<bool, Fault> {
-        Ok(self.is_cached(user, password) || self.compare(user, password.to_string()).await?)
+    async fn accept(self: &Arc<Self>, user: &str, password: &str, client: Option<IpAddr>) -> Result<bool, Fault> {
+        Ok(self.is_cached(user, password) || self.compare(user, password.to_string(), client).await?)
     }
 
-    /// Checks a password in a blocking thread after it gets a permit. Other requests are served meanwhile.
-    async fn compare(self: &Arc<Self>, user: &str, password: String) -> Result<bool, Fault> {
+    /// Checks a password in a blocking thread when it is its turn. Other requests are served meanwhile.
+    async fn compare(self: &Arc<Self>, user: &str, password: String, client: Option<IpAddr>) -> Result<bool, Fault> {
         let too_many = || Fault::unavailable("too many requests wait for a password check");
-        let waiting = Waiting::begin(&self.waiting).ok_or_else(too_many)?;
-        let permit = self.permits.clone().acquire_owned().await;
-        drop(waiting);
+        let sender = Sender::new(client, Some(user).filter(|user| self.has(user)));
+        let permit = self.logins.checks.begin(sender).await.ok_or_else(too_many)?;
         let (users, name) = (self.clone(), user.to_string());
         let compared = tokio::task::spawn_blocking(move || {
             let is_right = users.is_cached(&name, &password) || users.check_password(&name, &password);
@@ -199,24 +217,6 @@ impl Users {
             is_right
         });
         Ok(compared.await.unwrap_or(false))
-    }
-}
-
-/// The count of one request that waits for a permit.
-struct Waiting<'c>(&'c AtomicUsize);
-
-impl<'c> Waiting<'c> {
-    /// Adds a request to the count, unless the maximum number already waits.
-    fn begin(count: &'c AtomicUsize) -> Option<Waiting<'c>> {
-        let is_one_more = |count| (count < MOST_WAITING).then(|| count + 1);
-        count.fetch_update(Ordering::Relaxed, Ordering::Relaxed, is_one_more).ok()?;
-        Some(Waiting(count))
-    }
-}
-
-impl Drop for Waiting<'_> {
-    fn drop(&mut self) {
-        self.0.fetch_sub(1, Ordering::Relaxed);
     }
 }
 
@@ -287,11 +287,11 @@ fn unauthorized(issuer: &Option<Arc<Issuer>>, scope: Scope<'_>, error: Option<&s
 
 impl Access {
     /// Returns the sender of a request after checking its credentials. A challenge names what the request needs.
-    pub async fn caller(&self, headers: &HeaderMap, scope: Scope<'_>) -> Result<Caller, Fault> {
+    pub async fn caller(&self, headers: &HeaderMap, scope: Scope<'_>, client: Option<IpAddr>) -> Result<Caller, Fault> {
         let identity = match (credentials(headers), &self.users, &self.issuer) {
             (_, None, None) => Identity::Anybody,
             (Credentials::Missing, _, _) => Identity::Anonymous,
-            (Credentials::Password(user, password), Some(users), _) if users.get().accept(&user, &password).await? => {
+            (Credentials::Password(user, password), Some(users), _) if users.get().accept(&user, &password, client).await? => {
                 Identity::User(user)
             }
             (Credentials::Token(text), _, Some(issuer)) => match issuer.verify(&text) {
@@ -429,14 +429,26 @@ mod tests {
 
     #[test]
     fn a_right_password_is_known_again_and_another_is_not() {
-        let users = Users::of([("acme".to_string(), BCRYPT.to_string())].into());
+        let logins = Logins::new();
+        let users = Users::of([("acme".to_string(), BCRYPT.to_string())].into(), logins.clone());
         assert!(!users.is_cached("acme", "secret"));
         assert!(users.check_password("acme", "secret"));
-        assert_eq!(users.accepted().len(), 1);
+        assert_eq!(logins.accepted().len(), 1);
         assert!(users.is_cached("acme", "secret"));
         assert!(!users.is_cached("acme", "other"));
         assert!(!users.check_password("acme", "other"));
         assert!(!users.check_password("nobody", "secret"));
+        // The password is known as long as the line of the user is the same.
+        let read_again = |hashes: &[(&str, &str)]| {
+            let hashes = hashes.iter().map(|(user, hash)| (user.to_string(), hash.to_string())).collect();
+            Users::of(hashes, logins.clone())
+        };
+        assert!(read_again(&[("acme", BCRYPT), ("other", SHA512)]).is_cached("acme", "secret"));
+        let changed = read_again(&[("acme", SHA512)]);
+        assert!(!changed.is_cached("acme", "secret"));
+        // A check by the file of before may end after the file is read again.
+        assert!(users.check_password("acme", "secret") && !changed.is_cached("acme", "secret"));
+        assert!(!read_again(&[("other", SHA512)]).is_cached("acme", "secret"));
     }
 
     #[test]
@@ -455,19 +467,10 @@ mod tests {
     #[test]
     fn an_unknown_user_is_compared_with_a_hash_of_the_file() {
         let hashes = [("acme".to_string(), SHA512.to_string()), ("locked".to_string(), "!".to_string())];
-        let users = Users::of(hashes.into());
+        let users = Users::of(hashes.into(), Logins::new());
         assert_eq!(users.decoy("nobody"), SHA512);
         assert!(!users.check_password("nobody", "secret") && !users.check_password("locked", "secret"));
-        assert_eq!(Users::of(HashMap::new()).decoy("nobody"), NO_HASH);
-    }
-
-    #[test]
-    fn few_requests_wait() {
-        let count = AtomicUsize::new(MOST_WAITING - 1);
-        let last = Waiting::begin(&count);
-        assert!(last.is_some() && Waiting::begin(&count).is_none());
-        drop(last);
-        assert!(Waiting::begin(&count).is_some());
+        assert_eq!(Users::of(HashMap::new(), Logins::new()).decoy("nobody"), NO_HASH);
     }
 
     #[test]

@@ -7,6 +7,7 @@ mod bounds;
 mod browser;
 mod capacity;
 mod catalog;
+mod checks;
 mod clock;
 mod collector;
 mod conditional;
@@ -62,7 +63,7 @@ mod uploading;
 mod uploads;
 mod writer;
 
-use crate::access::{Access, Users};
+use crate::access::{Access, Logins, Users};
 use crate::bounds::Bounds;
 use crate::catalog::Catalog;
 use crate::connections::{Connections, Limits};
@@ -215,8 +216,8 @@ fn serve_metrics(registry: &Arc<Registry>, listener: TcpListener, options: &Opti
 }
 
 /// Reads the users of a file. The user who may read the metrics has to be one of them.
-fn read_users(path: &Path, metrics_user: &Option<String>) -> Result<Users, String> {
-    let users = Users::read(path).map_err(|error| format!("cannot read the users: {}: {error}", path.display()))?;
+fn read_users(path: &Path, metrics_user: &Option<String>, logins: &Arc<Logins>) -> Result<Users, String> {
+    let users = Users::read(path, logins).map_err(|error| format!("cannot read the users: {}: {error}", path.display()))?;
     match metrics_user.as_ref().filter(|user| !users.has(user)) {
         Some(user) => Err(format!("cannot find the user of --metrics-user: {user}: not in {}", path.display())),
         None => Ok(users),
@@ -240,8 +241,8 @@ fn issuer(options: &Options, reloads: &mut Reloads) -> Result<Option<Arc<Issuer>
 fn access(options: &Options, reloads: &mut Reloads) -> Result<Access, Failure> {
     let mut access = Access { issuer: issuer(options, reloads)?, ..Access::default() };
     if let Some(path) = options.htpasswd.clone() {
-        let metrics_user = options.metrics_user.clone();
-        let users = FromFile::new(move || read_users(&path, &metrics_user))?;
+        let (metrics_user, logins) = (options.metrics_user.clone(), Logins::new());
+        let users = FromFile::new(move || read_users(&path, &metrics_user, &logins))?;
         reloads.push(("users", users.clone()));
         access.users = Some(users);
     }

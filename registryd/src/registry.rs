@@ -316,7 +316,8 @@ impl Registry {
         let target = decoded.as_deref().and_then(Target::of);
         let demand = target.as_ref().and_then(|target| Demand::of(&head.method, target));
         let scope = Scope::of(target.as_ref(), demand);
-        let caller = self.access.caller(&head.headers, scope).await?;
+        let client = content.exchange.as_ref().map(|exchange| exchange.connection.client.ip());
+        let caller = self.access.caller(&head.headers, scope, client).await?;
         if let (Some(exchange), Some(user)) = (&content.exchange, caller.user()) {
             exchange.set_user(user);
         }
