@@ -95,8 +95,16 @@ impl Connection {
     /// Makes the state of a connection on which nothing was received.
     pub fn new(client: SocketAddr, idle: Duration) -> Connection {
         let since = Instant::now();
-        let state =
-            State { requests: 0, since, has_head: false, has_length: None, awaited: None, stalled: None, pace: None, is_closing: false };
+        let state = State {
+            requests: 0,
+            since,
+            has_head: false,
+            has_length: None,
+            awaited: None,
+            stalled: None,
+            pace: None,
+            is_closing: false,
+        };
         Connection { client, idle, state: Mutex::new(state), closing: Notify::new() }
     }
 
