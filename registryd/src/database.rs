@@ -2,7 +2,9 @@
 //! uploads, and what is needed to find open uploads after a restart.
 use crate::document::Facts;
 use crate::limits::tenant_of;
+use crate::marks::{self, Marks};
 use crate::upload_name::{Secret, SECRET_LEN};
+use crate::witness::Witness;
 use crate::writer::Change;
 use rusqlite::{params, Connection, ErrorCode, OpenFlags, Transaction, TransactionBehavior};
 use std::collections::{BTreeMap, HashMap};
@@ -147,6 +149,10 @@ pub struct Rows {
 pub struct Database {
     connection: Connection,
     path: PathBuf,
+    marks: Marks,
+    witness: Witness,
+    /// The number of transactions that the witness had when the database was opened.
+    witnessed: u64,
 }
 
 /// Creates the file, if it does not exist, so that other users of the machine cannot read the secret. Returns whether it
@@ -154,31 +160,63 @@ pub struct Database {
 fn create(path: &Path) -> io::Result<bool> {
     match OpenOptions::new().write(true).create_new(true).mode(0o600).open(path) {
         Ok(_) => Ok(false),
-        Err(error) if error.kind() == io::ErrorKind::AlreadyExists => Ok(true),
+        // SQLite would open a file for reading alone that may not be written.
+        Err(error) if error.kind() == io::ErrorKind::AlreadyExists => OpenOptions::new().write(true).open(path).map(|_| true),
         Err(error) => Err(error),
     }
 }
 
 impl Database {
     /// Opens the database of a folder, or makes it. Each commit is on the disk when it returns, unless `is_synced` is false.
-    /// Returns whether it existed before.
-    pub fn open(folder: &Path, is_synced: bool) -> Result<(Database, bool), OpenError> {
+    pub fn open(folder: &Path, is_synced: bool) -> Result<Database, OpenError> {
         let path = folder.join(FILE_NAME);
         let unusable = |error: io::Error| OpenError::new(Problem::Unusable, &path, error);
         let existed = create(&path).map_err(unusable)?;
+        // The witness is read first: another program may commit meanwhile.
+        let witness = Witness::open(folder).map_err(unusable)?;
+        let witnessed = witness.read();
         let of_sqlite = |error| OpenError::of_sqlite(&path, error);
         let flags = OpenFlags::SQLITE_OPEN_READ_WRITE | OpenFlags::SQLITE_OPEN_NO_MUTEX;
         let mut connection = Connection::open_with_flags(&path, flags).map_err(of_sqlite)?;
-        set_up(&connection, is_synced).map_err(of_sqlite)?;
-        let fault = check_or_make(&mut connection).map_err(of_sqlite)?;
-        if let Some(fault) = fault {
+        set_up(&connection).map_err(of_sqlite)?;
+        if let Some(fault) = check_or_make(&mut connection).map_err(of_sqlite)? {
             return Err(OpenError::new(Problem::Damaged, &path, fault));
         }
-        if is_synced {
+        let marks = marks::read(&connection).map_err(of_sqlite)?;
+        if !is_synced {
+            stop_syncs(&connection, &marks).map_err(of_sqlite)?;
+        }
+        if is_synced || !existed {
             // The names of the files have to survive too.
             File::open(folder).and_then(|folder| folder.sync_all()).map_err(unusable)?;
         }
-        Ok((Database { connection, path }, existed))
+        Ok(Database { connection, path, marks, witness, witnessed })
+    }
+
+    /// Returns the marks of the database.
+    pub fn marks(&self) -> &Marks {
+        &self.marks
+    }
+
+    /// Returns the number of transactions that a database of this folder had in addition.
+    pub fn older_by(&self) -> u64 {
+        self.witnessed.saturating_sub(self.marks.commits)
+    }
+
+    /// Notes that the store is about to start, which may cut the last file of the log at the end of its last whole frame. If a crash
+    /// comes before the new end is recorded, the file may be shorter than the recorded one.
+    pub fn loosen_log_end(&mut self) -> Result<(), OpenError> {
+        let loosened = self.marks.log_end.map_or(Ok(()), |end| marks::loosen_log_end(&self.connection, end));
+        loosened.map_err(|error| OpenError::of_sqlite(&self.path, error))
+    }
+
+    /// Notes that all changes up to now are on the disk, and that later ones will be before their replies.
+    pub fn begin_syncs(&mut self) -> rusqlite::Result<()> {
+        if self.marks.is_unsynced {
+            marks::put_unsynced(&self.connection, false)?;
+            self.marks.is_unsynced = false;
+        }
+        Ok(())
     }
 
     /// Returns the content of the database. Makes the secret if there is none.
@@ -239,7 +277,13 @@ impl Database {
                 .prepare_cached("INSERT OR REPLACE INTO tenants (name, recorded) VALUES (?1, ?2)")?
                 .execute(params![tenant, number])?;
         }
-        transaction.commit()
+        let commits = self.marks.commits + 1;
+        marks::put_commits(&transaction, commits)?;
+        transaction.commit()?;
+        self.marks.commits = commits;
+        // A witness that lags only makes an older database look like this one.
+        let _ = self.witness.write(commits);
+        Ok(())
     }
 
     /// Closes the database, so that its folder has one file of it.
@@ -281,13 +325,20 @@ fn manifest_rows(connection: &Connection) -> rusqlite::Result<Vec<ManifestRow>> 
 }
 
 /// Sets how the database writes and checks. Other programs can read it meanwhile, for a backup. The store's lock on the folder
-/// keeps a second registry out.
-fn set_up(connection: &Connection, is_synced: bool) -> rusqlite::Result<()> {
+/// keeps a second registry from writing it.
+fn set_up(connection: &Connection) -> rusqlite::Result<()> {
     connection.busy_timeout(WAIT)?;
     let word = |query: &str| connection.query_row(query, [], |row| row.get::<_, rusqlite::types::Value>(0));
     word("PRAGMA journal_mode = WAL")?;
-    connection.execute_batch(if is_synced { "PRAGMA synchronous = FULL" } else { "PRAGMA synchronous = OFF" })?;
-    connection.execute_batch("PRAGMA foreign_keys = ON")
+    connection.execute_batch("PRAGMA synchronous = FULL; PRAGMA foreign_keys = ON")
+}
+
+/// Syncs no transaction from now on. The mark of it is synced before.
+fn stop_syncs(connection: &Connection, marks: &Marks) -> rusqlite::Result<()> {
+    if !marks.is_unsynced {
+        marks::put_unsynced(connection, true)?;
+    }
+    connection.execute_batch("PRAGMA synchronous = OFF")
 }
 
 /// Checks the database, or makes its tables if it is empty, or adds to those of version 1. Returns what is wrong, if anything is.
@@ -415,6 +466,7 @@ fn make<'c>(
             uploads.end(repo, *number);
             Ok(())
         }
+        Change::KeepLogEnd { end } => marks::put_log_end(transaction, *end),
         Change::PassUpload { .. } | Change::BeginUploads { .. } => Ok(()),
     }
 }
@@ -465,7 +517,7 @@ mod tests {
         }
 
         fn open(&self) -> Database {
-            Database::open(&self.0, true).unwrap().0
+            Database::open(&self.0, true).unwrap()
         }
     }
 

@@ -1,8 +1,20 @@
 //! The ways in which the program ends, and its exit statuses.
 use crate::database::{OpenError, Problem};
+use crate::losses::Loss;
 use std::fmt;
+use std::io;
 use std::os::unix::process::ExitStatusExt;
+use std::path::Path;
 use std::process::ExitStatus;
+
+/// The exit status for a folder that cannot be used.
+const UNUSABLE: u8 = 6;
+
+/// The exit status for a folder or a database that another process has.
+const TAKEN: u8 = 7;
+
+/// The exit status for a log or a database that is damaged, lost or replaced.
+const DAMAGED: u8 = 8;
 
 /// The exit status for a database or a log that cannot be written any more.
 const NOT_WRITTEN: u8 = 9;
@@ -45,6 +57,35 @@ impl Failure {
         Failure { status, text: format!("{what}: blobd ended: {ended}: {advice}") }
     }
 
+    /// A file of the folder cannot be used.
+    pub fn of_folder(what: &str, path: &Path, error: &io::Error) -> Failure {
+        let text = format!("{what}: {}: {error}: see to its rights and its disk", path.display());
+        Failure { status: UNUSABLE, text }
+    }
+
+    /// Another process has the folder.
+    pub fn of_taken_folder() -> Failure {
+        Failure { status: TAKEN, text: "another process has the folder of --data: end that one".to_string() }
+    }
+
+    /// Something that was on the disk is lost.
+    pub fn of_loss(loss: &Loss) -> Failure {
+        let advice = "restore what is missing from a backup, or accept the loss with --accept-loss";
+        Failure { status: DAMAGED, text: format!("data that was on the disk is lost: {loss}: {advice}") }
+    }
+
+    /// A file that the programs have open is gone from its place.
+    pub fn of_gone(path: &Path) -> Failure {
+        let text = format!("{} was removed, moved or replaced: put it back before the next start", path.display());
+        Failure { status: NOT_WRITTEN, text }
+    }
+
+    /// The log could not be synced.
+    pub fn of_log(error: &io::Error) -> Failure {
+        let advice = "make room or replace the disk, and start again";
+        Failure { status: NOT_WRITTEN, text: format!("the log cannot be synced: {error}: {advice}") }
+    }
+
     /// A transaction of the database failed.
     pub fn of_database(why: &str) -> Failure {
         let advice = "make room or replace the disk, and start again";
@@ -73,9 +114,9 @@ impl From<std::io::Error> for Failure {
 impl From<OpenError> for Failure {
     fn from(error: OpenError) -> Failure {
         let (status, advice) = match error.problem {
-            Problem::Unusable => (6, "see to its rights and its disk"),
-            Problem::Taken => (7, "another process has it: end that one"),
-            Problem::Damaged => (8, "restore a backup"),
+            Problem::Unusable => (UNUSABLE, "see to its rights and its disk"),
+            Problem::Taken => (TAKEN, "another process has it: end that one"),
+            Problem::Damaged => (DAMAGED, "restore a backup"),
         };
         Failure { status, text: format!("{error}: {advice}") }
     }

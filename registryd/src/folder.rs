@@ -1,6 +1,7 @@
 //! The folder of a registry that survives restarts: its files, and the room on its disk.
 use crate::database::FILE_NAME;
 use crate::fault::Fault;
+use crate::log_end::is_of_log;
 use std::ffi::CString;
 use std::io;
 use std::os::unix::ffi::OsStrExt;
@@ -21,12 +22,6 @@ pub struct Folder {
 
 /// The file by which the store is asked to rewrite its log.
 const REWRITE: &str = "rewrite";
-
-/// Returns whether a file with this name is part of the store's log.
-fn is_of_log(name: &str) -> bool {
-    let number = name.strip_prefix("log.").or_else(|| name.strip_prefix("base."));
-    name == "log" || number.map_or(false, |number| !number.is_empty() && number.bytes().all(|byte| byte.is_ascii_digit()))
-}
 
 /// Returns the length of the store's log in a folder, in bytes, or `None` if there is no log.
 pub fn log_length(path: &Path) -> Option<u64> {
@@ -50,6 +45,10 @@ fn free_bytes(path: &Path) -> io::Result<u64> {
 impl Folder {
     pub fn new(path: PathBuf, min_free: u64) -> Folder {
         Folder { path, min_free, last: Mutex::default() }
+    }
+
+    pub fn path(&self) -> &Path {
+        &self.path
     }
 
     /// Returns the number of free bytes, by a look that is at most `LOOK` old. Returns `None` if the system has no answer.

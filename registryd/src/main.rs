@@ -24,13 +24,17 @@ mod framing;
 mod head_lines;
 mod in_flight;
 mod limits;
+mod log_end;
 mod loose;
+mod losses;
 mod manifests;
+mod marks;
 mod media_type;
 mod memory;
 mod metrics;
 mod namers;
 mod numbers;
+mod opening;
 mod options;
 mod pages;
 mod path;
@@ -61,6 +65,8 @@ mod undo;
 mod upload_name;
 mod uploading;
 mod uploads;
+mod watching;
+mod witness;
 mod writer;
 
 use crate::access::{Access, Logins, Users};
@@ -73,6 +79,7 @@ use crate::in_flight::Memory;
 use crate::limits::Repositories;
 use crate::loose::LooseBlobs;
 use crate::metrics::Metrics;
+use crate::opening::Opened;
 use crate::options::Options;
 use crate::provenance::Provenance;
 use crate::registry::Registry;
@@ -84,12 +91,13 @@ use crate::tls::Tls;
 use crate::tokens::{Issuer, Key};
 use crate::upload_name::Secret;
 use crate::uploads::Uploads;
+use crate::watching::Watch;
 use crate::writer::{Writer, WriterThread};
 use clap::{CommandFactory, FromArgMatches};
 use std::collections::HashMap;
 use std::io;
 use std::net::SocketAddr;
-use std::path::Path;
+use std::path::{Path, PathBuf};
 use std::process::ExitCode;
 use std::sync::Arc;
 use std::time::Duration;
@@ -272,6 +280,8 @@ struct Started {
     child: Child,
     /// The writer of the database and its thread, if there is a database.
     database: Option<(Arc<Writer>, WriterThread)>,
+    /// The folder, if each change is on the disk before its reply.
+    synced: Option<PathBuf>,
 }
 
 /// Returns the bounds on the manifests and tags of each tenant. A tenant that has more than a default has no such bound.
@@ -294,6 +304,17 @@ fn bounds_by_tenant(options: &Options, tags: &Tags) -> HashMap<String, Bounds> {
     by_tenant
 }
 
+/// Opens the folder and its database, if there is a folder.
+async fn open_folder(options: &Options) -> Result<Option<Opened>, Failure> {
+    match options.data.clone() {
+        Some(folder) => {
+            let options = options.clone();
+            startup::blocking(move || opening::open(&options, folder)).await.map(Some)
+        }
+        None => Ok(None),
+    }
+}
+
 /// Starts the store, reads the database if there is one, and makes the registry over both.
 async fn start(options: &Options, access: Access) -> Result<Started, Failure> {
     let provenance = Provenance::of(&options.blobd);
@@ -302,11 +323,11 @@ async fn start(options: &Options, access: Access) -> Result<Started, Failure> {
     metrics.set_verified(provenance.is_proved());
     let limit = Duration::from_secs(options.call_s);
     let writer = options.data.as_ref().map(|_| Writer::new(metrics.add_folder(options.is_durable()), limit));
-    let had_log = options.data.as_ref().map_or(false, |path| folder::log_length(path).is_some());
+    let opened = open_folder(options).await?;
     capacity::warn_of_sums(&options.tenants(), options.slots);
     let (store, mut child) = shares::start_store(options, writer.clone()).await?;
-    let kept = match &options.data {
-        Some(folder) => match startup::recover(&store, folder.clone(), options.is_durable(), had_log).await {
+    let kept = match opened {
+        Some(opened) => match startup::recover(&store, opened).await {
             Ok(kept) => Some(kept),
             Err(_) if store.has_ended() => return Err(process::why_gone(&mut child).await),
             Err(failure) => {
@@ -354,7 +375,7 @@ async fn start(options: &Options, access: Access) -> Result<Started, Failure> {
         started: status::now(),
     });
     work_in_background(&registry, options);
-    Ok(Started { registry, child, database })
+    Ok(Started { registry, child, database, synced: options.data.clone().filter(|_| options.is_durable()) })
 }
 
 /// Starts the garbage collector, the expiry of uploads and of manifests without tags, and the reserve of memory.
@@ -395,6 +416,16 @@ async fn failed(database: &Option<(Arc<Writer>, WriterThread)>) -> Failure {
     }
 }
 
+/// Looks at the folder until something is wrong with it, and returns what. It never returns without a folder.
+async fn watch_folder(registry: &Registry, database: &Option<(Arc<Writer>, WriterThread)>, synced: &Option<PathBuf>) -> Failure {
+    let folder = match &registry.folder {
+        Some(folder) => folder.path().to_path_buf(),
+        None => return std::future::pending().await,
+    };
+    let writer = database.as_ref().filter(|_| synced.is_some()).map(|(writer, _)| writer.clone());
+    Watch::new(folder, writer).run().await
+}
+
 /// Asks the store to rewrite its log after each signal. A signal that arrives during the start is obeyed after it.
 async fn rewrite_on_signal(mut asked: Signal, registry: Arc<Registry>) {
     while asked.recv().await.is_some() {
@@ -414,7 +445,7 @@ async fn serve(
     connections: Arc<Connections>,
     mut signals: Signals,
 ) -> Result<(), Failure> {
-    let Started { registry, mut child, database } = started;
+    let Started { registry, mut child, database, synced } = started;
     let (stop, stopped) = watch::channel(());
     let answering = registry.clone();
     let answer = move |request| answering.clone().serve(request);
@@ -426,6 +457,7 @@ async fn serve(
         () = registry.store.ended() => return Err(process::why_gone(&mut child).await),
         status = child.wait() => return Err(Failure::of_blobd("the store is gone", status?)),
         failure = failed(&database) => return Err(failure),
+        failure = watch_folder(&registry, &database, &synced) => return Err(failure),
         () = signals.recv() => {}
     }
     tracing::info!("stopping");
@@ -442,7 +474,10 @@ async fn serve(
     // The database ends first: the store's lock on the folder protects it.
     let mut ended = Ok(());
     if let Some((writer, thread)) = database {
-        ended = writer.end(thread).await.map_err(|why| Failure::of_database(&why));
+        if let Some(folder) = synced {
+            ended = watching::keep_last_end(folder, writer.clone()).await;
+        }
+        ended = ended.and(writer.end(thread).await.map_err(|why| Failure::of_database(&why)));
     }
     registry.store.end(child).await.and(ended)?;
     tracing::info!("stopped");

@@ -26,7 +26,7 @@ pub enum SyncPolicy {
 }
 
 /// Container registry (OCI Distribution Specification 1.1). Without --data, all data is lost when the program exits.
-#[derive(Debug, Parser)]
+#[derive(Clone, Debug, Parser)]
 #[command(name = "registryd", version)]
 pub struct Options {
     /// Listen on this address
@@ -89,6 +89,9 @@ pub struct Options {
     /// Cut a damaged log at this byte and start
     #[arg(long, value_name = "BYTE", requires = "data")]
     pub accept_loss_after: Option<u64>,
+    /// Drop what a log or database has lost and start
+    #[arg(long, requires = "data")]
+    pub accept_loss: bool,
     /// Accept no content if less is free [default: 67108864]
     #[arg(long, value_name = "BYTES", requires = "data")]
     pub min_free: Option<u64>,
@@ -292,8 +295,9 @@ mod tests {
         let never = parsed(&["--data", "d", "--sync", "never", "--accept-loss-after", "7", "--min-free", "0", "a=1"]);
         assert_eq!(never.store_options(), ["--data", "d", "--sync", "never", "--accept-loss-after", "7"]);
         assert_eq!((never.is_durable(), never.min_free()), (false, 0));
-        for words in [["--sync", "each"], ["--accept-loss-after", "1"], ["--min-free", "1"]] {
-            assert!(Options::try_parse_from([&["registryd"], &words[..], &["a=1"]].concat()).is_err(), "{words:?}");
+        let words: [&[&str]; 4] = [&["--sync", "each"], &["--accept-loss-after", "1"], &["--accept-loss"], &["--min-free", "1"]];
+        for words in words {
+            assert!(Options::try_parse_from([&["registryd"], words, &["a=1"]].concat()).is_err(), "{words:?}");
         }
     }
 

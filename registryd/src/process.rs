@@ -10,11 +10,13 @@ const END_TIME: Duration = Duration::from_secs(8);
 
 /// Starts `blobd` in a process group of its own, ignoring the signals that stop this program. So a signal to all processes
 /// of a terminal or service does not stop the store before the requests. Closing its connections stops it, and SIGKILL does.
+/// Other users of the machine cannot read the files that it makes.
 pub fn spawn(mut command: Command) -> io::Result<Child> {
     command.stdin(Stdio::null()).kill_on_drop(true);
     // SAFETY: the closure makes only calls that are permitted between `fork` and `exec` (POSIX, 2.4.3).
     unsafe {
         command.pre_exec(|| {
+            libc::umask(0o077);
             for number in [libc::SIGINT, libc::SIGTERM] {
                 libc::signal(number, libc::SIG_IGN);
             }

@@ -9,6 +9,9 @@ use crate::document::{self, Facts};
 use crate::ending::Failure;
 use crate::frames::{Command, Reason, Refusal, Request};
 use crate::limits::{tenant_of, MAX_UPLOADS};
+use crate::log_end::LogEnd;
+use crate::losses::Loss;
+use crate::opening::Opened;
 use crate::store::{Store, StoreUnavailable};
 use crate::tags::Tags;
 use crate::undo::Undo;
@@ -56,13 +59,12 @@ struct Findings {
     have_numbers_returned: bool,
 }
 
-/// Opens the database of a folder, compares it with the store, and corrects it.
-pub async fn recover(store: &Store, folder: PathBuf, is_synced: bool, had_log: bool) -> Result<Kept, Failure> {
-    let (mut database, mut rows) = blocking(move || {
-        let (mut database, existed) = Database::open(&folder, is_synced)?;
-        if had_log && !existed {
-            tracing::warn!("the folder has a log but had no database: tags are unknown, manifests are found by digest");
-        }
+/// Compares the database of a folder with the store, and corrects it. Ends the start if the store has lost something that was on
+/// the disk.
+pub async fn recover(store: &Store, opened: Opened) -> Result<Kept, Failure> {
+    let on_loss = opened.on_loss();
+    let Opened { folder, mut database, is_synced, .. } = opened;
+    let (database, mut rows) = blocking(move || {
         let rows = database.read()?;
         Ok((database, rows))
     })
@@ -70,6 +72,9 @@ pub async fn recover(store: &Store, folder: PathBuf, is_synced: bool, had_log: b
     let unavailable = |StoreUnavailable| Failure::new("the store did not reply while the registry started");
     let mut findings = Findings::default();
     let missing = missing_manifests(store, &rows.manifests).await.map_err(unavailable)?;
+    if !missing.is_empty() {
+        on_loss.meet(&Loss::of_manifests(&missing, &rows.tags))?;
+    }
     findings.changes.extend(missing.iter().map(ManifestRow::removal));
     drop_missing(&mut rows, &missing);
     findings.changes.extend(complete(store, &mut rows.manifests).await.map_err(unavailable)?);
@@ -77,34 +82,55 @@ pub async fn recover(store: &Store, folder: PathBuf, is_synced: bool, had_log: b
     for (tenant, repos) in by_tenant(store, &rows.repositories) {
         find_uploads(store, tenant, &repos, &rows, &mut findings).await.map_err(unavailable)?;
     }
+    if findings.have_numbers_returned {
+        on_loss.meet(&Loss::Uploads)?;
+    }
     findings.changes.extend(remove_unused(store, &mut rows.repositories).await.map_err(unavailable)?);
     if !missing.is_empty() {
         tracing::warn!(count = missing.len(), "dropped manifests that the store does not have, with their tags");
     }
-    let Findings { changes, uploads, recorded: found, have_numbers_returned } = findings;
-    let mut secret = rows.secret;
     let mut recorded = rows.recorded.clone();
-    recorded.extend(found.iter().cloned());
-    if have_numbers_returned {
-        tracing::warn!("the store has lost uploads: clients have to begin all open uploads again");
-    }
-    let (database, secret) = blocking(move || {
-        let failed = |error: rusqlite::Error| Failure::of_database(&error.to_string());
-        // The number is recorded after the secret is another one. If a crash comes between, the next start makes one again.
-        if have_numbers_returned {
-            secret = database.renew_secret().map_err(failed)?;
-        }
-        database.commit(changes.iter(), &found, now()).map_err(failed)?;
-        Ok((database, secret))
-    })
-    .await?;
+    recorded.extend(findings.recorded.iter().cloned());
+    let Findings { changes, uploads, recorded: found, have_numbers_returned } = findings;
+    let correction = Correction { changes, recorded: found, have_numbers_returned, folder: is_synced.then_some(folder) };
+    let known = rows.secret;
+    let (database, secret) = blocking(move || correction.make(database, known)).await?;
     let tags = tags_of(&rows);
     let Rows { repositories, loose_blobs, .. } = rows;
     Ok(Kept { database, secret, tags, repositories, uploads, loose_blobs, recorded })
 }
 
+/// The changes of the database that a start makes.
+struct Correction {
+    changes: Vec<Change>,
+    recorded: Vec<(String, u32)>,
+    have_numbers_returned: bool,
+    /// The folder, if each change is on the disk before its reply.
+    folder: Option<PathBuf>,
+}
+
+impl Correction {
+    /// Makes the changes, and returns the secret, which is another one if numbers are used again.
+    fn make(mut self, mut database: Database, mut secret: Secret) -> Result<(Database, Secret), Failure> {
+        let failed = |error: rusqlite::Error| Failure::of_database(&error.to_string());
+        // The number is recorded after the secret is another one. If a crash comes between, the next start makes one again.
+        if self.have_numbers_returned {
+            secret = database.renew_secret().map_err(failed)?;
+        }
+        if let Some(folder) = &self.folder {
+            let end = LogEnd::synced(folder).map_err(|error| Failure::of_folder("cannot sync the log", folder, &error))?;
+            self.changes.extend(end.map(|end| Change::KeepLogEnd { end }));
+        }
+        database.commit(self.changes.iter(), &self.recorded, now()).map_err(failed)?;
+        if self.folder.is_some() {
+            database.begin_syncs().map_err(failed)?;
+        }
+        Ok((database, secret))
+    }
+}
+
 /// Runs work that waits for the disk in a thread of its own.
-async fn blocking<T: Send + 'static>(work: impl FnOnce() -> Result<T, Failure> + Send + 'static) -> Result<T, Failure> {
+pub async fn blocking<T: Send + 'static>(work: impl FnOnce() -> Result<T, Failure> + Send + 'static) -> Result<T, Failure> {
     let done = tokio::task::spawn_blocking(work).await;
     done.unwrap_or_else(|_| Err(Failure::new("a bug in this program stopped the start")))
 }

@@ -4,6 +4,7 @@ use crate::clock::now;
 use crate::database::Database;
 use crate::document::Facts;
 use crate::limits::tenant_of;
+use crate::log_end::LogEnd;
 use crate::metrics::Commits;
 use crate::numbers::Numbers;
 use crate::tags::Tags;
@@ -86,6 +87,10 @@ pub enum Change {
     BeginUploads {
         repo: String,
         number: u32,
+    },
+    /// The log is on the disk up to this end.
+    KeepLogEnd {
+        end: LogEnd,
     },
 }
 
@@ -327,7 +332,7 @@ mod tests {
     fn started(folder: &std::path::Path) -> (Arc<Writer>, WriterThread, Arc<Tags>) {
         let writer = Writer::new(Commits::new(), Duration::from_secs(60));
         let tags = Arc::new(Tags::default());
-        let (database, _) = Database::open(folder, true).unwrap();
+        let database = Database::open(folder, true).unwrap();
         let thread = writer.start(database, tags.clone(), HashMap::new()).unwrap();
         (writer, thread, tags)
     }
@@ -353,7 +358,7 @@ mod tests {
         writer.note(Change::OpenUpload { repo: "other/web".to_string(), number: 9 });
         assert_eq!(writer.end(thread).await, Ok(()));
         assert_eq!(writer.write(put("v2")).await, Err(DatabaseUnavailable));
-        let rows = Database::open(&folder, true).unwrap().0.read().unwrap();
+        let rows = Database::open(&folder, true).unwrap().read().unwrap();
         assert_eq!((rows.tags.len(), rows.manifests.len(), rows.uploads.len()), (0, 1, 2));
         assert_eq!(rows.recorded, [("acme".to_string(), 2), ("other".to_string(), 7)].into());
         std::fs::remove_dir_all(folder).unwrap();

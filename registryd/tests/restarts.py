@@ -276,7 +276,7 @@ def a_tag_without_its_manifest_is_dropped():
             rows.execute("INSERT INTO manifests (repository, digest, media_type) VALUES ('acme/one', ?, ?)", (missing, MANIFEST))
             rows.executemany("INSERT INTO tags VALUES ('acme/one', ?, ?)", [("old", missing), ("older", missing)])
             rows.execute("INSERT INTO manifests (repository, digest, media_type) VALUES ('nobody/one', ?, ?)", (missing, MANIFEST))
-        with serving("--data", path) as server:
+        with serving("--data", path, "--accept-loss") as server:
             client = server.client()
             assert "dropped manifests that the store does not have, with their tags count=2" in server.logged(), server.logged()
             assert tags_of(client, "acme/one") == ["v1"] and pulled(client, "acme/one", "old") == 404
@@ -355,7 +355,7 @@ def an_interrupted_push_of_a_referrer_is_found():
             # A referrer that the store does not have.
             rows.execute("INSERT INTO manifests (repository, digest, media_type, size, subject) VALUES ('acme/one', ?, ?, 1, ?)",
                          (sha256(b"missing"), MANIFEST, sha256(image)))
-        with serving("--data", path) as server:
+        with serving("--data", path, "--accept-loss") as server:
             client = server.client()
             assert page(client, f"/v2/acme/one/referrers/{sha256(image)}") == ([], None)
             assert pulled(client, "acme/one", sha256(referrer)) == (referrer, MANIFEST)
@@ -369,9 +369,9 @@ def a_database_that_is_lost_costs_the_tags():
             image, at = pushed(server.client()), opened(server.client())
             by_signal(server)
         os.remove(f"{path}/registry.db")
-        with serving("--data", path) as server:
+        with serving("--data", path, "--accept-loss") as server:
             client = server.client()
-            assert "the folder has a log but had no database" in server.logged()
+            assert "accepted a loss: registry.db is missing or empty" in server.logged()
             assert pulled(client, "acme/one", "v1") == 404 and pulled(client, "acme/one", sha256(image)) == (image, MANIFEST)
             assert client.ask("GET", at).status == 404
 
@@ -493,7 +493,7 @@ def the_folder_is_measured():
             assert server.metric("registryd_database_commits_total") > before
             assert os.stat(f"{path}/registry.db").st_mode & 0o77 == 0
             by_signal(server)
-        assert sorted(os.listdir(path)) == ["lock", "log.1", "registry.db"]
+        assert sorted(os.listdir(path)) == ["lock", "log.1", "registry.commits", "registry.db"]
     with serving() as server:
         assert server.metric("registryd_durable") == 0
         text = server.client().ask("GET", "/metrics").body

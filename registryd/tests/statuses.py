@@ -12,10 +12,10 @@ from server import BLOBD, MANIFEST, REGISTRYD, serving, sha256
 START, DELETE_MANIFEST = "1", "10"
 
 
-def ended(*words, tenants=("acme=1000000000", "other=1000000000", "poor=1000000")):
+def ended(*words, tenants=("acme=1000000000", "other=1000000000", "poor=1000000"), programs=(REGISTRYD, BLOBD), **options):
     """Starts a registry that is expected to end, and returns its status and its log."""
-    command = [REGISTRYD, "--listen", "127.0.0.1:0", "--blobd", BLOBD, *words, *tenants]
-    done = subprocess.run(command, stderr=subprocess.PIPE, text=True, timeout=60)
+    command = [programs[0], "--listen", "127.0.0.1:0", "--blobd", programs[1], *words, *tenants]
+    done = subprocess.run(command, stderr=subprocess.PIPE, text=True, timeout=60, **options)
     return done.returncode, done.stderr
 
 
