@@ -5,6 +5,7 @@ mod appending;
 mod blobs;
 mod bounds;
 mod browser;
+mod cached;
 mod capacity;
 mod catalog;
 mod checks;

@@ -1,5 +1,6 @@
 //! The start of a registry with a folder, before its store starts: makes the folder, opens the database, and finds out whether
 //! the database or the log was lost or replaced. Nothing is changed if it was.
+use crate::cached;
 use crate::database::{self, Database};
 use crate::ending::Failure;
 use crate::folder;
@@ -87,13 +88,16 @@ fn lock(folder: &Path) -> Result<Option<File>, Failure> {
     }
 }
 
-/// Opens the folder of the options.
+/// Opens the folder of the options. Drops its cached pages before anything reads them.
 pub fn open(options: &Options, folder: PathBuf) -> Result<Opened, Failure> {
     let is_synced = options.is_durable();
     make(&folder).map_err(|error| Failure::of_folder("cannot make the folder", &folder, &error))?;
     warn_of_access(&folder);
     // It is closed before the store starts, which locks the folder itself.
     let _lock = lock(&folder)?;
+    if is_synced {
+        cached::drop_pages(&folder).map_err(|(path, error)| Failure::of_folder("cannot sync", &path, &error))?;
+    }
     if options.accept_loss {
         tracing::warn!("--accept-loss is given: a loss that this start finds is accepted; remove the option afterwards");
     }

@@ -1,10 +1,11 @@
 #!/usr/bin/env python3
-"""Tests how a registry treats its folder: the rights of what it makes, files that are removed or replaced while it runs, and files that it may not
-write."""
-import os, shutil, stat, tempfile
+"""Tests how a registry treats its folder: the rights of what it makes, files that are removed or replaced while it runs, files that it may not
+write, and what the system has cached of files that could not be written to the disk."""
+import ctypes, mmap, os, pathlib, shutil, stat, tempfile
 
+from crash.paths import build_shim, log_of
 from playing import play
-from restarts import by_signal, folder, pulled, pushed
+from restarts import by_signal, folder, pulled, push, pushed
 from server import BLOBD, MANIFEST, REGISTRYD, serving
 from statuses import check, ended
 
@@ -90,9 +91,53 @@ def a_file_of_another_user():
         check(ended("--data", path, programs=programs, preexec_fn=as_nobody), 6, "registry.db", "ermission denied", "see to its rights")
 
 
+def cached(path):
+    """Returns the number of pages of a file that the system has cached, and of all its pages."""
+    libc = ctypes.CDLL(None, use_errno=True)
+    size = os.path.getsize(path)
+    pages = -(-size // mmap.PAGESIZE)
+    with open(path, "rb") as file:
+        mapped = mmap.mmap(file.fileno(), size, access=mmap.ACCESS_COPY)
+        found = (ctypes.c_ubyte * pages)()
+        start = ctypes.addressof(ctypes.c_char.from_buffer(mapped))
+        assert libc.mincore(ctypes.c_void_p(start), ctypes.c_size_t(size), found) == 0, os.strerror(ctypes.get_errno())
+    return sum(page & 1 for page in found), pages
+
+
+def the_cache_is_dropped_before_the_start():
+    """A store that ends at once shows what the registry has dropped."""
+    with folder() as path:
+        with serving("--data", path) as server:
+            for number in range(3):
+                push(server.client(), "acme/one", os.urandom(2_000_000))
+            by_signal(server)
+        first = log_of(path).paths[0]
+        first.read_bytes()
+        found, pages = cached(first)
+        assert found == pages > 200, (found, pages)
+        check(ended("--data", path, programs=(REGISTRYD, "/bin/false")), 1, "blobd ended")
+        found, pages = cached(first)
+        assert found < pages / 4, (found, pages)
+
+
+def a_file_that_cannot_be_synced():
+    """A sync that the registry makes before the store starts fails."""
+    with folder() as path, tempfile.TemporaryDirectory() as room:
+        with serving("--data", path) as server:
+            image = pushed(server.client())
+            by_signal(server)
+        shim = build_shim(pathlib.Path(room))
+        failing = {**os.environ, "LD_PRELOAD": str(shim), "CRASH_FAIL_SYNC": "1"}
+        check(ended("--data", path, env=failing), 6, f"cannot sync: {path}/log.1: Input/output error", "see to its rights and its disk")
+        with serving("--data", path) as server:
+            assert pulled(server.client(), "acme/one", "v1") == (image, MANIFEST)
+            by_signal(server)
+
+
 def main():
     play("folders", [
-        files_are_private, a_file_that_is_gone_ends_the_programs, a_file_of_another_user])
+        files_are_private, a_file_that_is_gone_ends_the_programs, a_file_of_another_user, the_cache_is_dropped_before_the_start,
+        a_file_that_cannot_be_synced])
 
 
 if __name__ == "__main__":
