@@ -55,6 +55,13 @@ impl Catalog {
         }
     }
 
+    /// Records the time, by which the ages of manifests count.
+    pub fn record_time(&self) {
+        if let Some(writer) = &self.writer {
+            writer.note(Change::KeepTime);
+        }
+    }
+
     /// Removes a tag. Returns whether it was there.
     pub async fn remove_tag(&self, repo: &str, tag: &str) -> Result<bool, DatabaseUnavailable> {
         let writer = match &self.writer {

@@ -278,7 +278,7 @@ impl Database {
                 .execute(params![tenant, number])?;
         }
         let commits = self.marks.commits + 1;
-        marks::put_commits(&transaction, commits)?;
+        marks::put_commit(&transaction, commits, now)?;
         transaction.commit()?;
         self.marks.commits = commits;
         // A witness that lags only makes an older database look like this one.
@@ -467,7 +467,7 @@ fn make<'c>(
             Ok(())
         }
         Change::KeepLogEnd { end } => marks::put_log_end(transaction, *end),
-        Change::PassUpload { .. } | Change::BeginUploads { .. } => Ok(()),
+        Change::PassUpload { .. } | Change::BeginUploads { .. } | Change::KeepTime => Ok(()),
     }
 }
 

@@ -341,6 +341,9 @@ async fn start(options: &Options, access: Access) -> Result<Started, Failure> {
     let secret = kept.as_ref().map_or_else(Secret::random, |kept| Ok(kept.secret))?;
     let uploads = Uploads::new(secret, writer.clone());
     let repositories = Repositories::recorded_by(writer.clone());
+    if kept.is_none() {
+        clock::begin(None);
+    }
     let (mut tags, mut database, mut loose_blobs) = (Arc::default(), None, Vec::new());
     if let (Some(kept), Some(writer)) = (kept, &writer) {
         for upload in &kept.uploads {

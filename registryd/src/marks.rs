@@ -10,6 +10,8 @@ pub struct Marks {
     pub log_end: Option<LogEnd>,
     /// The number of transactions.
     pub commits: u64,
+    /// The time of the last transaction, in seconds since 1970.
+    pub time: Option<u64>,
     /// Whether a start since the last one with syncs had none, so that a crash may have lost anything.
     pub is_unsynced: bool,
 }
@@ -31,8 +33,9 @@ pub fn read(connection: &Connection) -> rusqlite::Result<Marks> {
     let log_end: Option<Vec<u8>> = setting(connection, "log_end")?;
     let commits: Option<i64> = setting(connection, "commits")?;
     let unsynced: Option<i64> = setting(connection, "unsynced")?;
+    let time = setting::<i64>(connection, "time")?.and_then(|time| u64::try_from(time).ok());
     let log_end = log_end.and_then(|bytes| LogEnd::from_bytes(&bytes));
-    Ok(Marks { log_end, commits: commits.unwrap_or(0) as u64, is_unsynced: unsynced == Some(1) })
+    Ok(Marks { log_end, commits: commits.unwrap_or(0) as u64, time, is_unsynced: unsynced == Some(1) })
 }
 
 /// Writes an end of the log that is on the disk.
@@ -45,9 +48,10 @@ pub fn loosen_log_end(connection: &Connection, end: LogEnd) -> rusqlite::Result<
     put_log_end(connection, LogEnd { length: 0, ..end })
 }
 
-/// Writes the number of transactions.
-pub fn put_commits(connection: &Connection, commits: u64) -> rusqlite::Result<()> {
-    put(connection, "commits", &(commits as i64))
+/// Writes the number of transactions and the time of the last one, in seconds since 1970.
+pub fn put_commit(connection: &Connection, commits: u64, time: u64) -> rusqlite::Result<()> {
+    put(connection, "commits", &(commits as i64))?;
+    put(connection, "time", &(time as i64))
 }
 
 /// Writes whether changes are made without syncs from now on.

@@ -1,12 +1,15 @@
 //! Manifests without a tag: their list, and their deletion after some time, with that of their blobs.
-use crate::clock::now;
+use crate::clock::{self, now};
 use crate::fault::Fault;
 use crate::manifests::delete_manifest;
 use crate::pages::{page_response, Page, WantedPage};
 use crate::registry::{HandlerResult, Registry};
 use crate::tags::{Removal, Untagged};
 use serde_json::{json, Value};
-use std::time::Duration;
+use std::time::{Duration, Instant};
+
+/// The pause between two records of the time. After a crash, manifests are younger by as much as was not recorded.
+const TIME_RECORDED: Duration = Duration::from_secs(60);
 
 /// Returns the time that an argument in hours means.
 ///
@@ -28,6 +31,7 @@ fn position(untagged: &Untagged) -> String {
 /// Returns the description of a manifest for the list.
 fn description(untagged: &Untagged) -> Value {
     let Untagged { repo, digest, media_type, size, since, held_by } = untagged;
+    let since = clock::of_day(*since);
     json!({
         "repository": repo, "digest": digest, "mediaType": media_type, "size": size, "since": since, "heldBy": held_by
     })
@@ -51,7 +55,12 @@ impl Registry {
     /// time, until the store ends.
     pub async fn keep_untagged(&self, time: Duration) {
         let rest = (time / 60).clamp(Duration::from_millis(100), Duration::from_secs(60));
+        let mut recorded = Instant::now();
         while !self.store.has_ended() {
+            if recorded.elapsed() >= TIME_RECORDED {
+                recorded = Instant::now();
+                self.tags.record_time();
+            }
             for repo in self.tags.names() {
                 self.delete_unheld(&repo, now().saturating_sub(time.as_secs())).await;
             }

@@ -3,7 +3,7 @@
 //! The store is asked about each manifest and each open upload. So after any crash no tag and no list of referrers names a
 //! missing manifest, and each open upload has a name and is abandoned if nobody continues it. Empty repositories are
 //! removed.
-use crate::clock::now;
+use crate::clock::{self, now};
 use crate::database::{Database, ManifestRow, Rows, UploadRow};
 use crate::document::{self, Facts};
 use crate::ending::Failure;
@@ -69,6 +69,7 @@ pub async fn recover(store: &Store, opened: Opened) -> Result<Kept, Failure> {
         Ok((database, rows))
     })
     .await?;
+    clock::begin(database.marks().time.or_else(|| rows.manifests.iter().map(|row| row.since).max()));
     let unavailable = |StoreUnavailable| Failure::new("the store did not reply while the registry started");
     let mut findings = Findings::default();
     let missing = missing_manifests(store, &rows.manifests).await.map_err(unavailable)?;

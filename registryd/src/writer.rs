@@ -92,6 +92,8 @@ pub enum Change {
     KeepLogEnd {
         end: LogEnd,
     },
+    /// Only the time of the transaction is recorded.
+    KeepTime,
 }
 
 /// What a change did to the tables of this process.

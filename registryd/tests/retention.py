@@ -1,6 +1,6 @@
 #!/usr/bin/env python3
 """Tests the list of manifests without tags, and their deletion after some time, with that of their blobs."""
-import concurrent.futures, json, os, tempfile, time, urllib.request
+import concurrent.futures, contextlib, json, os, sqlite3, tempfile, time, urllib.request
 
 from playing import Asking, calls, play, serving_stub, until
 from referrers import artifact, descriptor, index, put, referrers, repository
@@ -247,8 +247,8 @@ def times_survive_a_restart():
             put(client, "acme/one", index(), "v1")
             before, _ = untagged(client)
             assert len(before) == 2, before
+            time.sleep(SECONDS)
             assert server.end() == 0
-        time.sleep(SECONDS)
         with serving(*words, *KEEP) as server:
             client = server.client()
             assert until(lambda: not is_there(client, "acme/one", image), 2), "the time began anew"
@@ -263,10 +263,37 @@ def times_survive_a_restart():
             assert list(found) == [("acme/one", sha256(artifact(image)))], found
 
 
+def a_clock_that_jumps_deletes_nothing():
+    """All times that were recorded are a year old, as if the clock of this start were a year ahead, or as if it had been behind before."""
+    if "WITH_FOLDER" in os.environ:
+        return
+    year = 365 * 24 * 3600
+    for changes in (["UPDATE settings SET value = value - ? WHERE name = 'time'"], ["DELETE FROM settings WHERE name = 'time' AND ? > 0"]):
+        for ahead in (year, -year):
+            with tempfile.TemporaryDirectory() as path:
+                words = ("--data", f"{path}/registry")
+                with serving(*words) as server:
+                    repository(server.client(), "acme/one")
+                    put(server.client(), "acme/one", index(), "v1")
+                    before, _ = untagged(server.client())
+                    assert server.end() == 0
+                with contextlib.closing(sqlite3.connect(f"{path}/registry/registry.db")) as rows, rows:
+                    for change in [*changes, "UPDATE manifests SET since = since - ?"]:
+                        rows.execute(change, [ahead] if ahead > 0 or "DELETE" not in change else [year])
+                with serving(*words, "--keep-untagged", "1") as server:
+                    time.sleep(0.5)
+                    found, _ = untagged(server.client())
+                    assert list(found) == list(before) and len(found) == 1, (ahead, found)
+                    for key, one in found.items():
+                        assert abs(one["since"] - before[key]["since"]) < 30, (ahead, one, before)
+                    assert "deleted a manifest" not in server.logged()
+
+
 def what_takes_time():
     """Runs the tests that wait most of the time, each with a registry of its own, at the same time."""
     tests = [what_nothing_holds_is_deleted, what_clients_ask_for_stays, blobs_go_with_the_last_manifest, blobs_are_known_after_a_restart,
-             a_moved_tag_begins_the_time_of_the_manifest_that_it_leaves, a_repository_takes_more_pushes_of_one_tag_than_it_has_manifests, times_survive_a_restart]
+             a_moved_tag_begins_the_time_of_the_manifest_that_it_leaves, a_repository_takes_more_pushes_of_one_tag_than_it_has_manifests,
+             times_survive_a_restart, a_clock_that_jumps_deletes_nothing]
     def run(test):
         try:
             test()
