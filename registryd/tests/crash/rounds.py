@@ -359,7 +359,8 @@ class Lane:
             self.works(server, "never", MOST_TIME, "instant")
             self.ended(server)
             self.loses((part,))
-            server = self.starts()
+            # The start may find the loss by itself, and would end.
+            server = self.starts("--accept-loss")
             try:
                 server.is_ready()
                 missed = self.looks(server)
