@@ -67,13 +67,14 @@ def a_change_that_is_not_committed_is_marked():
         assert run("dpkg", "--compare-versions", made.version(), "gt", f"{version}.dirty").returncode == 0
 
 
-def commits_that_cannot_be_counted_have_no_version():
+def commits_that_cannot_be_counted_count_as_none():
     with repository() as made, tempfile.TemporaryDirectory() as folder:
         made.commit("1")
         made.commit("2")
         assert run("git", "clone", "--quiet", "--depth", "1", f"file://{made.top}", f"{folder}/clone").returncode == 0
         done = run(f"{folder}/clone/package/version")
-        assert done.returncode == 1 and "git fetch --unshallow" in done.stderr, done
+        assert done.returncode == 0 and "git fetch --unshallow" in done.stderr, done
+        assert re.fullmatch(r"\S+\+0\.g[0-9a-f]{12}\.shallow\n", done.stdout), done
         shutil.rmtree(f"{folder}/clone/.git")
         done = run(f"{folder}/clone/package/version")
         assert done.returncode == 1 and "no git repository" in done.stderr, done
@@ -102,7 +103,7 @@ def each_link_of_the_documents_leads_to_a_file():
 
 
 def main():
-    play("packaging", [each_commit_has_a_greater_version, a_change_that_is_not_committed_is_marked, commits_that_cannot_be_counted_have_no_version,
+    play("packaging", [each_commit_has_a_greater_version, a_change_that_is_not_committed_is_marked, commits_that_cannot_be_counted_count_as_none,
                        each_link_of_the_documents_leads_to_a_file])
 
 
