@@ -23,4 +23,5 @@ pub use header::{HEADER_LENGTH, Opening, header_bytes, read_header, start_of};
 pub use next::{NextFrame, read_next_frame};
 pub use reading::{Ending, FrameSink, FramesRead, judge_rest, read_frames};
 pub use scan::find_later_head;
+pub use sum::{BASIS, sum_words};
 pub use write::{cursor_after, frame_sum, write_frame};

@@ -1,0 +1,109 @@
+//! A content, in memory or in a file.
+
+ghost use Rattle.std.specs.Prelude.{◌≡◌, ◌++◌, length, take, IfOk, IfSome, OnErr, OnOk, []};
+
+use crate::disk_content::DiskContent;
+use crate::error::ContentError;
+use crate::name::ContentName;
+use crate::store::ContentStore;
+use std::alloc::{AllocError, Global};
+use std::marker::Model;
+
+/// Where a content lies.
+#[derive(Drop)]
+enum Place {
+    Resident(Vec<u8>),
+    OnDisk(DiskContent),
+}
+
+/// A content, in memory or in a file. Contracts see its bytes.
+#[derive(Drop)]
+pub struct Content {
+    place: Place,
+}
+
+impl Model for Content {
+    ghost use Rattle.std.specs.Prelude.{ℕ, List};
+    ghost use Rattle.content_files.specs.Places.{content_shown};
+
+    ghost Value = { List ℕ };
+
+    ghost view = { λ c. content_shown c.place };
+}
+
+impl Content {
+    /// Returns a content in memory.
+    pub fn resident(bytes: Vec<u8>) -> Content
+        ensures { result ≡ bytes.items }
+    {
+        Content {
+            place: Place::Resident(bytes),
+        }
+    }
+
+    /// Returns the length in bytes.
+    pub fn len(&self) -> u64
+        ensures { result ≡ length self.now }
+    {
+        match &self.place {
+            Place::Resident(bytes) => bytes.len() as u64,
+            Place::OnDisk(content) => content.len(),
+        }
+    }
+
+    /// Returns the bytes, if they are in memory.
+    pub fn bytes(&self) -> Option<&[u8]>
+        ensures { IfSome result (λ b. b.now ≡ self.now) }
+    {
+        match &self.place {
+            Place::Resident(bytes) => Some(bytes.as_slice()),
+            Place::OnDisk(_) => None,
+        }
+    }
+
+    /// Returns a content in a file, without bytes.
+    pub fn on_disk(alloc: Global, name: ContentName) -> Result<Content, AllocError>
+        ensures { IfOk result (λ c. c ≡ []) }
+    {
+        let content = DiskContent::new(alloc, name)?;
+        Ok(Content {
+            place: Place::OnDisk(content),
+        })
+    }
+
+    /// Adds bytes at the end. If the content is in a file, they are written and synced.
+    ///
+    /// # Errors
+    ///
+    /// The cause. The content is unchanged.
+    pub fn extend<F: ContentStore>(&mut self, files: &F, bytes: &[u8]) -> Result<(), ContentError>
+        ensures ok { OnOk result (self.new ≡ self.old ++ bytes.now) }
+        ensures err { OnErr result (self.new ≡ self.old) }
+    {
+        match &mut self.place {
+            Place::Resident(old) => {
+                old.extend_from_slice(bytes)?;
+                Ok(())
+            }
+            Place::OnDisk(content) => content.add(files, bytes),
+        }
+    }
+
+    /// Cuts the content to a length, if it is longer.
+    pub fn truncate(&mut self, len: usize)
+        ensures { self.new ≡ take len self.old }
+    {
+        match &mut self.place {
+            Place::Resident(bytes) => bytes.truncate(len),
+            Place::OnDisk(content) => content.truncate(len as u64),
+        }
+    }
+
+    /// Returns a content in memory without bytes, in place of this one.
+    pub fn emptied(&self, alloc: Global) -> Content
+        ensures { result ≡ [] }
+    {
+        let _ = self;
+        Content::resident(Vec::new(alloc))
+    }
+}

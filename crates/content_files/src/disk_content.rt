@@ -1,0 +1,148 @@
+//! A content in a file.
+
+ghost use Rattle.std.specs.Prelude.{◌≡◌, ◌++◌, ◌<◌, [], IfOk, OnOk, OnErr, length, take};
+ghost use Rattle.content_files.specs.Notes.{unread};
+ghost use Rattle.content_files.specs.Reads.{IsReadOf};
+
+use crate::error::ContentError;
+use crate::name::ContentName;
+use crate::note::Note;
+use crate::pieces::Pieces;
+use crate::store::ContentStore;
+use std::alloc::{AllocError, Global};
+use std::marker::Model;
+
+/// A content in a file, in pieces of at most `MAX_PIECE` bytes. Memory keeps the length and the sum of each piece.
+///
+/// Contracts see the bytes that were added, or, for a piece that an earlier process added, as many numbers above 255
+/// (`unread`). That the file holds the bytes is the premise of `write_synced`.
+#[derive(Drop)]
+pub struct DiskContent {
+    pieces: Pieces,
+    /// The length of the content. It is less than that of the pieces if the content was cut.
+    len: u64,
+}
+
+impl Model for DiskContent {
+    ghost use Rattle.std.specs.Prelude.{ℕ, List, ◌≤◌, length, take};
+    ghost use Rattle.content_files.specs.Notes.{joined};
+
+    ghost Value = { List ℕ };
+
+    ghost view = { λ d. take d.len (joined d.pieces.each) };
+
+    ghost invariant = { λ d. d.len ≤ length (joined d.pieces.each) };
+}
+
+impl DiskContent {
+    /// Creates a content without bytes. Its file need not exist.
+    ///
+    /// # Cost
+    ///
+    /// Two small allocations.
+    pub fn new(alloc: Global, name: ContentName) -> Result<DiskContent, AllocError>
+        ensures { IfOk result (λ d. d ≡ []) }
+    {
+        let pieces = Pieces::new(alloc, name)?;
+        Ok(DiskContent { pieces, len: 0 })
+    }
+
+    /// Returns the name.
+    pub fn name(&self) -> ContentName {
+        self.pieces.name()
+    }
+
+    /// Returns the length in bytes.
+    pub fn len(&self) -> u64
+        ensures { result ≡ length self.now }
+    {
+        self.len
+    }
+
+    /// Cuts the content to a length in bytes, if it is longer. The file is not changed.
+    pub fn truncate(&mut self, len: u64)
+        ensures { self.new ≡ take len self.old }
+    {
+        if len < self.len {
+            self.len = len;
+        }
+    }
+
+    /// Adds bytes: writes them at the end of the file, and syncs them. No bytes are not written.
+    ///
+    /// # Errors
+    ///
+    /// The content is unchanged, and the next bytes go to the same place.
+    ///
+    /// - `Cut`: the content was cut within a piece.
+    /// - The error of `ContentStore::write`.
+    /// - `Memory`, also if the content would be longer than 2^64 bytes.
+    ///
+    /// # Cost
+    ///
+    /// One write, and 16 bytes of memory for each MiB.
+    pub fn add<F: ContentStore>(&mut self, files: &F, bytes: &[u8]) -> Result<(), ContentError>
+        ensures ok { OnOk result (self.new ≡ self.old ++ bytes.now) }
+        ensures err { OnErr result (self.new ≡ self.old) }
+    {
+        if bytes.is_empty() {
+            return Ok(());
+        }
+        self.pieces.cut(self.len);
+        if self.pieces.total() != self.len {
+            return Err(ContentError::Cut);
+        }
+        let Some(len) = self.len.checked_add(bytes.len() as u64) else {
+            return Err(ContentError::Memory);
+        };
+        let written = files.write(self.pieces.name(), self.len, bytes)?;
+        self.pieces.add_written(written)?;
+        self.len = len;
+        Ok(())
+    }
+
+    /// Adds a piece that an earlier process added, by its note. Nothing is written or read.
+    ///
+    /// # Errors
+    ///
+    /// The content is unchanged.
+    ///
+    /// - `Cut`: the content was cut.
+    /// - `Memory`
+    pub fn add_noted(&mut self, note: Note) -> Result<(), ContentError>
+        requires { 0 < note.len }
+        ensures ok { OnOk result (self.new ≡ self.old ++ unread note.len note.sum) }
+        ensures err { OnErr result (self.new ≡ self.old) }
+    {
+        if self.pieces.total() != self.len {
+            return Err(ContentError::Cut);
+        }
+        self.pieces.add_noted(note)?;
+        self.len = self.pieces.total();
+        Ok(())
+    }
+
+    /// Reads the piece that has the byte at an offset, and compares its sum. Returns the piece's bytes, and where it begins.
+    ///
+    /// The last piece may end behind the content's end, if the content was cut.
+    ///
+    /// # Errors
+    ///
+    /// - `Fault`: no piece has such a byte, or the file has other bytes or too few.
+    /// - `Memory`
+    /// - `Io`: the operating system's error.
+    ///
+    /// # Cost
+    ///
+    /// One step for each piece before it, one read, and an allocation of the piece's length.
+    pub fn read<F: ContentStore>(
+        &self,
+        files: &F,
+        alloc: Global,
+        offset: u64,
+    ) -> Result<(Vec<u8>, u64), ContentError>
+        ensures { IfOk result (λ r. IsReadOf self.now offset r.1 r.0.items) }
+    {
+        self.pieces.read(files, alloc, offset)
+    }
+}

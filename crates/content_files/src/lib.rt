@@ -1,0 +1,28 @@
+//! Contents of sessions and blobs, in memory or in files. Of a content in a file, memory keeps the length and the sum of
+//! each piece.
+//!
+//! - Contracts see a content as its bytes. A piece of which only the length and the sum are known is a list of numbers
+//!   above 255 (`unread`).
+//! - Bytes become part of a content in a file only by a `Written`, which `write_synced` alone makes.
+//! - A read returns bytes with the length and the sum of the piece that was added.
+#![tactic(auto)]
+
+mod content;
+mod deed;
+mod disk_content;
+mod error;
+mod name;
+mod note;
+mod pieces;
+mod store;
+mod trace;
+mod written;
+
+pub use content::Content;
+pub use disk_content::DiskContent;
+pub use error::ContentError;
+pub use name::ContentName;
+pub use note::{Note, reveal_read, sum_of};
+pub use pieces::MAX_PIECE;
+pub use store::{ContentStore, NoFiles};
+pub use written::{Written, write_synced};

@@ -1,0 +1,210 @@
+//! The pieces of a content in a file, and what memory keeps of them.
+
+ghost use Rattle.std.specs.Prelude.{◌≡◌, ◌++◌, ◌≤◌, ◌<◌, ◌+◌, ◌-◌, ◌∷◌, [], IfOk, OnOk, OnErr, length, take};
+ghost use Rattle.content_files.specs.Notes.{note_of, unread};
+ghost use Rattle.content_files.specs.Pieces.{BeginsAs, HasRoomFor, IsAtEndOf, bytes_of, pieces_of, with_piece};
+ghost use Rattle.content_files.specs.Reads.{IsPieceAt};
+ghost use Rattle.content_files.specs.Shown.{note_shown};
+
+use crate::error::ContentError;
+use crate::name::ContentName;
+use crate::note::{Note, find, sum_of};
+use crate::store::ContentStore;
+use crate::trace::PieceTrace;
+use crate::written::Written;
+use std::alloc::{AllocError, Global};
+use std::marker::Model;
+
+/// The most bytes of a piece that is written: 1 MiB. A read takes a whole piece into memory.
+pub const MAX_PIECE: usize = 1_048_576;
+
+/// The pieces of a content: of each, its length and its sum.
+///
+/// Contracts see the content's name and its pieces.
+#[derive(Drop)]
+pub(crate) struct Pieces {
+    notes: Vec<Note>,
+    /// The length of all pieces.
+    total: u64,
+    trace: PieceTrace,
+}
+
+impl Model for Pieces {
+    ghost use Rattle.content_files.specs.Pieces as specs;
+    ghost use Rattle.content_files.specs.Shown.{AreNotesOf};
+
+    ghost Value = { specs.Pieces };
+
+    ghost view = { λ p. p.trace };
+
+    ghost invariant = { λ p. AreNotesOf p.notes.items p.total p.trace.each };
+}
+
+impl Pieces {
+    /// Creates a list of no pieces.
+    pub(crate) fn new(alloc: Global, name: ContentName) -> Result<Pieces, AllocError>
+        ensures { IfOk result (λ p. p ≡ pieces_of name []) }
+    {
+        let trace = PieceTrace::new(alloc, name)?;
+        Ok(Pieces {
+            notes: Vec::new(alloc),
+            total: 0,
+            trace,
+        })
+    }
+
+    /// Returns the content's name.
+    pub(crate) fn name(&self) -> ContentName
+        ensures { result ≡ self.now.name }
+    {
+        self.trace.name()
+    }
+
+    /// Returns the length of all pieces.
+    pub(crate) fn total(&self) -> u64
+        ensures { result ≡ length (bytes_of self.now) }
+    {
+        self.total
+    }
+
+    /// Adds a piece whose bytes were written at the end of the pieces.
+    ///
+    /// # Errors
+    ///
+    /// `Memory`. Nothing changed.
+    fn add_piece(&mut self, piece: Written<'_>) -> Result<(), ContentError>
+        requires at { IsAtEndOf piece self.old }
+        requires fits { HasRoomFor self.old piece.bytes }
+        ensures ok { OnOk result (self.new ≡ with_piece self.old piece.entry.bytes) }
+        ensures err { OnErr result (self.new ≡ self.old) }
+    {
+        let note = Note {
+            len: piece.len() as u64,
+            sum: piece.sum(),
+        };
+        self.notes.push(note)?;
+        self.total += note.len;
+        self.trace.add_written(piece);
+        Ok(())
+    }
+
+    /// Adds bytes that were written at the end of the pieces, in pieces of at most `MAX_PIECE` bytes.
+    ///
+    /// # Errors
+    ///
+    /// `Memory`. Some pieces may have been added.
+    pub(crate) fn add_written(&mut self, written: Written<'_>) -> Result<(), ContentError>
+        requires at { IsAtEndOf written self.old }
+        requires fits { HasRoomFor self.old written.bytes }
+        ensures name { self.new.name ≡ self.old.name }
+        ensures ok { OnOk result (bytes_of self.new ≡ bytes_of self.old ++ written.entry.bytes) }
+        ensures begin { BeginsAs self.old self.new }
+        ensures long { length (bytes_of self.old) ≤ length (bytes_of self.new) }
+    {
+        let mut rest = written;
+        while rest.len() > MAX_PIECE {
+            let (piece, others) = rest.split_at(MAX_PIECE);
+            self.add_piece(piece)?;
+            rest = others;
+        }
+        self.add_piece(rest)
+    }
+
+    /// Adds a piece that an earlier process added, by its note.
+    ///
+    /// # Errors
+    ///
+    /// `Memory`. Nothing changed.
+    pub(crate) fn add_noted(&mut self, note: Note) -> Result<(), ContentError>
+        requires { 0 < note.len }
+        ensures ok { OnOk result (self.new ≡ with_piece self.old (unread note.len note.sum)) }
+        ensures err { OnErr result (self.new ≡ self.old) }
+    {
+        let Some(total) = self.total.checked_add(note.len) else {
+            return Err(ContentError::Memory);
+        };
+        self.notes.push(note)?;
+        self.total = total;
+        self.trace.add_unread(note.len, note.sum);
+        Ok(())
+    }
+
+    /// Removes the last piece, if it begins at this length or behind it. Returns whether it does.
+    fn remove_behind(&mut self, len: u64) -> bool
+        requires { len ≤ length (bytes_of self.old) }
+        ensures name { self.new.name ≡ self.old.name }
+        ensures same { take len (bytes_of self.new) ≡ take len (bytes_of self.old) }
+        ensures long { len ≤ length (bytes_of self.new) }
+    {
+        if let Some(note) = self.notes.pop() {
+            let before = self.total - note.len;
+            if len <= before {
+                self.total = before;
+                self.trace.remove_last();
+                return true;
+            }
+            if self.notes.push(note).is_err() {
+                unreachable!();
+            }
+        }
+        false
+    }
+
+    /// Removes the pieces that begin at this length or behind it.
+    pub(crate) fn cut(&mut self, len: u64)
+        requires { len ≤ length (bytes_of self.old) }
+        ensures name { self.new.name ≡ self.old.name }
+        ensures same { take len (bytes_of self.new) ≡ take len (bytes_of self.old) }
+        ensures long { len ≤ length (bytes_of self.new) }
+    {
+        let count = self.notes.len();
+        for _ in 0..count {
+            if !self.remove_behind(len) {
+                return;
+            }
+        }
+    }
+
+    /// Reads the piece that has the byte at an offset, and compares its sum. Returns the piece's bytes, and where it begins.
+    ///
+    /// # Errors
+    ///
+    /// - `Fault`: there is no such byte, or the file has other bytes.
+    /// - `Memory`
+    /// - `Io`: the operating system's error.
+    pub(crate) fn read<F: ContentStore>(
+        &self,
+        files: &F,
+        alloc: Global,
+        offset: u64,
+    ) -> Result<(Vec<u8>, u64), ContentError>
+        ensures { IfOk result (λ r. IsPieceAt self.now.each offset r.1 r.0.items) }
+    {
+        let Some((index, start)) = find(self.notes.as_slice(), offset) else {
+            return Err(ContentError::Fault);
+        };
+        let note = self.notes[index];
+        let mut bytes = Vec::from_elem(alloc, 0u8, note.len as usize)?;
+        read_noted(files, self.name(), start, note, bytes.as_mut_slice())?;
+        Ok((bytes, start))
+    }
+}
+
+/// Reads bytes of which this is noted, and compares their sum.
+fn read_noted<F: ContentStore>(
+    files: &F,
+    name: ContentName,
+    start: u64,
+    note: Note,
+    out: &mut [u8],
+) -> Result<(), ContentError>
+    requires { length out.old ≡ note.len }
+    ensures len { length out.new ≡ length out.old }
+    ensures ok { OnOk result (note_of out.new ≡ note_shown note) }
+{
+    files.read(name, start, out)?;
+    if sum_of(out) != note.sum {
+        return Err(ContentError::Fault);
+    }
+    Ok(())
+}

@@ -1,0 +1,55 @@
+//! What a content needs of the files.
+
+ghost use Rattle.std.specs.Prelude.{◌≡◌, ◌≤◌, ◌+◌, IfOk, length};
+ghost use Rattle.content_files.specs.Placed.{placed};
+
+use crate::error::ContentError;
+use crate::name::ContentName;
+use crate::written::Written;
+
+/// The files of contents.
+///
+/// An implementation makes its result of `write` by `write_synced`, on the file of this name. If it creates the file, it
+/// syncs the folder too.
+pub trait ContentStore {
+    /// Writes bytes at an offset, and syncs them.
+    ///
+    /// # Errors
+    ///
+    /// The cause. Any of the bytes may have been written.
+    fn write<'b>(
+        &self,
+        name: ContentName,
+        offset: u64,
+        bytes: &'b [u8],
+    ) -> Result<Written<'b>, ContentError>
+        requires { offset + length bytes.now ≤ 18446744073709551615 }
+        ensures { IfOk result (λ w. w ≡ placed name offset bytes.now) };
+
+    /// Reads as many bytes from an offset on as `out` has room for.
+    ///
+    /// # Errors
+    ///
+    /// The cause: `Fault` if the file is too short. `out` may then have any bytes.
+    fn read(&self, name: ContentName, offset: u64, out: &mut [u8]) -> Result<(), ContentError>
+        ensures { length out.new ≡ length out.old };
+}
+
+/// No files: all contents are in memory.
+#[derive(Clone, Copy, Debug, Drop)]
+pub struct NoFiles;
+
+impl ContentStore for NoFiles {
+    fn write<'b>(
+        &self,
+        _name: ContentName,
+        _offset: u64,
+        _bytes: &'b [u8],
+    ) -> Result<Written<'b>, ContentError> {
+        Err(ContentError::NoFiles)
+    }
+
+    fn read(&self, _name: ContentName, _offset: u64, _out: &mut [u8]) -> Result<(), ContentError> {
+        Err(ContentError::NoFiles)
+    }
+}
