@@ -77,6 +77,14 @@ def files_of(top):
     return found
 
 
+def serves(address):
+    """Returns whether a registry serves. While it starts, its replies are 503."""
+    try:
+        return Client(address).ask("GET", "/v2/").status == 200
+    except OSError:
+        return False
+
+
 class Running:
     """A registry in a root, as a user of it. It ends with this test."""
 
@@ -88,13 +96,9 @@ class Running:
         self.process = subprocess.Popen(words, stderr=self.log, env={"PATH": "/usr/bin:/bin:/usr/sbin"})
         self.address = address
         end = time.time() + 30
-        while True:
-            try:
-                assert Client(address).ask("GET", "/v2/").status == 200
-                return
-            except OSError:
-                assert self.process.poll() is None and time.time() < end, self.logged()
-                time.sleep(0.05)
+        while not serves(address):
+            assert self.process.poll() is None and time.time() < end, self.logged()
+            time.sleep(0.05)
 
     def logged(self):
         self.log.seek(0)
@@ -210,13 +214,9 @@ def run_in_podman(image, folder):
     container = done.stdout.strip()
     try:
         end = time.time() + 20
-        while True:
-            try:
-                assert Client(address).ask("GET", "/v2/").status == 200
-                break
-            except OSError:
-                assert time.time() < end, run(*podman, "logs", container)
-                time.sleep(0.1)
+        while not serves(address):
+            assert time.time() < end, run(*podman, "logs", container)
+            time.sleep(0.1)
         run(*podman, "stop", container)
         assert run(*podman, "inspect", "--format", "{{.State.ExitCode}}", container).strip() == "0"
     finally:

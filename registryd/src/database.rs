@@ -184,7 +184,7 @@ impl Database {
         }
         let marks = marks::read(&connection).map_err(of_sqlite)?;
         if !is_synced {
-            stop_syncs(&connection, &marks).map_err(of_sqlite)?;
+            connection.execute_batch("PRAGMA synchronous = OFF").map_err(of_sqlite)?;
         }
         if is_synced || !existed {
             // The names of the files have to survive too.
@@ -208,15 +208,6 @@ impl Database {
     pub fn loosen_log_end(&mut self) -> Result<(), OpenError> {
         let loosened = self.marks.log_end.map_or(Ok(()), |end| marks::loosen_log_end(&self.connection, end));
         loosened.map_err(|error| OpenError::of_sqlite(&self.path, error))
-    }
-
-    /// Notes that all changes up to now are on the disk, and that later ones will be before their replies.
-    pub fn begin_syncs(&mut self) -> rusqlite::Result<()> {
-        if self.marks.is_unsynced {
-            marks::put_unsynced(&self.connection, false)?;
-            self.marks.is_unsynced = false;
-        }
-        Ok(())
     }
 
     /// Returns the content of the database. Makes the secret if there is none.
@@ -331,14 +322,6 @@ fn set_up(connection: &Connection) -> rusqlite::Result<()> {
     let word = |query: &str| connection.query_row(query, [], |row| row.get::<_, rusqlite::types::Value>(0));
     word("PRAGMA journal_mode = WAL")?;
     connection.execute_batch("PRAGMA synchronous = FULL; PRAGMA foreign_keys = ON")
-}
-
-/// Syncs no transaction from now on. The mark of it is synced before.
-fn stop_syncs(connection: &Connection, marks: &Marks) -> rusqlite::Result<()> {
-    if !marks.is_unsynced {
-        marks::put_unsynced(connection, true)?;
-    }
-    connection.execute_batch("PRAGMA synchronous = OFF")
 }
 
 /// Checks the database, or makes its tables if it is empty, or adds to those of version 1. Returns what is wrong, if anything is.

@@ -34,6 +34,7 @@ mod media_type;
 mod memory;
 mod metrics;
 mod namers;
+mod notify;
 mod numbers;
 mod opening;
 mod options;
@@ -52,6 +53,7 @@ mod retention;
 mod rights;
 mod server;
 mod shares;
+mod starting;
 mod startup;
 mod status;
 mod store;
@@ -63,6 +65,7 @@ mod tokens;
 mod transfer;
 mod turns;
 mod undo;
+mod unsynced;
 mod upload_name;
 mod uploading;
 mod uploads;
@@ -80,12 +83,14 @@ use crate::in_flight::Memory;
 use crate::limits::Repositories;
 use crate::loose::LooseBlobs;
 use crate::metrics::Metrics;
+use crate::notify::Notifier;
 use crate::opening::Opened;
 use crate::options::Options;
 use crate::provenance::Provenance;
 use crate::registry::Registry;
 use crate::reload::{FromFile, Hangup, Reloads};
 use crate::rights::Rights;
+use crate::starting::{Service, Serving};
 use crate::tags::Tags;
 use crate::tenants::Tenant;
 use crate::tls::Tls;
@@ -185,26 +190,57 @@ async fn run(options: Options) -> Result<(), Failure> {
     let mut reloads = Reloads::new();
     let access = access(&options, &mut reloads)?;
     let tls = tls(&options, &mut reloads)?;
-    let listener = bind(options.listen).await?;
-    let watched = match options.metrics_listen {
-        Some(address) => Some(bind(address).await?),
-        None => None,
-    };
+    let notifier = Notifier::of_environment()?;
+    let Listening { service, serving, address, metrics_address } = listen(&options, tls, connections).await?;
+    tracing::info!(%address, log_bytes = service.log_bytes(), "starting");
+    starting::warn_of_memory(service.log_bytes());
     let started = tokio::select! {
         started = start(&options, access) => started?,
         () = signals.recv() => {
+            notifier.send("STOPPING=1");
             tracing::info!("stopped while starting");
             return Ok(());
         }
+        never = notifier.extend_start(|| service.progress()) => never,
     };
-    tracing::info!(address = %listener.local_addr()?, "listening");
-    if let Some(listener) = watched {
-        tracing::info!(address = %listener.local_addr()?, "serving metrics");
-        serve_metrics(&started.registry, listener, &options);
+    service.end_start(started.registry.clone());
+    tracing::info!(%address, "listening");
+    if let Some(address) = metrics_address {
+        tracing::info!(%address, "serving metrics");
     }
     tokio::spawn(hangup.reload(reloads));
     tokio::spawn(rewrite_on_signal(rewrite, started.registry.clone()));
-    serve(started, listener, tls, connections, signals).await
+    notifier.send("READY=1\nSTATUS=serving");
+    let registry = started.registry.clone();
+    tokio::select! {
+        ended = serve(started, serving, signals, &notifier) => ended,
+        never = notifier.keep_alive(|| registry.store.replies()) => never,
+    }
+}
+
+/// What serves the addresses.
+struct Listening {
+    service: Arc<Service>,
+    serving: Serving,
+    address: SocketAddr,
+    metrics_address: Option<SocketAddr>,
+}
+
+/// Listens on the addresses of the options. What is served there are the replies of a start, until it ends.
+async fn listen(options: &Options, tls: Option<Tls>, connections: Arc<Connections>) -> Result<Listening, Failure> {
+    let listener = bind(options.listen).await?;
+    let address = listener.local_addr()?;
+    let metrics = match options.metrics_listen {
+        Some(address) => Some(bind(address).await?),
+        None => None,
+    };
+    let metrics_address = metrics.as_ref().map(TcpListener::local_addr).transpose()?;
+    let service = Service::new(options.data.as_deref());
+    if let Some(listener) = metrics {
+        serve_metrics(&service, listener, options);
+    }
+    let serving = Serving::begin(listener, tls, connections, service.clone());
+    Ok(Listening { service, serving, address, metrics_address })
 }
 
 /// Listens on an address.
@@ -213,14 +249,14 @@ async fn bind(address: SocketAddr) -> Result<TcpListener, Failure> {
 }
 
 /// Serves the metrics on an address of their own until the program ends.
-fn serve_metrics(registry: &Arc<Registry>, listener: TcpListener, options: &Options) {
+fn serve_metrics(service: &Arc<Service>, listener: TcpListener, options: &Options) {
     let (head, idle) = (Duration::from_secs(options.head_s), Duration::from_secs(options.idle_s));
     let connections = Connections::new(Limits { most: METRICS_CONNECTIONS, head, idle });
-    let (watched, registry) = (connections.clone(), registry.clone());
+    let (watched, service) = (connections.clone(), service.clone());
     tokio::spawn(async move { watched.watch().await });
     tokio::spawn(async move {
         let (_stop, stopped) = watch::channel(());
-        server::serve(listener, None, connections, stopped, move |request| registry.clone().serve_metrics(request)).await
+        server::serve(listener, None, connections, stopped, move |request| service.clone().serve_metrics(request)).await
     });
 }
 
@@ -442,20 +478,9 @@ async fn rewrite_on_signal(mut asked: Signal, registry: Arc<Registry>) {
 }
 
 /// Serves requests until a signal arrives, and then lets open requests finish.
-async fn serve(
-    started: Started,
-    listener: TcpListener,
-    tls: Option<Tls>,
-    connections: Arc<Connections>,
-    mut signals: Signals,
-) -> Result<(), Failure> {
+async fn serve(started: Started, serving: Serving, mut signals: Signals, notifier: &Notifier) -> Result<(), Failure> {
     let Started { registry, mut child, database, synced } = started;
-    let (stop, stopped) = watch::channel(());
-    let answering = registry.clone();
-    let answer = move |request| answering.clone().serve(request);
-    let server = tokio::spawn(server::serve(listener, tls, connections.clone(), stopped, answer));
-    let watched = connections.clone();
-    tokio::spawn(async move { watched.watch().await });
+    let Serving { connections, server, stop } = serving;
     tokio::select! {
         ended = server => return Err(Failure::new(format!("cannot accept connections: {ended:?}"))),
         () = registry.store.ended() => return Err(process::why_gone(&mut child).await),
@@ -464,6 +489,7 @@ async fn serve(
         failure = watch_folder(&registry, &database, &synced) => return Err(failure),
         () = signals.recv() => {}
     }
+    notifier.send("STOPPING=1");
     tracing::info!("stopping");
     drop(stop);
     let is_ended = tokio::select! {

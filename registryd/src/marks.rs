@@ -12,8 +12,6 @@ pub struct Marks {
     pub commits: u64,
     /// The time of the last transaction, in seconds since 1970.
     pub time: Option<u64>,
-    /// Whether a start since the last one with syncs had none, so that a crash may have lost anything.
-    pub is_unsynced: bool,
 }
 
 /// Returns a setting.
@@ -32,10 +30,9 @@ fn put(connection: &Connection, name: &str, value: &dyn rusqlite::ToSql) -> rusq
 pub fn read(connection: &Connection) -> rusqlite::Result<Marks> {
     let log_end: Option<Vec<u8>> = setting(connection, "log_end")?;
     let commits: Option<i64> = setting(connection, "commits")?;
-    let unsynced: Option<i64> = setting(connection, "unsynced")?;
     let time = setting::<i64>(connection, "time")?.and_then(|time| u64::try_from(time).ok());
     let log_end = log_end.and_then(|bytes| LogEnd::from_bytes(&bytes));
-    Ok(Marks { log_end, commits: commits.unwrap_or(0) as u64, time, is_unsynced: unsynced == Some(1) })
+    Ok(Marks { log_end, commits: commits.unwrap_or(0) as u64, time })
 }
 
 /// Writes an end of the log that is on the disk.
@@ -52,9 +49,4 @@ pub fn loosen_log_end(connection: &Connection, end: LogEnd) -> rusqlite::Result<
 pub fn put_commit(connection: &Connection, commits: u64, time: u64) -> rusqlite::Result<()> {
     put(connection, "commits", &(commits as i64))?;
     put(connection, "time", &(time as i64))
-}
-
-/// Writes whether changes are made without syncs from now on.
-pub fn put_unsynced(connection: &Connection, is_unsynced: bool) -> rusqlite::Result<()> {
-    put(connection, "unsynced", &i64::from(is_unsynced))
 }

@@ -7,6 +7,7 @@ use crate::folder;
 use crate::log_end::{self, LogEnd};
 use crate::losses::{Loss, OnLoss};
 use crate::options::Options;
+use crate::unsynced;
 use crate::watching::LOCK;
 use std::fs::{DirBuilder, File};
 use std::io;
@@ -88,6 +89,15 @@ fn lock(folder: &Path) -> Result<Option<File>, Failure> {
     }
 }
 
+/// Returns what a start does about a loss of a folder. Without syncs, since then or from now on, a crash may lose anything.
+fn on_loss(options: &Options, folder: &Path) -> OnLoss {
+    match options.accept_loss {
+        _ if unsynced::is_marked(folder) || !options.is_durable() => OnLoss::GoOn,
+        true => OnLoss::Accept,
+        false => OnLoss::End,
+    }
+}
+
 /// Opens the folder of the options. Drops its cached pages before anything reads them.
 pub fn open(options: &Options, folder: PathBuf) -> Result<Opened, Failure> {
     let is_synced = options.is_durable();
@@ -101,13 +111,14 @@ pub fn open(options: &Options, folder: PathBuf) -> Result<Opened, Failure> {
     if options.accept_loss {
         tracing::warn!("--accept-loss is given: a loss that this start finds is accepted; remove the option afterwards");
     }
-    let refuse = if options.accept_loss { OnLoss::Accept } else { OnLoss::End };
+    let on_loss = on_loss(options, &folder);
     if !has_database(&folder) && log_end::last_file(&folder).is_some() {
-        let on_loss = if is_synced { refuse } else { OnLoss::GoOn };
         on_loss.meet(&Loss::Database)?;
     }
+    if !is_synced {
+        unsynced::mark(&folder).map_err(|error| Failure::of_folder("cannot mark the folder", &folder, &error))?;
+    }
     let mut database = Database::open(&folder, is_synced)?;
-    let on_loss = if database.marks().is_unsynced || !is_synced { OnLoss::GoOn } else { refuse };
     let has_log = log_end::last_file(&folder).is_some();
     if let Some(loss) = Loss::by_marks(database.marks(), database.older_by(), has_log, LogEnd::of(&folder)) {
         on_loss.meet(&loss)?;

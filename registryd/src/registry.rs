@@ -16,6 +16,7 @@ use crate::metrics::Metrics;
 use crate::path::{decoded, query_value, Target};
 use crate::provenance::Provenance;
 use crate::rights::{Demand, Right, Scope};
+use crate::starting::ALIVE;
 use crate::status::{SweepHistory, View};
 use crate::store::{Store, StoreUnavailable};
 use crate::tags::Removal;
@@ -309,6 +310,9 @@ impl Registry {
         let path = head.uri.path().to_string();
         check_host(&head)?;
         framing::check(&head.headers)?;
+        if path == ALIVE {
+            return empty(StatusCode::OK, &[]);
+        }
         if path == "/healthz" {
             return self.probe(&[]).await;
         }
@@ -379,6 +383,7 @@ impl Registry {
             match View::of(path) {
                 Some(view) => self.view(view, method, request.uri().query()).await,
                 None if method == Method::GET && path == "/untagged" => retention::list(&self, request.uri().query()),
+                None if method == Method::GET && path == ALIVE => empty(StatusCode::OK, &[]),
                 None if method == Method::GET && path == "/healthz" => self.probe(&[]).await,
                 None => Err(Fault::path()),
             }

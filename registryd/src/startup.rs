@@ -15,6 +15,7 @@ use crate::opening::Opened;
 use crate::store::{Store, StoreUnavailable};
 use crate::tags::Tags;
 use crate::undo::Undo;
+use crate::unsynced;
 use crate::upload_name::Secret;
 use crate::writer::Change;
 use std::collections::{BTreeMap, HashMap, HashSet};
@@ -123,8 +124,10 @@ impl Correction {
             self.changes.extend(end.map(|end| Change::KeepLogEnd { end }));
         }
         database.commit(self.changes.iter(), &self.recorded, now()).map_err(failed)?;
-        if self.folder.is_some() {
-            database.begin_syncs().map_err(failed)?;
+        // All changes up to now are on the disk.
+        if let Some(folder) = &self.folder {
+            unsynced::clear(folder)
+                .map_err(|error| Failure::of_folder("cannot remove the mark of --sync never", folder, &error))?;
         }
         Ok((database, secret))
     }

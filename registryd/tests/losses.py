@@ -10,6 +10,8 @@ from restarts import by_kill_of_both, by_signal, database, folder, pulled, push,
 from server import MANIFEST, REGISTRYD, serving, sha256
 from statuses import check, ended
 
+# The file that a start with `--sync never` makes.
+MARK = "registry.unsynced"
 LOST, ACCEPT = "data that was on the disk is lost", "accept the loss with --accept-loss"
 
 
@@ -25,10 +27,14 @@ def copy_log(source, target):
         shutil.copy(f"{source}/{name}", target)
 
 
-def copy_database(source, target):
+def remove_database(path):
     for end in ("", "-wal", "-shm"):
-        if os.path.exists(f"{target}/registry.db{end}"):
-            os.remove(f"{target}/registry.db{end}")
+        if os.path.exists(f"{path}/registry.db{end}"):
+            os.remove(f"{path}/registry.db{end}")
+
+
+def copy_database(source, target):
+    remove_database(target)
     shutil.copy(f"{source}/registry.db", target)
 
 
@@ -259,11 +265,35 @@ def a_folder_without_syncs():
         check(ended("--data", path), 8, LOST)
 
 
+def a_folder_without_syncs_that_loses_its_database():
+    """A loss of power may take the transactions of the database, or all of it. The mark of the policy is on the disk before the first reply, so a
+    start goes on. Its mark is gone afterwards."""
+    with folder() as path:
+        first = image_of(path, "v1", b"one")
+        shutil.copytree(path, f"{path}.old")
+        with serving("--data", path, "--sync", "never") as server:
+            assert os.path.exists(f"{path}/{MARK}")
+            pushed(server.client(), tag="v2", layer=b"two")
+            by_kill_of_both(server)
+        shutil.copytree(path, f"{path}.new")
+        copy_database(f"{path}.old", path)
+        said = has_images(path, ("v1", first))
+        assert "a crash may leave this after a start with --sync never: registry.db is older than the log" in said, said
+        assert not os.path.exists(f"{path}/{MARK}")
+        remove_database(f"{path}.new")
+        with serving("--data", f"{path}.new") as server:
+            assert pulled(server.client(), "acme/one", "v1") == 404
+            assert "after a start with --sync never: registry.db is missing or empty" in server.logged()
+            by_signal(server)
+        remove_database(f"{path}.new")
+        check(ended("--data", f"{path}.new"), 8, LOST, "registry.db is missing or empty")
+
+
 def main():
     play("losses", [
         an_older_log, an_older_log_without_blobs, manifests_that_the_store_lacks, files_of_the_log_that_are_missing,
         a_rewritten_log_is_not_older, a_start_that_is_interrupted_may_have_cut_the_log, the_log_of_another_store, a_database_that_is_gone, an_older_database, a_backup_in_a_new_folder,
-        a_folder_without_syncs])
+        a_folder_without_syncs, a_folder_without_syncs_that_loses_its_database])
 
 
 if __name__ == "__main__":

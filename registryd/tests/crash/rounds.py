@@ -359,8 +359,8 @@ class Lane:
             self.works(server, "never", MOST_TIME, "instant")
             self.ended(server)
             self.loses((part,))
-            # The start may find the loss by itself, and would end.
-            server = self.starts("--accept-loss")
+            # The mark of the policy is on the disk, so the start goes on although it may find the loss by itself.
+            server = self.starts()
             try:
                 server.is_ready()
                 missed = self.looks(server)
