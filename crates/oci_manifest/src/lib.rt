@@ -1,7 +1,7 @@
 //! Reads manifests, and keeps each as the exact bytes that were given.
 //!
-//! It depends on `blob_digest` for digests and refusals, on `spec_lib` for texts as keys, and on `serde_json` for JSON
-//! (RFC 8259). Its contracts state:
+//! It depends on `blob_digest` for digests and refusals, on `spec_lib` for the definitions of its contracts, on
+//! `serde_json` for JSON (RFC 8259), and on `indexmap` for references without doubles. Its contracts state:
 //!
 //! - The references of a manifest are those of the definition `refs_of`, on the JSON value of the bytes (OCI Image
 //!   Specification 1.1, "Image Manifest" and "Image Index").
