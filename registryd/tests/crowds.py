@@ -1,6 +1,6 @@
 #!/usr/bin/env python3
 """Tests a tenant with many readers at once: pulls of one image, pushes during reads, and readers that take almost nothing."""
-import contextlib, random, selectors, socket, threading, time
+import contextlib, random, select, selectors, socket, threading, time
 
 from hardships import MIB, PATCH, head_of
 from playing import Asking, play
@@ -147,6 +147,16 @@ def slow_readers_leave_memory_for_a_pull():
         assert "disconnected a slow client" not in server.logged(), "a reader is cut off although there is memory"
 
 
+def readers_of_all_memory(server, path):
+    """Begins reads by slow readers until one of them waits for memory."""
+    readers = []
+    while len(readers) < 100:
+        readers.append(slow_reader(server, path))
+        if not select.select(readers[-1:], [], [], 2)[0]:
+            return readers
+    raise AssertionError("no reader waits for memory")
+
+
 def slow_readers_that_hold_all_memory_are_cut_off():
     """A reader that takes more than the slow ones is not cut off, and another tenant is not affected."""
     with serving("--memory-in-flight", str(16 * MIB)) as server:
@@ -156,13 +166,13 @@ def slow_readers_that_hold_all_memory_are_cut_off():
         path = f"acme/one/blobs/{sha256(large)}"
         steady = server.socket()
         steady.sendall(head_of("GET", path))
-        with taking([steady], MIB // 2, 0.1) as ended, taking([slow_reader(server, path) for _ in range(40)], 256, 1):
-            time.sleep(1)
-            assert finished([Pull(server, paths_of("other"))]) == [200] * 4
+        with taking([steady], MIB // 2, 0.1) as ended, taking(readers_of_all_memory(server, path), 256, 1):
+            statuses = finished([Pull(server, paths_of("other"))])
+            assert statuses == [200] * 4, statuses
             statuses = finished([Pull(server, paths_of()) for _ in range(4)])
             assert statuses == [200] * 16, statuses
             assert not ended, "a steady reader is cut off"
-        assert "disconnected a slow client" in server.logged()
+        assert "disconnected a slow client" in server.logged(), "no slow reader is cut off"
 
 
 def an_upload_waits_for_the_memory_of_another():
