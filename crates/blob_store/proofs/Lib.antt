@@ -6,3 +6,4 @@ pub mod BackendSteps
 pub mod Interleavings
 pub mod OneText
 pub mod Commits
+pub mod Starts

@@ -1,10 +1,10 @@
 pub mod Commits
-pub mod DurableStates
 pub mod Jobs
 pub mod OneText
 pub mod Parts
 pub mod Playing
 pub mod RowOrders
+pub mod Starts
 pub mod StoreBackends
 pub mod StoreCalls
 pub mod Workers

@@ -15,6 +15,7 @@ mod parts;
 mod playing;
 mod queries;
 mod replay;
+mod started;
 mod store;
 mod store_backend;
 mod uploads;
@@ -29,6 +30,7 @@ pub use locked_book::{
 pub use parts::Parts;
 pub use playing::{MAX_WORKERS, Played, PlayedToEnd, play, play_to_end};
 pub use script_player::{Gate, OpenGate, Row};
+pub use started::StartedLog;
 pub use store::Store;
 pub use store_api::{Reply, Verb};
 pub use store_backend::StoreBackend;

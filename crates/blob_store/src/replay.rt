@@ -3,7 +3,8 @@
 ghost use Rattle.std.specs.Prelude.{◌≡◌, [], false, true, IfOk};
 ghost use Rattle.ghost_log.specs.Entries.{IsPrefix};
 ghost use Rattle.durable_log.specs.Views.{KeepsDisk};
-ghost use Rattle.locked_book.specs.Durability.{LearnsDurable, OnlyLearns, SurvivesOfSome};
+ghost use Rattle.locked_book.specs.Durability.{LearnsDurable, OnlyLearns, Survives};
+ghost use Rattle.locked_book.specs.Restoring.{SeesStoreHistory};
 ghost use Rattle.blob_store.specs.Commits.{AppendsDurably};
 
 use crate::store::Store;
@@ -75,10 +76,10 @@ impl<S: Naming> Store<S> {
         Ok(true)
     }
 
-    /// Does nothing at run time but to take the lock: it states what a crash leaves of the store's history.
+    /// Lets a desk see the store's whole history, and states what a crash leaves of it. Returns the device unchanged.
     ///
     /// `left` is what the disk has after a crash: a prefix of what was written, with all that was synced. It has the
-    /// records of all that the desk knows to be durable, and it is a prefix of the records of the store's history.
+    /// records of all that the desk knows to be durable, and it is a prefix of the records of the history.
     pub fn reveal_survivors<D: Disk>(
         &self,
         rt: &impl Wait,
@@ -88,8 +89,9 @@ impl<S: Naming> Store<S> {
     ) -> IdleDevice<Step, StoreLog<S>, D>
         requires synced { IsPrefix idle.durable left.now }
         requires written { IsPrefix left.now idle.written }
-        ensures same { (result ≡ idle) × (desk.new ≡ desk.old) }
-        ensures survives { SurvivesOfSome S.names desk.old.trace left.now }
+        ensures same { result ≡ idle }
+        ensures sees { SeesStoreHistory S.names desk.old desk.new }
+        ensures survives { Survives S.names desk.new.trace left.now }
     {
         let mut device = idle.into_device();
         self.locked(rt).reveal_survivors(&mut device, desk, left);

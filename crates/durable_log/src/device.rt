@@ -323,6 +323,14 @@ impl<E, N: Naming<E>, D: Disk> LogDevice<E, N, D> {
     }
 
     /// Returns the disk.
+    pub fn disk(&self) -> &D
+        ensures written { D.written result.now ≡ (self.now).written }
+        ensures synced { D.synced result.now ≡ (self.now).durable }
+    {
+        &self.disk
+    }
+
+    /// Returns the disk.
     pub fn into_disk(self) -> D
         ensures { (D.written result ≡ self.written) × (D.synced result ≡ self.durable) }
     {

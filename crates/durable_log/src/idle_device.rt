@@ -49,6 +49,14 @@ impl<E, N: Naming<E>, D: Disk> IdleDevice<E, N, D> {
     }
 
     /// Returns the disk.
+    pub fn disk(&self) -> &D
+        ensures written { D.written result.now ≡ (self.now).written }
+        ensures synced { D.synced result.now ≡ (self.now).durable }
+    {
+        self.device.disk()
+    }
+
+    /// Returns the disk.
     pub fn into_disk(self) -> D
         ensures { (D.written result ≡ self.written) × (D.synced result ≡ self.durable) }
     {

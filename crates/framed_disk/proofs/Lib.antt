@@ -1,3 +1,4 @@
+pub mod Endings
 pub mod Framing
 pub mod Steps
 pub mod Survivors

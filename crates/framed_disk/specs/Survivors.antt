@@ -16,6 +16,13 @@ pub record IsLogReading (id : ℕ) (bytes : List ℕ) (frames : List Frame) (res
 abbrev pub IsReadable : ℕ → List ℕ → Type 0
 IsReadable id bytes = (frames : List Frame) × (rest : List ℕ) × IsLogReading id bytes frames rest
 
+-- the bytes are read as a log whose payloads are this content
+pub record IsReadAs (id : ℕ) (bytes content : List ℕ) : Type 0 where
+  pub frames : List Frame
+  pub rest : List ℕ
+  pub read : IsLogReading id bytes frames rest
+  pub payloads_are : content ≡ payloads frames
+
 -- a crash may leave these bytes: they have all that are synced, and are a prefix of those that were written
 pub record MayBeLeft (v : FramedView) (left : List ℕ) : Type 0 where
   pub kept : IsPrefix v.synced left

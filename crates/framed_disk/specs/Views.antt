@@ -1,5 +1,6 @@
 -- A framed disk, as contracts see it.
 use Rattle.std.specs.Prelude.{◌≡◌, ◌⊎◌, ℕ, Bool, false, true, List, [], ◌∷◌, ◌++◌, IsErr, OnErr, Result, length}
+use mathlib.Core.List.{IsPrefix}
 use Rattle.log_frames.specs.Frames.{Frame, IsFrame, end_of, frame_of, payloads}
 use Rattle.log_frames.specs.Headers.{log_bytes, start_of}
 
@@ -48,6 +49,17 @@ pub record KeepsPayloads (old new : FramedView) : Type 0 where
   pub all : payloads new.frames ≡ payloads old.frames
   pub synced_frames : new.synced_frames ≡ old.synced_frames
 
+-- the frames are the same
+pub record KeepsFrames (old new : FramedView) : Type 0 where
+  pub id : new.id ≡ old.id
+  pub frames : new.frames ≡ old.frames
+
+-- the payloads are the same, and those that were synced are
+pub record KeepsDurable (old new : FramedView) : Type 0 where
+  pub id : new.id ≡ old.id
+  pub all : attempted new ≡ attempted old
+  pub durable : IsPrefix (durable old) (durable new)
+
 -- the last of the frames states this offset
 pub record LastStates (offset : ℕ) (frames : List Frame) : Type 0 where
   pub before : List Frame
@@ -58,6 +70,12 @@ pub record LastStates (offset : ℕ) (frames : List Frame) : Type 0 where
 -- the last frame states the synced offset
 abbrev pub IsMarked : FramedView → Type 0
 IsMarked v = LastStates (synced_offset v) v.frames
+
+-- the log ends in order: all frames are synced, and the last one is a mark, which states that those before it are
+pub record EndsInOrder (v : FramedView) : Type 0 where
+  pub before : List Frame
+  pub marked : v.frames ≡ before ++ frame_of (length (log_bytes v.id before)) [] ∷ []
+  pub synced : v.synced_frames ≡ v.frames
 
 -- a log has no room for a frame with this payload after the frames
 abbrev pub HasNoRoom : FramedView → List ℕ → Type 0

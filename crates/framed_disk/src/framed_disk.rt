@@ -6,12 +6,12 @@ ghost use Rattle.log_frames.specs.Frames.{AreFrames, IsHead, end_of, head_of};
 ghost use Rattle.log_frames.specs.Headers.{log_bytes, start_of};
 ghost use Rattle.framed_disk.specs.Invariants.{IsInOrder};
 ghost use Rattle.framed_disk.specs.Survivors.{AreHarmless, IsReadable, IsUnforged, LeavesCut, MayBeLeft, Preserves};
-ghost use Rattle.framed_disk.specs.Views.{AddsFrame, FailsAfterFailure, FailsOrHasNoRoom, IsMarked, KeepsPayloads, attempted, durable, opened};
+ghost use Rattle.framed_disk.specs.Views.{AddsFrame, EndsInOrder, FailsAfterFailure, FailsOrHasNoRoom, IsMarked, KeepsDurable, KeepsFrames, KeepsPayloads, attempted, durable, opened};
 
 use crate::deed::{FrameDeed, FramesName, NoFrames, Syncs, add_frame, add_named};
 use crate::put::{TOGETHER, write_frame};
 use ghost_log::{SharedLog, Writer};
-use log_disk::{Disk, DiskError};
+use log_disk::{Disk, DiskError, FileBacked, FileDisk, PlainFile};
 use log_frames::{Cursor, MAX_PAYLOAD, header_bytes, start_of};
 use std::alloc::Global;
 use std::io::{self, ErrorKind};
@@ -123,6 +123,13 @@ impl<D: Disk> FramedDisk<D> {
         &self.raw
     }
 
+    /// Returns the log's id.
+    pub fn id(&self) -> u64
+        ensures { result ≡ (self.now).id }
+    {
+        self.id
+    }
+
     /// Writes a frame without a payload if more is synced than the last frame states.
     ///
     /// If nothing is written after it, no damage in front of it can be taken for a write that was cut off.
@@ -140,6 +147,23 @@ impl<D: Disk> FramedDisk<D> {
             return Ok(());
         }
         self.write_payload(b"")
+    }
+
+    /// Ends the log in order: syncs it, writes a mark, which states that, and syncs it again.
+    ///
+    /// # Errors
+    ///
+    /// - The error of the call that has failed, now or before.
+    /// - `FileTooLarge` if a log has no room for the mark.
+    #[tactic(auto, using(crate::proofs::Endings::keeps_synced, crate::proofs::Endings::keeps_marked, crate::proofs::Endings::ends_in_order))]
+    pub fn end(&mut self) -> Result<(), DiskError>
+        ensures kept { KeepsDurable self.old self.new }
+        ensures ended { OnOk result (EndsInOrder self.new) }
+    {
+        self.reveal_invariant();
+        self.sync()?;
+        self.write_payload(&[])?;
+        self.sync()
     }
 
     /// Does nothing at run time: it gives the caller the invariant as facts.
@@ -238,6 +262,7 @@ impl<D: Disk> Disk for FramedDisk<D> {
         ensures err { OnErr result (IsTorn (attempted self.old) bytes.now (attempted self.new)) }
         ensures kept { durable self.new ≡ durable self.old }
         ensures frame { OnOk result (AddsFrame self.old bytes.now self.new) }
+        ensures id { (self.new).id ≡ (self.old).id }
         ensures stuck { FailsAfterFailure result self.old self.new }
         ensures cause { FailsOrHasNoRoom result self.old bytes.now self.new }
     {
@@ -254,6 +279,7 @@ impl<D: Disk> Disk for FramedDisk<D> {
         ensures ok { OnOk result (durable self.new ≡ attempted self.old) }
         ensures err { OnErr result (durable self.new ≡ durable self.old) }
         ensures frames { OnOk result ((self.new).synced_frames ≡ (self.new).frames) }
+        ensures unwritten { KeepsFrames self.old self.new }
         ensures stuck { FailsAfterFailure result self.old self.new }
         ensures cause { OnErr result ((self.new).failed ≡ true) }
     {
@@ -267,5 +293,26 @@ impl<D: Disk> Disk for FramedDisk<D> {
         self.deeds.append::<Syncs>(&mut self.writer);
         self.synced = self.cursor.place;
         Ok(())
+    }
+}
+
+impl<D: PlainFile> FileBacked for FramedDisk<D> {
+    ghost use Rattle.framed_disk.specs.Survivors.{IsReadAs};
+
+    ghost file_written = { λ v. v.written };
+
+    ghost file_synced = { λ v. v.synced };
+
+    ghost reads_as = { λ v. IsReadAs v.id };
+
+    fn file(&self) -> &FileDisk {
+        self.raw.as_file()
+    }
+
+    /// Does nothing at run time: whatever a crash leaves of the file is read as a log. Its payloads have all that are synced,
+    /// and are a prefix of those that were written.
+    #[tactic(auto, using(crate::proofs::Endings::has_content))]
+    fn reveal_kept(&self, left: &[u8]) {
+        self.reveal_survivors(left);
     }
 }

@@ -4,12 +4,10 @@ use Rattle.ghost_log.specs.declared.view.Entry.{Entry}
 use Rattle.ghost_log.specs.Entries.{IsPrefix, events_by}
 use Rattle.durable_log.specs.Views as durable
 use Rattle.store_model.specs.Histories.{Step}
-use Rattle.locked_book.specs.Counting.{StoreContent}
-use Rattle.locked_book.specs.Found.{IsContentOf}
-use Rattle.locked_book.specs.History.{DeskView, Trace, state_of}
+use Rattle.locked_book.specs.History.{DeskView, Trace}
 use Rattle.locked_book.specs.Logging.{promises}
 use Rattle.locked_book.specs.Names.{StoreNames}
-use Rattle.locked_book.specs.Restoring.{IsRestorable, records_of}
+use Rattle.locked_book.specs.Restoring.{records_of}
 
 -- a desk's trace as the trace of a writer of the log
 abbrev pub log_trace : Trace → durable.Trace Step
@@ -38,15 +36,9 @@ LearnsDurable names old new = IsConfirmed names old.trace new.trace
 
 -- ---- after a crash
 
--- The bytes have the records of all steps that a desk knows to be durable. They are a prefix of the records of a
--- history that begins with those steps, and whose log restores this content.
-pub record Survives (names : StoreNames) (k : StoreContent) (trace : Trace) (left : List ℕ) : Type 0 where
-  pub history : List (Entry Step)
-  pub restores : IsRestorable names history (state_of k)
-  pub known : IsPrefix trace.durable history
+-- The desk knows a first part of the history that it has seen to be durable. The bytes have all records of that part, and they are first bytes of the
+-- history's log.
+pub record Survives (names : StoreNames) (trace : Trace) (left : List ℕ) : Type 0 where
+  pub known : IsPrefix trace.durable trace.seen
   pub durable : IsPrefix (names.log.base ++ records_of names trace.durable) left
-  pub in_order : IsPrefix left (names.log.base ++ records_of names history)
-
--- this is true of some content of the store
-abbrev pub SurvivesOfSome : StoreNames → Trace → List ℕ → Type 0
-SurvivesOfSome names trace left = (k : StoreContent) × IsContentOf names k × Survives names k trace left
+  pub in_order : IsPrefix left (names.log.base ++ records_of names trace.seen)

@@ -9,9 +9,8 @@ use Rattle.log_records.specs.Changes as logged
 use Rattle.log_records.specs.Records.{records_bytes}
 use Rattle.store_model.specs.Catalog.{Tenant}
 use Rattle.store_model.specs.Durable.{Agrees, AgreesAfter, AreReturnedAsTaken, DurableState, changes_of, initial_durable}
-use Rattle.store_model.specs.Histories.{State, Step}
-use Rattle.locked_book.specs.Counting.{StoreContent}
-use Rattle.locked_book.specs.History.{LogLeadsTo, state_of, steps_of}
+use Rattle.store_model.specs.Histories.{IsLegal, State, Step}
+use Rattle.locked_book.specs.History.{DeskView, LogLeadsTo, SeesAll, steps_of}
 use Rattle.locked_book.specs.Logging.{has_log, logged_change, recorded_bytes}
 use Rattle.locked_book.specs.Names.{OpensNew, StoreNames}
 use Rattle.locked_book.specs.Returns.{AreWellFormed}
@@ -40,20 +39,23 @@ pub record IsRestorable (names : StoreNames) (history : List (Entry Step)) (s : 
   pub returned : AreReturnedAsTaken fmap.empty (steps_of history)
   pub formed : AreWellFormed history
 
--- the log of some history restores this content
-abbrev pub HasDurableState : StoreNames → StoreContent → Type 0
-HasDurableState names k = (history : List (Entry Step)) × IsRestorable names history (state_of k)
+-- the history is legal, and its log restores each state to which it leads
+pub record RestoresItsStates (names : StoreNames) (history : List (Entry Step)) : Type 0 where
+  pub legal : IsLegal names.opening (steps_of history)
+  pub restores : (s : State) → LogLeadsTo names.opening history s → IsRestorable names history s
 
--- The log of a history restores this content. The device took over a first part of the history. Its disk has first
--- bytes of the log, after those that it had before.
-pub record IsOnDisk (names : StoreNames) (k : StoreContent) (d : DeviceView Step) : Type 0 where
-  pub history : List (Entry Step)
-  pub restores : IsRestorable names history (state_of k)
+-- A desk has now seen the whole history of a store, of which it had seen a first part. It made no step. The log of the history restores each state
+-- to which the history leads.
+pub record SeesStoreHistory (names : StoreNames) (old new : DeskView) : Type 0 where
+  pub amounts : new.amounts ≡ old.amounts
+  pub sees : SeesAll new.trace.seen old.trace new.trace
+  pub restores : RestoresItsStates names new.trace.seen
+
+-- The device took over a first part of the history. Its disk has first bytes of the history's log, after those that it had before.
+pub record IsOnDisk (names : StoreNames) (history : List (Entry Step)) (d : DeviceView Step) : Type 0 where
   pub taken : IsPrefix d.taken history
   pub in_order : IsPrefix d.written (names.log.base ++ records_of names history)
 
--- The log of a history restores this content. The disk has the whole log, after what it had before, and no more.
-pub record IsWholeOnDisk (names : StoreNames) (k : StoreContent) (d : DeviceView Step) : Type 0 where
-  pub history : List (Entry Step)
-  pub restores : IsRestorable names history (state_of k)
-  pub whole : d.written ≡ names.log.base ++ records_of names history
+-- the disk has the whole log of the history, after what it had before, and no more
+abbrev pub IsWholeOnDisk : StoreNames → List (Entry Step) → DeviceView Step → Type 0
+IsWholeOnDisk names history d = d.written ≡ names.log.base ++ records_of names history

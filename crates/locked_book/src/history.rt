@@ -10,7 +10,7 @@ ghost use Rattle.locked_book.specs.Durability.{IsConfirmed, log_trace};
 ghost use Rattle.locked_book.specs.Logging.{IsSmall, IsUnrecorded, NamesTenant, promises, recorded_bytes};
 ghost use Rattle.locked_book.specs.Names.{OpensNew};
 ghost use Rattle.locked_book.specs.Recording.{IsRecord};
-ghost use Rattle.locked_book.specs.Restoring.{IsRestorable, records_of};
+ghost use Rattle.locked_book.specs.Restoring.{IsRestorable, RestoresItsStates, records_of};
 ghost use Rattle.locked_book.specs.Returns.{AreReturned, AreWellFormed, MayReturn, ReturnsFilledHand};
 
 use crate::call::Call;
@@ -147,6 +147,17 @@ impl<S: Naming> History<S> {
         ensures { (s : State) → LogLeadsTo S.names.opening self.now s → IsRestorable S.names self.now s }
     {
         self.reveal_invariant();
+    }
+
+    /// Shows a writer the whole history, and states that its log restores each state to which it leads.
+    pub fn reveal_restored(&mut self, writer: &mut HistoryWriter<S>)
+        requires { IsLegal S.names.opening (steps_of self.old) }
+        ensures same { self.new ≡ self.old }
+        ensures sees { SeesAll self.old writer.old writer.new }
+        ensures restores { RestoresItsStates S.names writer.new.seen }
+    {
+        self.reveal_durable_state();
+        self.catch_up(writer);
     }
 
     /// Does nothing at run time: it states what the disk has of the history's log.

@@ -4,8 +4,8 @@ ghost use Rattle.std.specs.Prelude.{◌≡◌, [], length, IfOk, IfSome, OnErr, 
 ghost use Rattle.ghost_log.specs.Entries.{IsPrefix};
 ghost use Rattle.durable_log.specs.Views.{IsReady, IsSynced, IsUnconfirmed, KeepsDisk};
 ghost use Rattle.locked_book.specs.Durability.{IsDurable, LearnsDurable, OnlyLearns, Survives, log_trace};
-ghost use Rattle.locked_book.specs.Restoring.{records_of};
-ghost use Rattle.locked_book.specs.Found.{IsContentOf};
+ghost use Rattle.locked_book.specs.History.{LogLeadsTo, state_of};
+ghost use Rattle.locked_book.specs.Restoring.{SeesStoreHistory, records_of};
 ghost use Rattle.locked_book.specs.Logging.{promises, recorded_bytes};
 
 use crate::desk::Desk;
@@ -121,7 +121,7 @@ impl<S: Naming> LockedBook<S> {
         device.take_over(&mut self.history.backlog)
     }
 
-    /// Does nothing at run time: it states what a crash leaves of the store's history.
+    /// Shows a desk the whole history, and states what a crash leaves of it.
     ///
     /// `left` is what the disk has after a crash: a prefix of what was written, with all that was synced.
     pub fn reveal_survivors<D: Disk>(
@@ -132,12 +132,12 @@ impl<S: Naming> LockedBook<S> {
     )
         requires synced { IsPrefix device.old.durable left.now }
         requires written { IsPrefix left.now device.old.written }
-        ensures same { (self.new ≡ self.old) × (device.new ≡ device.old) × (desk.new ≡ desk.old) }
-        ensures content { IsContentOf S.names self.old }
-        ensures survives { Survives S.names self.old desk.old.trace left.now }
+        ensures same { (self.new ≡ self.old) × (device.new ≡ device.old) }
+        ensures sees { SeesStoreHistory S.names desk.old desk.new }
+        ensures leads { LogLeadsTo S.names.opening desk.new.trace.seen (state_of self.new) }
+        ensures survives { Survives S.names desk.new.trace left.now }
     {
-        self.reveal_invariant();
-        self.history.reveal_durable_state();
+        self.history.reveal_restored(&mut desk.writer);
         self.history
             .reveal_survivors(device, &mut desk.writer, left);
     }

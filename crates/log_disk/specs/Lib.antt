@@ -1,2 +1,3 @@
 pub mod Deeds
+pub mod Kept
 pub mod Torn

@@ -1,15 +1,14 @@
 -- The payloads of segments.
-use Rattle.std.proofs.Common.{◌≡◌, ℕ, List, [], ◌++◌, ◌∙◌, ap, refl, sym, subst, append_assoc, append-nil}
-use Rattle.std.proofs.lemmas.Grind.{flat_map-append}
+use Rattle.std.proofs.Common.{◌≡◌, ℕ, Bool, List, [], ◌++◌, ◌∙◌, ap, refl, sym, subst, append_assoc, append-nil}
 use mathlib.Core.List.{IsPrefix}
-use Rattle.framed_disk.specs.Invariants.{IsInOrder}
-use Rattle.framed_disk.specs.Survivors.{Preserves}
-use Rattle.framed_disk.specs.Views.{FramedView, attempted, durable}
+use Rattle.framed_disk.specs.Survivors.{IsReadable, Preserves}
+use Rattle.framed_disk.specs.Views.{EndsInOrder, FramedView, KeepsDurable, attempted, durable}
+use Rattle.log_disk.specs.Kept.{HasContent, IsPreserved, PreservesContents}
 use Rattle.log_disk.specs.Torn.{IsTorn}
 use Rattle.log_frames.specs.Frames.{Frame, payloads}
-use Rattle.segmented_disk.specs.Invariants.{KeepsSynced}
-use Rattle.segmented_disk.specs.Survivors.{PreservesAll}
-use Rattle.segmented_disk.specs.Views.{IsDurable, SegmentedView, all_durable}
+use Rattle.segmented_disk.specs.Invariants.{IsPublished, KeepsSynced}
+use Rattle.segmented_disk.specs.Survivors.{IsReadAs, PreservesAll}
+use Rattle.segmented_disk.specs.Views.{FolderView, IsNewLog, SegmentedView, after_publish, all_attempted, all_durable, closed, segmented}
 
 module _ {A : Type 0} where
   pub prefix_same : (xs ys : List A) → ys ≡ xs → IsPrefix xs ys
@@ -22,21 +21,37 @@ module _ {A : Type 0} where
   pub prefix_behind : (front xs ys : List A) → IsPrefix xs ys → IsPrefix (front ++ xs) (front ++ ys)
   prefix_behind front xs ys p = (p.0, append_assoc front xs p.0 ∙ ap (λ w. front ++ w) p.1)
 
--- what is durable of a segment was written
-pub durable_written : (v : FramedView) → IsInOrder v → IsPrefix (durable v) (attempted v)
-durable_written v is = let p = is.synced_of in (payloads p.0, sym (flat_map-append (λ (f : Frame). f.payload) v.synced_frames p.0) ∙ ap payloads p.1)
-
 -- the synced payloads are durable if those that were durable are
 pub still_durable : (closed synced old new : List ℕ) → IsPrefix synced (closed ++ old) → IsPrefix old new → IsPrefix synced (closed ++ new)
 still_durable closed synced old new is kept = prefix_trans synced (closed ++ old) (closed ++ new) is (prefix_behind closed old new kept)
 
--- the last segment was closed when all of it was durable
-pub starts_next : (closed closed' synced : List ℕ) (old ended next : FramedView)
-    → IsPrefix synced (closed ++ durable old) → IsPrefix (durable old) (durable ended) → IsDurable ended → closed' ≡ closed ++ attempted ended → IsPrefix synced (closed' ++ durable next)
-starts_next closed closed' synced old ended next is kept all added =
-    let before : IsPrefix synced (closed ++ durable ended) = still_durable closed synced (durable old) (durable ended) is kept in
-    let now : IsPrefix synced closed' = subst (λ t. IsPrefix synced t) (ap (λ t. closed ++ t) all ∙ sym added) before in
-    prefix_trans synced closed' (closed' ++ durable next) now (durable next, refl)
+-- the last segment has the same payloads, and those that were durable are
+pub still_published : (before : List ℕ) (f g : FolderView) (old new : FramedView) (synced : List ℕ) (b c : Bool)
+    → IsPublished (segmented before f old synced b) → g ≡ f → KeepsDurable old new → IsPublished (segmented before g new synced c)
+still_published before f g old new synced b c is same kept =
+    subst (λ (h : FolderView). IsPublished (segmented before h new synced c)) (sym same)
+    (record { keeps = still_durable (before ++ f.ended) synced (durable old) (durable new) is.keeps kept.durable; last = kept.id ∙ is.last })
+
+-- the next segment was published after the last one had ended
+pub next_published : (before : List ℕ) (f g : FolderView) (old ended next : FramedView) (synced : List ℕ) (b c : Bool)
+    → IsPublished (segmented before f old synced b) → KeepsDurable old ended → EndsInOrder ended → g ≡ after_publish f (attempted ended) next.id
+    → IsPublished (segmented before g next synced c)
+next_published before f g old ended next synced b c is kept ends published =
+    let whole : IsPrefix synced ((before ++ f.ended) ++ durable ended) = still_durable (before ++ f.ended) synced (durable old) (durable ended) is.keeps kept.durable in
+    let closed : IsPrefix synced (before ++ (f.ended ++ attempted ended)) =
+    subst (λ t. IsPrefix synced t) (ap (λ t. (before ++ f.ended) ++ t) (ap payloads ends.synced) ∙ append_assoc before f.ended (attempted ended)) whole in
+    subst (λ (h : FolderView). IsPublished (segmented before h next synced c)) (sym published)
+    (record {
+      keeps = prefix_trans synced (before ++ (f.ended ++ attempted ended)) ((before ++ (f.ended ++ attempted ended)) ++ durable next) closed (durable next, refl);
+      last = refl;
+    })
+
+-- a new log after the last segment has no payload
+pub next_payloads : (before : List ℕ) (f g : FolderView) (old ended next : FramedView)
+    → KeepsDurable old ended → IsNewLog next → g ≡ after_publish f (attempted ended) next.id → (before ++ g.ended) ++ attempted next ≡ (before ++ f.ended) ++ attempted old
+next_payloads before f g old ended next kept new published =
+    ap (λ (v : FramedView). (before ++ g.ended) ++ attempted v) new ∙ append-nil (before ++ g.ended) ∙ ap (λ (h : FolderView). before ++ h.ended) published
+    ∙ ap (λ t. before ++ (f.ended ++ t)) kept.all ∙ sym (append_assoc before f.ended (attempted old))
 
 -- a write that fails before it writes
 pub nothing_written : (old bytes new : List ℕ) → new ≡ old → IsTorn old bytes new
@@ -47,6 +62,16 @@ pub preserves_all : (v : SegmentedView) (bytes : List ℕ) → KeepsSynced v →
 preserves_all v bytes is preserved frames rest read =
     let p = preserved frames rest read in
     record {
-      kept = prefix_trans v.synced (all_durable v) (v.closed ++ payloads frames) is (prefix_behind v.closed (durable v.segment) (payloads frames) p.kept_payloads);
-      made = prefix_behind v.closed (payloads frames) (attempted v.segment) p.made_payloads;
+      kept = prefix_trans v.synced (all_durable v) (closed v ++ payloads frames) is (prefix_behind (closed v) (durable v.segment) (payloads frames) p.kept_payloads);
+      made = prefix_behind (closed v) (payloads frames) (attempted v.segment) p.made_payloads;
     }
+
+-- ---- the content
+
+pub has_content : (v : SegmentedView) (bytes : List ℕ) → IsReadable v.segment.id bytes → HasContent (IsReadAs v bytes)
+has_content v bytes (frames, rest, read) = (closed v ++ payloads frames, record { frames = frames; rest = rest; read = read; payloads_are = refl })
+
+pub preserves_contents : (v : SegmentedView) (bytes : List ℕ) → PreservesAll v bytes → PreservesContents (IsReadAs v bytes) (all_attempted v) v.synced
+preserves_contents v bytes preserved content is =
+    let p = preserved is.frames is.rest is.read in
+    subst (λ (t : List ℕ). IsPreserved (all_attempted v) v.synced t) (sym is.payloads_are) (record { kept = p.kept; made = p.made })

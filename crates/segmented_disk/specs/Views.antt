@@ -1,25 +1,43 @@
 -- A disk of segments, as contracts see it.
 use Rattle.std.specs.Prelude.{◌≡◌, ◌⊎◌, ◌/◌, ℕ, Bool, true, List, [], ◌++◌, IsErr, Result, max, min}
-use mathlib.Core.List.{IsPrefix}
 use Rattle.framed_disk.specs.Views.{AddsFrame, FramedView, attempted, durable, opened}
 
--- the payloads of the closed segments, the last segment, the payloads that are synced, and whether a call has failed
+-- what a folder has published: the payloads of the segments after which it has published the next one, and the id of the last segment
+pub record FolderView : Type 0 where
+  pub ended : List ℕ
+  pub last_id : ℕ
+
+-- a folder that has published nothing yet, whose last segment has this id
+abbrev pub starting : ℕ → FolderView
+starting id = record { ended = []; last_id = id }
+
+-- the same folder after it has published the segment with this id after one with these payloads
+abbrev pub after_publish : FolderView → List ℕ → ℕ → FolderView
+after_publish f payloads id = record { ended = f.ended ++ payloads; last_id = id }
+
+-- the payloads of the segments that were closed before the disk was opened, what the folder has published since then, the last segment, the
+-- payloads that are synced, and whether a call has failed
 pub record SegmentedView : Type 0 where
-  pub closed : List ℕ
+  pub before : List ℕ
+  pub folder : FolderView
   pub segment : FramedView
   pub synced : List ℕ
   pub failed : Bool
 
-abbrev pub segmented : List ℕ → FramedView → List ℕ → Bool → SegmentedView
-segmented closed segment synced failed = record { closed = closed; segment = segment; synced = synced; failed = failed }
+abbrev pub segmented : List ℕ → FolderView → FramedView → List ℕ → Bool → SegmentedView
+segmented before folder segment synced failed = record { before = before; folder = folder; segment = segment; synced = synced; failed = failed }
+
+-- the payloads of the closed segments
+abbrev pub closed : SegmentedView → List ℕ
+closed v = v.before ++ v.folder.ended
 
 -- the payloads of all segments: those whose write was attempted
 abbrev pub all_attempted : SegmentedView → List ℕ
-all_attempted v = v.closed ++ attempted v.segment
+all_attempted v = closed v ++ attempted v.segment
 
 -- the same of those that are durable, which are all of the closed segments
 abbrev pub all_durable : SegmentedView → List ℕ
-all_durable v = v.closed ++ durable v.segment
+all_durable v = closed v ++ durable v.segment
 
 -- the length up to which the last segment is written, in bytes: a sixteenth of the closed ones, but at least 1 MiB and at most 64 MiB
 abbrev pub length_limit : ℕ → ℕ
@@ -35,11 +53,6 @@ IsDurable v = durable v ≡ attempted v
 abbrev pub IsNewLog : FramedView → Type 0
 IsNewLog v = v ≡ opened v.id []
 
--- the segment has the same payloads, and those that were durable are
-pub record KeepsDurable (old new : FramedView) : Type 0 where
-  pub all : attempted new ≡ attempted old
-  pub durable : IsPrefix (durable old) (durable new)
-
 -- ---- calls
 
 -- the payloads are the same, and so are those that are synced
@@ -47,19 +60,23 @@ pub record KeepsPayloads (old new : SegmentedView) : Type 0 where
   pub all : all_attempted new ≡ all_attempted old
   pub synced : new.synced ≡ old.synced
 
--- the last segment was closed with all its payloads, and a new log is the last one
+-- the folder has published a new log after the last segment, which is closed with all its payloads; the new log is the last segment
 pub record StartsNext (old new : SegmentedView) : Type 0 where
-  pub closed : new.closed ≡ old.closed ++ attempted old.segment
+  pub before : new.before ≡ old.before
+  pub published : new.folder ≡ after_publish old.folder (attempted old.segment) new.segment.id
   pub segment : IsNewLog new.segment
 
 -- a frame with the payload was added to the last segment
 pub record AddsToLast (old : SegmentedView) (payload : List ℕ) (new : SegmentedView) : Type 0 where
-  pub closed : new.closed ≡ old.closed
+  pub before : new.before ≡ old.before
+  pub folder : new.folder ≡ old.folder
   pub segment : AddsFrame old.segment payload new.segment
 
--- the last segment was closed with all its payloads, and a frame with the payload is the first one of a new log
+-- the folder has published a new log after the last segment, which is closed with all its payloads; a frame with the payload is the first
+-- one of the new log
 pub record AddsToNext (old : SegmentedView) (payload : List ℕ) (new : SegmentedView) : Type 0 where
-  pub closed : new.closed ≡ old.closed ++ attempted old.segment
+  pub before : new.before ≡ old.before
+  pub published : new.folder ≡ after_publish old.folder (attempted old.segment) new.segment.id
   pub segment : AddsFrame (opened new.segment.id []) payload new.segment
 
 -- the payload is in one frame, on the last segment or on a new one

@@ -1,11 +1,13 @@
 //! Bytes that exist in the proof alone.
 
-ghost use Rattle.std.specs.Prelude.{◌≡◌, [], IfOk};
+ghost use Rattle.std.specs.Prelude.{◌≡◌, ◌++◌, [], IfOk};
+ghost use Rattle.framed_disk.specs.Views.{attempted};
 
+use framed_disk::FramedDisk;
 use ghost_log::{Event, SharedLog, Writer};
-use log_disk::BytesName;
+use log_disk::{BytesName, Disk};
 use std::alloc::{AllocError, Global};
-use std::marker::{Model, PhantomData};
+use std::marker::{Brand, Model, PhantomData};
 
 /// No bytes.
 pub struct NoBytes;
@@ -40,7 +42,7 @@ impl<P: BytesName> Event<BytesSet> for Sets<P> {
 
 /// Bytes, in the proof alone. At run time it has no content.
 #[derive(Drop)]
-pub(crate) struct BytesCell {
+pub struct BytesCell {
     sets: SharedLog<BytesSet>,
     writer: Writer<BytesSet>,
 }
@@ -74,4 +76,19 @@ impl BytesCell {
     {
         self.sets.append::<Sets<P>>(&mut self.writer);
     }
+    /// Adds the payloads of a segment.
+    pub fn add_payloads<D: Disk>(&mut self, segment: &FramedDisk<D>)
+        ensures { self.new ≡ self.old ++ attempted segment.now }
+    {
+        add_payloads_as::<Brand, D>(self, segment);
+    }
+}
+
+/// Adds the payloads of a segment to a cell. The bytes are picked in the proof alone.
+fn add_payloads_as<P: BytesName, D: Disk>(cell: &mut BytesCell, segment: &FramedDisk<D>)
+    requires { P.bytes ≡ cell.old ++ attempted segment.now }
+    ensures { cell.new ≡ cell.old ++ attempted segment.now }
+{
+    let _ = segment;
+    cell.set::<P>();
 }

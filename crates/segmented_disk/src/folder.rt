@@ -1,13 +1,24 @@
 //! What makes the disks of segments.
 
-ghost use Rattle.std.specs.Prelude.{◌≡◌, [], IfOk};
-ghost use Rattle.segmented_disk.specs.Views.{IsDurable, IsNewLog};
+ghost use Rattle.std.specs.Prelude.{◌≡◌, [], IfOk, OnErr, OnOk};
+ghost use Rattle.framed_disk.specs.Views.{EndsInOrder, attempted};
+ghost use Rattle.segmented_disk.specs.Views.{IsNewLog, after_publish};
 
 use framed_disk::FramedDisk;
 use log_disk::{Disk, DiskError};
 
 /// A folder that makes the disks of a log's segments.
+///
+/// Contracts see what it has `published` since it was made: the payloads of the segments that have ended, and the id of the
+/// last segment. Only `publish` changes that.
 pub trait SegmentFolder<D: Disk>: Drop {
+    ghost use Rattle.segmented_disk.specs.Views.{FolderView};
+
+    ghost published: { Self → FolderView };
+
+    /// Returns whether the last segment is to be closed before the next payload is written, however short it is.
+    fn wants_next(&self) -> bool;
+
     /// Makes an empty disk for the next segment. Returns it, and the id of the segment's log.
     ///
     /// A crash may lose the disk until it is published.
@@ -16,15 +27,20 @@ pub trait SegmentFolder<D: Disk>: Drop {
     ///
     /// The cause.
     fn create(&mut self) -> Result<(D, u64), DiskError>
-        ensures { IfOk result (λ r. D.written r.0 ≡ []) };
+        ensures empty { IfOk result (λ r. D.written r.0 ≡ []) }
+        ensures kept { published self.new ≡ published self.old };
 
     /// Publishes the disk that was created last, on which the new log `next` is: it is the segment after `ended` from then on,
-    /// also after a crash.
+    /// also after a crash. `ended` is the last segment. It ends in order: with a mark, and all of it is synced.
     ///
     /// # Errors
     ///
     /// The cause. The disk may have been published.
     fn publish(&mut self, ended: &FramedDisk<D>, next: &FramedDisk<D>) -> Result<(), DiskError>
-        requires ended { IsDurable ended.now }
-        requires next { IsNewLog next.now };
+        requires ended { EndsInOrder ended.now }
+        requires last { (ended.now).id ≡ (published self.old).last_id }
+        requires next { IsNewLog next.now }
+        ensures ok { OnOk result (published self.new ≡
+            after_publish (published self.old) (attempted ended.now) (next.now).id) }
+        ensures err { OnErr result (published self.new ≡ published self.old) };
 }

@@ -5,6 +5,6 @@ mod bytes_cell;
 mod folder;
 mod segmented_disk;
 
-pub use bytes_cell::NoBytes;
+pub use bytes_cell::{BytesCell, NoBytes};
 pub use folder::SegmentFolder;
 pub use segmented_disk::SegmentedDisk;

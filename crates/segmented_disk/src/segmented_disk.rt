@@ -3,15 +3,15 @@
 ghost use Rattle.std.specs.Prelude.{◌≡◌, ◌<◌, ◌≤◌, ◌++◌, [], IfOk, OnOk, OnErr, true, false};
 ghost use Rattle.log_disk.specs.Torn.{IsTorn};
 ghost use Rattle.framed_disk.specs.Survivors.{AreHarmless, IsReadable, IsUnforged, LeavesCut, MayBeLeft};
-ghost use Rattle.framed_disk.specs.Views.{IsMarked, attempted, durable};
-ghost use Rattle.segmented_disk.specs.Invariants.{KeepsSynced};
+ghost use Rattle.framed_disk.specs.Views.{EndsInOrder, IsMarked, attempted};
+ghost use Rattle.segmented_disk.specs.Invariants.{IsPublished};
 ghost use Rattle.segmented_disk.specs.Survivors.{PreservesAll};
-ghost use Rattle.segmented_disk.specs.Views.{AddsPayload, FailsAfterFailure, IsDurable, IsNewLog, KeepsDurable, KeepsPayloads, StartsNext, all_attempted, all_durable, length_limit, segmented};
+ghost use Rattle.segmented_disk.specs.Views.{AddsPayload, FailsAfterFailure, IsDurable, IsNewLog, KeepsPayloads, StartsNext, after_publish, all_attempted, all_durable, length_limit, segmented, starting};
 
 use crate::bytes_cell::BytesCell;
 use crate::folder::SegmentFolder;
 use framed_disk::FramedDisk;
-use log_disk::{BytesName, Disk, DiskError};
+use log_disk::{BytesName, Disk, DiskError, FileBacked, FileDisk, PlainFile};
 use log_frames::HEADER_LENGTH;
 use std::alloc::Global;
 use std::marker::{Brand, Model};
@@ -28,8 +28,9 @@ const GREATEST_LIMIT: u64 = 67_108_864;
 /// A disk that writes each payload as one frame on the disk of the last segment. Each segment is a log of its own.
 ///
 /// As a `Disk`, contracts see the payloads of all segments, one after another: those whose write was attempted, and those
-/// that are synced. If the last segment is long when a payload is written, the segment is closed before: all of it is
-/// durable then, and the payload goes into a new one. After a call has failed, nothing more is written.
+/// that are synced. If the last segment is long when a payload is written, or the folder wants the next one, the segment is
+/// closed before: it ends in order, and the folder has published the next one, into which the payload goes. After a call
+/// has failed, nothing more is written.
 #[derive(Drop)]
 pub struct SegmentedDisk<D: Disk, F: SegmentFolder<D>> {
     alloc: Global,
@@ -42,22 +43,22 @@ pub struct SegmentedDisk<D: Disk, F: SegmentFolder<D>> {
     length: u64,
     /// The error of the call that failed.
     failure: Option<DiskError>,
-    /// The payloads of the closed segments.
-    closed: BytesCell,
+    /// The payloads of the segments that were closed before this disk was made.
+    before: BytesCell,
     /// The payloads that calls of `sync` covered.
     synced: BytesCell,
 }
 
 impl<D: Disk, F: SegmentFolder<D>> Model for SegmentedDisk<D, F> {
     ghost use Rattle.std.specs.Prelude.{is_some};
-    ghost use Rattle.segmented_disk.specs.Invariants.{KeepsSynced};
+    ghost use Rattle.segmented_disk.specs.Invariants.{IsPublished};
     ghost use Rattle.segmented_disk.specs.Views.{SegmentedView, segmented};
 
     ghost Value = { SegmentedView };
 
-    ghost view = { λ d. segmented d.closed d.segment d.synced (is_some d.failure) };
+    ghost view = { λ d. segmented d.before (F.published d.folder) d.segment d.synced (is_some d.failure) };
 
-    ghost invariant = { λ d. KeepsSynced (segmented d.closed d.segment d.synced (is_some d.failure)) };
+    ghost invariant = { λ d. IsPublished (segmented d.before (F.published d.folder) d.segment d.synced (is_some d.failure)) };
 }
 
 /// Returns the length up to which the last segment is written, in bytes.
@@ -75,22 +76,7 @@ fn is_long(closed_length: u64, length: u64) -> bool
     limit(closed_length) < length
 }
 
-/// Ends a segment as a log that ends in order: all of it is durable, and a mark states that of what is in front of the mark.
-///
-/// # Errors
-///
-/// The error of a call on the segment.
-fn end_segment<D: Disk>(segment: &mut FramedDisk<D>) -> Result<(), DiskError>
-    ensures kept { KeepsDurable segment.old segment.new }
-    ensures durable { OnOk result (IsDurable segment.new) }
-{
-    segment.reveal_invariant();
-    segment.sync()?;
-    segment.mark()?;
-    segment.sync()
-}
-
-/// Makes the next segment. The last one is ended.
+/// Makes the next segment, and publishes it after the last one, which has ended.
 ///
 /// # Errors
 ///
@@ -101,8 +87,12 @@ fn make_segment<D: Disk, F: SegmentFolder<D>>(
     folder: &mut F,
     ended: &FramedDisk<D>,
 ) -> Result<FramedDisk<D>, DiskError>
-    requires { IsDurable ended.now }
-    ensures { IfOk result IsNewLog }
+    requires ended { EndsInOrder ended.now }
+    requires last { (ended.now).id ≡ (F.published folder.old).last_id }
+    ensures next { IfOk result IsNewLog }
+    ensures published { IfOk result (λ next. F.published folder.new ≡
+        after_publish (F.published folder.old) (attempted ended.now) next.id) }
+    ensures kept { OnErr result (F.published folder.new ≡ F.published folder.old) }
 {
     let (raw, id) = folder.create()?;
     let next = FramedDisk::create(alloc, raw, id)?;
@@ -110,46 +100,37 @@ fn make_segment<D: Disk, F: SegmentFolder<D>>(
     Ok(next)
 }
 
-/// Adds the payloads of a segment to the closed ones. The bytes are picked in the proof alone.
-fn add_closed_as<P: BytesName, D: Disk>(closed: &mut BytesCell, segment: &FramedDisk<D>)
-    requires { P.bytes ≡ closed.old ++ attempted segment.now }
-    ensures { closed.new ≡ closed.old ++ attempted segment.now }
-{
-    let _ = segment;
-    closed.set::<P>();
-}
-
-/// Adds the payloads of a segment to the closed ones.
-fn add_closed<D: Disk>(closed: &mut BytesCell, segment: &FramedDisk<D>)
-    ensures { closed.new ≡ closed.old ++ attempted segment.now }
-{
-    add_closed_as::<Brand, D>(closed, segment);
-}
-
 /// Records that all payloads are synced. The bytes are picked in the proof alone.
-fn set_synced_as<P: BytesName, D: Disk>(
+fn set_synced_as<P: BytesName, D: Disk, F: SegmentFolder<D>>(
     synced: &mut BytesCell,
-    closed: &BytesCell,
+    before: &BytesCell,
+    folder: &F,
     segment: &FramedDisk<D>,
 )
-    requires { P.bytes ≡ closed.now ++ attempted segment.now }
-    ensures { synced.new ≡ closed.now ++ attempted segment.now }
+    requires { P.bytes ≡ (before.now ++ (F.published folder.now).ended) ++ attempted segment.now }
+    ensures { synced.new ≡ (before.now ++ (F.published folder.now).ended) ++ attempted segment.now }
 {
-    let _ = closed;
+    let _ = before;
+    let _ = folder;
     let _ = segment;
     synced.set::<P>();
 }
 
 /// Records that all payloads are synced.
-fn set_synced<D: Disk>(synced: &mut BytesCell, closed: &BytesCell, segment: &FramedDisk<D>)
-    ensures { synced.new ≡ closed.now ++ attempted segment.now }
+fn set_synced<D: Disk, F: SegmentFolder<D>>(
+    synced: &mut BytesCell,
+    before: &BytesCell,
+    folder: &F,
+    segment: &FramedDisk<D>,
+)
+    ensures { synced.new ≡ (before.now ++ (F.published folder.now).ended) ++ attempted segment.now }
 {
-    set_synced_as::<Brand, D>(synced, closed, segment);
+    set_synced_as::<Brand, D, F>(synced, before, folder, segment);
 }
 
 impl<D: Disk, F: SegmentFolder<D>> SegmentedDisk<D, F> {
     /// Continues a log in segments, all of which are durable. `B` names the payloads of the closed ones, and `closed_length`
-    /// is their length. The last segment has this length. Lengths are in bytes.
+    /// is their length. The last segment has this length, and the folder makes those after it. Lengths are in bytes.
     ///
     /// # Errors
     ///
@@ -161,16 +142,17 @@ impl<D: Disk, F: SegmentFolder<D>> SegmentedDisk<D, F> {
         closed_length: u64,
         length: u64,
     ) -> Result<SegmentedDisk<D, F>, DiskError>
-        requires { IsDurable segment }
-        ensures { IfOk result (λ d. d ≡ segmented B.bytes segment (B.bytes ++ attempted segment) false) }
+        requires durable { IsDurable segment }
+        requires folder { F.published folder ≡ starting segment.id }
+        ensures { IfOk result (λ d. d ≡ segmented B.bytes (starting segment.id) segment (B.bytes ++ attempted segment) false) }
     {
-        let Ok(closed) = BytesCell::new::<B>(alloc) else {
+        let Ok(before) = BytesCell::new::<B>(alloc) else {
             return Err(DiskError::Memory);
         };
         let Ok(mut synced) = BytesCell::new::<B>(alloc) else {
             return Err(DiskError::Memory);
         };
-        set_synced(&mut synced, &closed, &segment);
+        set_synced(&mut synced, &before, &folder, &segment);
         Ok(SegmentedDisk {
             alloc,
             folder,
@@ -178,7 +160,7 @@ impl<D: Disk, F: SegmentFolder<D>> SegmentedDisk<D, F> {
             closed_length,
             length,
             failure: None,
-            closed,
+            before,
             synced,
         })
     }
@@ -188,6 +170,13 @@ impl<D: Disk, F: SegmentFolder<D>> SegmentedDisk<D, F> {
         ensures { result.now ≡ (self.now).segment }
     {
         &self.segment
+    }
+
+    /// Returns the folder that makes the segments.
+    pub fn folder(&self) -> &F
+        ensures { F.published result.now ≡ (self.now).folder }
+    {
+        &self.folder
     }
 
     /// Writes a frame without a payload on the last segment, if more is synced than its last frame states.
@@ -214,12 +203,12 @@ impl<D: Disk, F: SegmentFolder<D>> SegmentedDisk<D, F> {
         Ok(())
     }
 
-    /// Does nothing at run time: it gives the caller the invariant as a fact.
+    /// Does nothing at run time: it gives the caller the invariant as facts.
     ///
     /// All payloads that are synced are durable: they are those of the closed segments and durable ones of the last segment,
-    /// or the first of these.
+    /// or the first of these. The last segment is the one that the folder has published last.
     pub fn reveal_invariant(&self)
-        ensures { KeepsSynced self.now }
+        ensures { IsPublished self.now }
     {
         let _ = &self.segment;
     }
@@ -248,6 +237,11 @@ impl<D: Disk, F: SegmentFolder<D>> SegmentedDisk<D, F> {
         self.segment.reveal_survivors_before(left, behind);
     }
 
+    /// Returns whether the last segment is closed before the next payload is written.
+    fn is_due(&self) -> bool {
+        is_long(self.closed_length, self.length) || self.folder.wants_next()
+    }
+
     /// Closes the last segment, and goes on with a new one.
     ///
     /// # Errors
@@ -259,16 +253,15 @@ impl<D: Disk, F: SegmentFolder<D>> SegmentedDisk<D, F> {
         ensures next { OnOk result (StartsNext self.old self.new) }
         ensures failed { (self.new).failed ≡ (self.old).failed }
     {
-        end_segment(&mut self.segment)?;
+        self.segment.end()?;
         let next = make_segment(self.alloc, &mut self.folder, &self.segment)?;
-        add_closed(&mut self.closed, &self.segment);
         self.segment = next;
         self.closed_length = self.closed_length.saturating_add(self.length);
         self.length = HEADER_LENGTH;
         Ok(())
     }
 
-    /// Writes a payload on the last segment, or on a new one if the last one is long.
+    /// Writes a payload on the last segment, or on a new one if the last one is long or the folder wants the next one.
     ///
     /// # Errors
     ///
@@ -281,7 +274,7 @@ impl<D: Disk, F: SegmentFolder<D>> SegmentedDisk<D, F> {
         ensures kept { (self.new).synced ≡ (self.old).synced }
         ensures frame { OnOk result (AddsPayload self.old payload.now self.new) }
     {
-        if is_long(self.closed_length, self.length) {
+        if self.is_due() {
             self.start_next()?;
         }
         self.length = self.length.saturating_add(payload.len() as u64);
@@ -342,7 +335,29 @@ impl<D: Disk, F: SegmentFolder<D>> Disk for SegmentedDisk<D, F> {
             self.failure = Some(cause);
             return Err(cause);
         }
-        set_synced(&mut self.synced, &self.closed, &self.segment);
+        set_synced(&mut self.synced, &self.before, &self.folder, &self.segment);
         Ok(())
+    }
+}
+
+impl<D: PlainFile, F: SegmentFolder<D>> FileBacked for SegmentedDisk<D, F> {
+    ghost use Rattle.segmented_disk.specs.Survivors.{IsReadAs};
+
+    ghost file_written = { λ v. v.segment.written };
+
+    ghost file_synced = { λ v. v.segment.synced };
+
+    ghost reads_as = { IsReadAs };
+
+    /// Returns the file of the last segment.
+    fn file(&self) -> &FileDisk {
+        self.segment.file()
+    }
+
+    /// Does nothing at run time: whatever a crash leaves of the last segment's file is read as a log. The payloads of the closed
+    /// segments, and then those of the log, have all that are synced, and are a prefix of those that were written.
+    #[tactic(auto, using(crate::proofs::Segments::has_content))]
+    fn reveal_kept(&self, left: &[u8]) {
+        self.reveal_survivors(left);
     }
 }

@@ -1,2 +1,3 @@
+pub mod Restarts
 pub mod Taking
 pub mod Trails

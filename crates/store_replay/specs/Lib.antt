@@ -1,3 +1,4 @@
 pub mod Prefixes
 pub mod Replays
+pub mod Restarts
 pub mod Trails

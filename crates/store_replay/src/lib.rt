@@ -14,6 +14,7 @@ mod player;
 mod prefix;
 mod replay;
 mod replayed;
+mod restart;
 mod scan;
 mod trail;
 
@@ -25,4 +26,5 @@ pub use player::Player;
 pub use prefix::PrefixSink;
 pub use replay::Replay;
 pub use replayed::{ContinueError, Replayed, continue_on, continue_on_file, replay_log};
+pub use restart::reveal_restart;
 pub use scan::{Scan, scan_log};

@@ -233,6 +233,11 @@ impl<'s, W: Wait, S: Naming, O: ChangeSink> Replay<'s, W, S, O> {
         self.alloc
     }
 
+    /// Returns the runtime and the store.
+    pub(crate) fn store(&self) -> (&'s W, &'s Store<S>) {
+        (self.players.rt, self.players.store)
+    }
+
     /// Returns the observer of the changes.
     pub fn observer(&self) -> &O {
         &self.players.observer

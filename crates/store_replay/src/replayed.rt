@@ -5,12 +5,14 @@ ghost use Rattle.log_frames.specs.Frames.{AreFrames, end_of, payloads};
 ghost use Rattle.log_frames.specs.Headers.{log_bytes, start_of};
 ghost use Rattle.log_frames.specs.Reads.{frame_in, payload_in};
 ghost use Rattle.log_frames.specs.declared.reading.Ending.TheVariants.{End, Refused};
+ghost use Rattle.blob_store.specs.Starts.{StartsFrom};
+ghost use Rattle.segmented_disk.specs.Views.{starting};
 ghost use Rattle.store_replay.specs.Replays.{EndsWithReplayOf, HasDurable, IsReadAs, IsReplayOf, ReplaysFrame, ReplaysNoFrame, TakesPayload, total};
 
 use crate::observer::ChangeSink;
 use crate::replay::Replay;
 use crate::trail::FrameTrail;
-use blob_store::{Desk, Naming};
+use blob_store::{Desk, Naming, StartedLog, Store};
 use durable_log::IdleDevice;
 use framed_disk::{FramedDisk, FramesName};
 use locked_book::{Step, StoreLog};
@@ -41,6 +43,7 @@ pub struct Replayed<'s, W: Wait, S: Naming, O: ChangeSink> {
 }
 
 impl<'s, W: Wait, S: Naming, O: ChangeSink> Model for Replayed<'s, W, S, O> {
+    ghost use Rattle.blob_store.specs.Starts.{StartsFrom};
     ghost use Rattle.store_replay.specs.Replays.{EndsWithReplayOf, ReplayedView};
 
     ghost Value = { ReplayedView };
@@ -56,6 +59,9 @@ pub enum ContinueError {
     /// The log was not replayed to its end, or it ends within a record.
     #[error("the log is not replayed to its end")]
     Unfinished,
+    /// The store's history has other records than the log that was replayed.
+    #[error("the store has other records than the log")]
+    Differs,
     /// A call on the disk failed.
     #[error("{0}")]
     Disk(#[from] DiskError),
@@ -260,6 +266,7 @@ pub fn continue_on<
     requires synced { D.synced raw ≡ D.written raw }
     requires goes_on { replay.goes_on ≡ true }
     requires replayed { replay.replayed ≡ B.bytes ++ payloads F.frames }
+    requires folder { G.published folder ≡ starting id }
     ensures { IfOk result (λ r. HasDurable replay.entry.replayed r.1) }
 {
     let segment = FramedDisk::open::<F>(alloc, raw, id, cursor)?;
@@ -301,6 +308,7 @@ fn continue_on_file_as<
     requires closed { replay.replayed ≡ C.bytes ++ payloads trail.now }
     requires of { EndsWithReplayOf id trail.now cursor replay }
     requires goes_on { replay.goes_on ≡ true }
+    requires folder { G.published folder ≡ starting id }
     ensures { IfOk result (λ r. HasDurable replay.entry.replayed r.1) }
 {
     let _ = trail;
@@ -308,20 +316,30 @@ fn continue_on_file_as<
     continue_on::<F, C, FileDisk, G, W, S, O>(alloc, replay, raw, id, cursor, folder, closed_length)
 }
 
-/// Continues the last log of a replay on the file that it was read from. Syncs the file, writes a mark and syncs it again.
-/// `closed_length` is the length of the files of the logs that were replayed before, in bytes. Returns the desk of the
-/// replay, and the device of the store's log, which writes to that file from then on, and later to those that the folder
-/// makes.
-///
-/// The premise of `FileDisk` is that the file holds the header and the frames that were read.
-///
-/// # Errors
-///
-/// - `Unfinished` if the log was not replayed as a whole.
-/// - `Disk`: the file cannot be sought, written or synced, it has another length than the log that was read, or memory ran
-///   out.
+/// Makes the log of a start from the desk and the device of a replay.
+#[tactic(auto, using(crate::proofs::Restarts::starts_on))]
+fn start_log<D: Disk, W: Wait, S: Naming>(
+    rt: &W,
+    store: &Store<S>,
+    desk: Desk<S>,
+    device: IdleDevice<Step, StoreLog<S>, D>,
+) -> Result<StartedLog<S, D>, ContinueError>
+    requires { device.durable ≡ device.written }
+    ensures { IfOk result (λ l. StartsFrom S.names device.written l.desk.trace l.device) }
+{
+    match store.start_log(rt, desk, device) {
+        Some(log) => {
+            log.reveal_start();
+            Ok(log)
+        }
+        None => Err(ContinueError::Differs),
+    }
+}
+
+/// Continues the last log of a replay on the file that it was read from, if it was replayed as a whole. Returns the desk of the
+/// replay, and the device of the store's log.
 #[tactic(auto, using(crate::proofs::Taking::whole))]
-pub fn continue_on_file<'s, G: SegmentFolder<FileDisk>, W: Wait, S: Naming, O: ChangeSink>(
+fn continue_whole<'s, G: SegmentFolder<FileDisk>, W: Wait, S: Naming, O: ChangeSink>(
     alloc: Global,
     replayed: Replayed<'s, W, S, O>,
     file: File,
@@ -334,6 +352,7 @@ pub fn continue_on_file<'s, G: SegmentFolder<FileDisk>, W: Wait, S: Naming, O: C
     ),
     ContinueError,
 >
+    requires { G.published folder ≡ starting replayed.id }
     ensures { IfOk result (λ r. HasDurable replayed.entry.replay.replayed r.1) }
 {
     if !replayed.is_whole() {
@@ -358,5 +377,39 @@ pub fn continue_on_file<'s, G: SegmentFolder<FileDisk>, W: Wait, S: Naming, O: C
     match done {
         Ok(continued) => Ok(continued),
         Err(error) => Err(ContinueError::Disk(error)),
+    }
+}
+
+/// Continues the last log of a replay on the file that it was read from. Syncs the file, writes a mark and syncs it again.
+/// `closed_length` is the length of the files of the logs that were replayed before, in bytes.
+///
+/// Returns the log of the store's start. The store's history has exactly the records that were replayed: the payloads that
+/// were read. They are on the device's disk, all of them durable. The device writes to that file from then on, and later to
+/// those that the folder makes.
+///
+/// The premise of `FileDisk` is that the file holds the header and the frames that were read. The folder has published nothing
+/// since it was made, and that log is its last segment.
+///
+/// # Errors
+///
+/// - `Unfinished` if the log was not replayed as a whole.
+/// - `Disk`: the file cannot be sought, written or synced, it has another length than the log that was read, or memory ran
+///   out.
+/// - `Differs` if the store has other records, of steps that the replay did not make.
+#[tactic(auto, using(crate::proofs::Restarts::starts_from, crate::proofs::Restarts::all_durable))]
+pub fn continue_on_file<'s, G: SegmentFolder<FileDisk>, W: Wait, S: Naming, O: ChangeSink>(
+    alloc: Global,
+    replayed: Replayed<'s, W, S, O>,
+    file: File,
+    folder: G,
+    closed_length: u64,
+) -> Result<StartedLog<S, SegmentedDisk<FileDisk, G>>, ContinueError>
+    requires { G.published folder ≡ starting replayed.id }
+    ensures { IfOk result (λ l. StartsFrom S.names replayed.entry.replay.replayed l.desk.trace l.device) }
+{
+    let (rt, store) = replayed.replay().store();
+    match continue_whole(alloc, replayed, file, folder, closed_length) {
+        Ok((desk, device)) => start_log(rt, store, desk, device),
+        Err(error) => Err(error),
     }
 }

@@ -5,7 +5,7 @@ ghost use Rattle.locked_book.specs.declared.policy.LogPolicy.TheVariants.{NoLog}
 
 use blob_store::{Desk, LogPolicy, Naming, SharedLogDevice, Store, StoreBackend};
 use durable_log::CommitError;
-use log_disk::Disk;
+use log_disk::FileBacked;
 use std::sync::Wait;
 use wire_server::ReplyGuard;
 
@@ -18,8 +18,8 @@ const MAX_WAITING: u64 = 1_048_576;
 /// need not be durable are written without a sync: before each reply if the policy is `Never`, else before the reply to a chunk
 /// if more than 1 MiB of records waits.
 #[derive(Drop)]
-pub struct StoreGuard<'g, S: Naming, D: Disk> {
-    /// The device of the store's log. `None` for a store in memory.
+pub struct StoreGuard<'g, S: Naming, D: FileBacked> {
+    /// The device of the store's log, whose disk's content is kept by a file. `None` for a store in memory.
     device: Option<&'g SharedLogDevice<S, D>>,
     policy: LogPolicy,
     /// The position in the history up to which this guard has written the records.
@@ -31,7 +31,7 @@ pub struct StoreGuard<'g, S: Naming, D: Disk> {
     ghost named: { policy ≡ S.names.policy },
 }
 
-impl<'g, S: Naming, D: Disk> StoreGuard<'g, S, D> {
+impl<'g, S: Naming, D: FileBacked> StoreGuard<'g, S, D> {
     /// Makes the guard of a connection to a store with this device of its log.
     pub fn new(
         store: &Store<S>,
@@ -103,7 +103,7 @@ impl<'g, S: Naming, D: Disk> StoreGuard<'g, S, D> {
     }
 }
 
-impl<'g, 's, W: Wait, S: Naming, D: Disk> ReplyGuard<StoreBackend<'s, W, S>>
+impl<'g, 's, W: Wait, S: Naming, D: FileBacked> ReplyGuard<StoreBackend<'s, W, S>>
     for StoreGuard<'g, S, D> {
     ghost use Rattle.std.specs.Prelude.{◌≢◌};
     ghost use Rattle.locked_book.specs.Durability.{IsDurable};

@@ -2,6 +2,7 @@
 ghost use Rattle.std.specs.Prelude.{◌≡◌, ◌⊎◌, ◌+◌, [], IfErr, IfOk, OnErr, OnOk};
 ghost use Rattle.blob_digest.specs.declared.refusal.Refusal.TheVariants.{LimitReached, Memory};
 ghost use Rattle.blob_store.specs.Parts.{names_of};
+ghost use Rattle.blob_store.specs.Starts.{IsStarted};
 ghost use Rattle.blob_store.specs.StoreBackends.{work_of};
 ghost use Rattle.blob_store.specs.Workers.{zero_work};
 ghost use Rattle.store_server.specs.Connections.{AreServed, AreServedOn, IsClosedConnection, ServesStreams};
@@ -13,11 +14,14 @@ use crate::guard::StoreGuard;
 use crate::service_end::{EndCell, ServiceEnd};
 use crate::shared::SharedLeases;
 use blob_digest::Refusal;
-use blob_store::{Desk, MAX_DESKS, Naming, Parts, SharedLogDevice, Store, StoreBackend, Totals};
+use blob_store::{
+    Desk, MAX_DESKS, Naming, Parts, SharedLogDevice, StartedLog, Store, StoreBackend, Totals,
+};
+use durable_log::LeaderCell;
 use ghost_log::SharedLog;
 use lease_table::{LeaseEvent, LeaseNaming, LeaseWriter, LockedLeaseTable};
 use locked_book::StorePins;
-use log_disk::{Disk, FileDisk};
+use log_disk::{FileBacked, FileDisk};
 use std::alloc::{AllocError, Global};
 use std::io::{Read, Write};
 use std::marker::Brand;
@@ -28,7 +32,7 @@ use wire_server::{Ending, ReplyStream, serve};
 
 /// Serves a connection with a new desk and a new writer of the table's history. Returns why the connection ended, and the
 /// desk. If a commit fails, the connection ends with `NotDurable`, and so does the service, with the error of the log.
-fn serve_with_desk<'s, W: Wait, S: Naming, L: LeaseNaming, D: Disk, I: Read, O: Write>(
+fn serve_with_desk<'s, W: Wait, S: Naming, L: LeaseNaming, D: FileBacked, I: Read, O: Write>(
     rt: &'s W,
     alloc: Global,
     store: &'s Store<S>,
@@ -80,7 +84,7 @@ fn serve_with_desk<'s, W: Wait, S: Naming, L: LeaseNaming, D: Disk, I: Read, O: 
 ///
 /// - `LimitReached`, if 1,024 desks exist.
 /// - `Memory`, if the desk cannot be allocated.
-pub fn serve_streams<'s, W: Wait, S: Naming, L: LeaseNaming, D: Disk, I: Read, O: Write>(
+pub fn serve_streams<'s, W: Wait, S: Naming, L: LeaseNaming, D: FileBacked, I: Read, O: Write>(
     rt: &'s W,
     alloc: Global,
     store: &'s Store<S>,
@@ -115,7 +119,7 @@ fn serve_connection<
     W: Wait,
     S: Naming,
     L: LeaseNaming,
-    D: Disk,
+    D: FileBacked,
     I: Read + Drop,
     O: Write + Drop,
 >(
@@ -154,7 +158,7 @@ fn serve_connections<
     W: Threads + Wait + Sync,
     S: Naming + Send + Sync,
     L: LeaseNaming + Send + Sync,
-    D: Disk + Send,
+    D: FileBacked + Send,
     I: Read + Send + Drop,
     O: Write + Send + Drop,
 >(
@@ -178,12 +182,12 @@ fn serve_connections<
 
 /// Serves all connections on a store with one new table of leases, gives back the remaining leases, and returns the
 /// store's totals. With a device, no reply is sent before what the store promises is durable on it.
-pub fn serve_on<
+fn serve_with<
     's,
     W: Threads + Wait + Sync,
     S: Naming + Send + Sync,
     L: LeaseNaming + Send + Sync,
-    D: Disk + Send,
+    D: FileBacked + Send,
     I: Read + Send + Drop,
     O: Write + Send + Drop,
 >(
@@ -203,6 +207,48 @@ pub fn serve_on<
     serve_connections(rt, alloc, store, device, end, &table, lines);
     table.into_inner().end();
     store.totals(rt)
+}
+
+/// Serves all connections on a store with a log, which was started, as `serve_new` does. Returns the store's totals, and the
+/// device of the log. A file keeps the content of its disk.
+///
+/// The store's history begins with the records that were replayed, and no others, all of them durable on the log's device
+/// (`start`). A reply is sent only if each own step of its desk that the policy promises is durable on this device.
+/// `store_replay::reveal_restart` states what a start after a crash restores of this.
+///
+/// # Errors
+///
+/// `AllocError`, if a list of one desk cannot be allocated. Then all connections stay open.
+pub fn serve_on<
+    W: Threads + Wait + Sync,
+    S: Naming + Send + Sync,
+    L: LeaseNaming + Send + Sync,
+    D: FileBacked + Send,
+    I: Read + Send + Drop,
+    O: Write + Send + Drop,
+>(
+    rt: &W,
+    alloc: Global,
+    store: &Store<S>,
+    started: StartedLog<S, D>,
+    end: &EndCell,
+    log: SharedLog<LeaseEvent>,
+    lines: &mut [Connection<I, O>],
+) -> Result<(Totals, SharedLogDevice<S, D>), AllocError>
+    requires log { (log.name ≡ L.log) × (log.entries ≡ []) }
+    ensures start { IsStarted S.names started }
+    ensures served { OnOk result (AreServed S.names L.log I.remaining O.contents lines.old lines.new) }
+    ensures totals { IfOk result (λ r. (r.0).received ≡ (r.0).in_sessions + (r.0).closed + (r.0).abandoned) }
+    ensures same { OnErr result (lines.new ≡ lines.old) }
+{
+    started.reveal_start();
+    let mut desks = Vec::with_capacity(alloc, 1)?;
+    let (desk, device) = started.into_parts();
+    desks.push_reserved(desk);
+    store.settle(rt, desks);
+    let device = LeaderCell::new(device);
+    let totals = serve_with::<W, S, L, D, I, O>(rt, alloc, store, Some(&device), end, log, lines);
+    Ok((totals, device))
 }
 
 /// Serves all connections on a new store of these parts, with a table of leases that has this log. The type parameters
@@ -227,7 +273,7 @@ fn serve_parts<
 {
     let store = Store::<S>::new(parts);
     let end = EndCell::new();
-    serve_on::<W, S, L, FileDisk, I, O>(rt, alloc, &store, None, &end, log, lines)
+    serve_with::<W, S, L, FileDisk, I, O>(rt, alloc, &store, None, &end, log, lines)
 }
 
 /// Serves all connections on a new store of these parts until they end, and returns the store's totals.

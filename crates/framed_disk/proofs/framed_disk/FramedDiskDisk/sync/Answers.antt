@@ -31,3 +31,9 @@ returns-clause-frames g c =
     let old = c.self.inside in
     let all : after_deeds ([], []) c.append.new.self.entries ≡ after_deed (after_deeds ([], []) old.deeds.entries) None = ap (λ l. after_deeds ([], []) l.entries) c.append.ensures.log ∙ after_deeds-snoc ([], []) old.deeds.entries old.writer.number None in
     ap (λ (p : List Frame × List Frame). p.1) all ∙ sym (ap (λ (p : List Frame × List Frame). p.0) all)
+
+pub returns-clause-unwritten : goal.returns-clause-unwritten
+returns-clause-unwritten g c =
+    let old = c.self.inside in
+    let all : after_deeds ([], []) c.append.new.self.entries ≡ after_deed (after_deeds ([], []) old.deeds.entries) None = ap (λ l. after_deeds ([], []) l.entries) c.append.ensures.log ∙ after_deeds-snoc ([], []) old.deeds.entries old.writer.number None in
+    record { id = ap (λ (v : FramedView). v.id) c.self.view_is; frames = ap (λ (p : List Frame × List Frame). p.0) all ∙ ap (λ (v : FramedView). v.frames) c.self.view_is }

@@ -1,13 +1,16 @@
-use Rattle.std.proofs.Common.{subst}
-use Rattle.locked_book.specs.Counting.{StoreContent}
+use Rattle.std.proofs.Common.{refl}
 use Rattle.locked_book.specs.History.{state_of}
-use Rattle.locked_book.specs.Restoring.{IsWholeOnDisk}
+use Rattle.locked_book.proofs.SeenHistories.{leads_seen, sees_store_history, whole_seen}
 use Rattle.locked_book.proofs.locked.LockedBook.is_on_disk.Goals as goal
 
+pub reveal_restored-requires : goal.reveal_restored-requires
+reveal_restored-requires g c = (state_of c.self.inside.kept, c.self.invariant)
+
+pub returns-clause-sees : goal.returns-clause-sees
+returns-clause-sees g c = sees_store_history g.S.Naming.names c.reveal_restored.ensures.sees c.desk.view_is refl c.reveal_restored.ensures.restores
+
+pub returns-clause-leads : goal.returns-clause-leads
+returns-clause-leads g c = leads_seen g.S.Naming.names c.reveal_restored.ensures.sees (state_of c.self.inside.kept) refl c.self.invariant
+
 pub returns-clause-whole : goal.returns-clause-whole
-returns-clause-whole g c done =
-    subst (λ (k : StoreContent). IsWholeOnDisk g.S.Naming.names k c.args.device.now) c.self.view_is (record {
-      history = c.self.inside.history;
-      restores = c.reveal_durable_state.ensures (state_of c.self.inside.kept) c.self.invariant;
-      whole = c.is_on_disk.ensures.whole done;
-    })
+returns-clause-whole g c done = whole_seen g.S.Naming.names c.reveal_restored.ensures.sees c.args.device.now c.reveal_restored.ensures.same (c.is_on_disk.ensures.whole done)

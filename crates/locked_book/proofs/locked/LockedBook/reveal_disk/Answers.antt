@@ -1,14 +1,17 @@
-use Rattle.std.proofs.Common.{subst}
-use Rattle.locked_book.specs.Counting.{StoreContent}
+use Rattle.std.proofs.Common.{refl}
 use Rattle.locked_book.specs.History.{state_of}
-use Rattle.locked_book.specs.Restoring.{IsOnDisk}
+use Rattle.locked_book.proofs.SeenHistories.{leads_seen, on_disk_seen, sees_store_history}
 use Rattle.locked_book.proofs.locked.LockedBook.reveal_disk.Goals as goal
+
+pub reveal_restored-requires : goal.reveal_restored-requires
+reveal_restored-requires g c = (state_of c.self.inside.kept, c.self.invariant)
+
+pub returns-clause-sees : goal.returns-clause-sees
+returns-clause-sees g c = sees_store_history g.S.Naming.names c.reveal_restored.ensures.sees c.desk.view_is refl c.reveal_restored.ensures.restores
+
+pub returns-clause-leads : goal.returns-clause-leads
+returns-clause-leads g c = leads_seen g.S.Naming.names c.reveal_restored.ensures.sees (state_of c.self.inside.kept) refl c.self.invariant
 
 pub returns-clause-disk : goal.returns-clause-disk
 returns-clause-disk g c =
-    subst (λ (k : StoreContent). IsOnDisk g.S.Naming.names k c.args.device.now) c.self.view_is (record {
-      history = c.self.inside.history;
-      restores = c.reveal_durable_state.ensures (state_of c.self.inside.kept) c.self.invariant;
-      taken = c.reveal_disk.ensures.taken;
-      in_order = c.reveal_disk.ensures.written;
-    })
+    on_disk_seen g.S.Naming.names c.reveal_restored.ensures.sees c.reveal_restored.ensures.same c.reveal_disk.ensures.taken c.reveal_disk.ensures.written

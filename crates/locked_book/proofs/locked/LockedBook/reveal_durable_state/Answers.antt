@@ -1,9 +1,13 @@
-use Rattle.std.proofs.Common.{subst}
+use Rattle.std.proofs.Common.{refl}
 use Rattle.locked_book.specs.History.{state_of}
-use Rattle.locked_book.specs.Restoring.{HasDurableState}
+use Rattle.locked_book.proofs.SeenHistories.{leads_seen, sees_store_history}
 use Rattle.locked_book.proofs.locked.LockedBook.reveal_durable_state.Goals as goal
 
-pub returns : goal.returns
-returns g c =
-    subst (HasDurableState g.S.Naming.names) c.self.view_is
-    (c.self.inside.history, c.reveal_durable_state.ensures (state_of c.self.inside.kept) c.self.invariant)
+pub reveal_restored-requires : goal.reveal_restored-requires
+reveal_restored-requires g c = (state_of c.self.inside.kept, c.self.invariant)
+
+pub returns-clause-sees : goal.returns-clause-sees
+returns-clause-sees g c = sees_store_history g.S.Naming.names c.reveal_restored.ensures.sees c.desk.view_is refl c.reveal_restored.ensures.restores
+
+pub returns-clause-leads : goal.returns-clause-leads
+returns-clause-leads g c = leads_seen g.S.Naming.names c.reveal_restored.ensures.sees (state_of c.self.inside.kept) refl c.self.invariant

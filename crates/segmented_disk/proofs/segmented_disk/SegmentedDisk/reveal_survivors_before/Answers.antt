@@ -10,7 +10,7 @@ reveal_survivors_before-requires-clause-behind g c = subst (λ (v : SegmentedVie
 
 pub returns-clause-preserved : goal.returns-clause-preserved
 returns-clause-preserved g c =
-    subst (λ (v : SegmentedView). PreservesAll v (c.args.left.now ++ c.args.behind.now)) c.self.view_is (preserves_all _ _ c.self.invariant c.reveal_survivors_before.ensures.preserved)
+    subst (λ (v : SegmentedView). PreservesAll v (c.args.left.now ++ c.args.behind.now)) c.self.view_is (preserves_all _ _ c.self.invariant.keeps c.reveal_survivors_before.ensures.preserved)
 
 pub returns-clause-cut : goal.returns-clause-cut
 returns-clause-cut g c = subst (λ (v : SegmentedView). LeavesCut v.segment.id (c.args.left.now ++ c.args.behind.now)) c.self.view_is c.reveal_survivors_before.ensures.cut

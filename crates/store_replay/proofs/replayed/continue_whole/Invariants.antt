@@ -1,6 +1,6 @@
 use Rattle.log_frames.specs.Headers.{log_bytes}
 use Rattle.store_replay.specs.Replays.{replayed_before}
-use Rattle.store_replay.proofs.replayed.continue_on_file.Given as goal
+use Rattle.store_replay.proofs.replayed.continue_whole.Given as goal
 
 abbrev pub ghosts-continue_on_file_as-F-FramesName : goal.ghosts-continue_on_file_as-F-FramesName
 ghosts-continue_on_file_as-F-FramesName g a = record { frames = a.trail.now }
