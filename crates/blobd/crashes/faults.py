@@ -5,9 +5,10 @@ import subprocess
 import threading
 import time
 
-from data_folder import PATIENCE, Trace, log_length
+from data_folder import PATIENCE, Ended, Trace, log_length
 from frames import GREETING, SWEEP
 from kills import lose_power
+from logs import SmallLog
 from model import MIB, Client
 from room import NOBODY, all_there, clients, compares, counts, ends_well, fault, looks, stops, together
 
@@ -58,6 +59,24 @@ def failing_disks(room):
     limited = ["env", "--ignore-signal=XFSZ", "prlimit"]
     for size in (40_000, 300_000):
         failing(room, f"a file of at most {size} bytes", 9, around=[*limited, f"--fsize={size}"])
+
+
+def failing_reads(room):
+    """Lets each of the first reads of a log fail. The message has the file and the system's error. Other threads read ahead of the replay, and a
+    read of theirs that fails ends nothing."""
+    small = SmallLog(room)
+    failed = 0
+    for number in range(1, 8):
+        blobd = room.starts(small.folder, settings={"CRASH_FAIL_READ": str(number)}, tenants=small.tenants)
+        try:
+            blobd.opens()
+        except Ended:
+            pass
+        status, text = blobd.ends()
+        if status != 0 or number <= 2:
+            stops(f"a failed read {number}", (status, b"", text), 6, f"cannot read {small.log}: Input/output error (os error 5)")
+            failed += 1
+    compares("whether a read of the replay failed too", failed > 2, True)
 
 
 def full_disk(room):

@@ -126,7 +126,7 @@ def requests(room):
     request = folder / "rewrite"
     request.write_bytes(b"")
     wait_until("the removal of a request", lambda: not request.exists())
-    time.sleep(0.2)
+    time.sleep(3.5)  # It waits for a change at two looks.
     compares("the files after a request without a closed segment", sorted(log_files(folder)), ["log.1"])
     kept = small_blobs(line, SMALL)
     closes_segment(line)
@@ -169,6 +169,39 @@ def permissions(room):
     found = {path.name: oct(path.stat().st_mode & 0o777) for path in (folder, *folder.iterdir())}
     compares("the permissions", found, {name: "0o700" if name == folder.name else "0o600" for name in found})
     compares("whether the last segment and a base are among the files", len(found) >= 4, True)
+
+
+def asks_and_changes(folder, line):
+    """Asks for a rewriting. Makes a change after the program has seen that, and then waits until the program has looked again."""
+    request = folder / "rewrite"
+    request.write_bytes(b"")
+    wait_until("the removal of a request", lambda: not request.exists())
+    time.sleep(0.2)
+    line.calls(ABANDON, "t0/one", number=line.calls(START, "t0/one").first)
+    time.sleep(2.5)
+
+
+def limited_requests(room):
+    """Tests that a request closes the last segment, and that a rewriting which needs more room than it may take does not begin."""
+    folder = room.fresh()
+    blobd = room.starts(folder)
+    (line,) = blobd.opens()
+    kept, limit = small_blobs(line, 10), folder / "room"
+    for number, text in enumerate(("0", "x", "00000000000000000100", ""), 2):
+        limit.write_text(text)
+        asks_and_changes(folder, line)
+        compares(f"the files with room for {text!r}", sorted(log_files(folder)), [f"log.{name + 1}" for name in range(number)])
+    limit.write_text("1000000\n")
+    asks_and_changes(folder, line)
+    compares("the files with room for a base", sorted(log_files(folder)), ["base.5", "log.6"])
+    compares("whether the records of deleted blobs are left", log_length(folder) < 4000, True)
+    status, text = blobd.ends()
+    needs = re.findall(r" was not rewritten: it needs \d{4} bytes on the disk, and may take (\d+)\n", text)
+    compares("the end, and what the program may take by what it says", (status, needs), (0, ["0", "0", "100", "0"]))
+    blobd = room.starts(folder)
+    (line,) = blobd.opens()
+    compares("the small blobs that are missing", [digest for digest in kept if line.calls(STAT, "t0/one", digest).status], [])
+    ends_well("a program after limited requests", blobd)
 
 
 def interrupted_requests(room):

@@ -2,7 +2,7 @@
 import shutil
 import time
 
-from data_folder import HEADER, WORD, Ended, FolderLog, LogReading, Trace, framed, log_files, log_length, puts_log
+from data_folder import HEADER, WORD, Ended, FolderLog, LogReading, Trace, framed, log_files, log_length, numbered, puts_log
 from frames import GREETING
 from kills import litter, lose_power
 from model import QUOTA, State
@@ -45,7 +45,7 @@ class Segments:
         blobd = self.room.starts(self.folder, "--sync", "each", **self.words)
         (line,) = blobd.opens()
         wait_until("a base", lambda: FolderLog(self.folder).base)
-        wait_until("a base in place of the segments", lambda: len(log_files(self.folder)) == 2)
+        wait_until("a base in place of the segments", lambda: len(numbered(self.folder, "base")) + len(numbered(self.folder, "log")) == 2)
         self.states = [(log_length(self.folder), self.states[-1][1])]
         for _ in range(CONTENTS):
             number = self.states[-1][1].following
@@ -182,11 +182,12 @@ def unsound_rewriting(room):
         request.write_bytes(b"")
         wait_until("the removal of a request", lambda: not request.exists())
         step = made.states[-1][1].starts("acme/one")
-        compares(f"{title}: a call meanwhile", line.asks(step.request), step.reply)
-        time.sleep(0.5)
-        found = log_files(made.folder)
+        compares(f"{title}: a call meanwhile, before which the last file is closed", line.asks(step.request), step.reply)
+        time.sleep(2.2)  # Two looks.
         last = made.log.last.name
-        compares(f"{title}: the closed files after a request", {**found, last: b""} == {**wanted, last: b""}, True)
+        written = (last, f"log.{int(last[4:]) + 1}")
+        found, wanted = ({name: data for name, data in files.items() if name not in written} for files in (log_files(made.folder), wanted))
+        compares(f"{title}: the closed files after a request", found == wanted, True)
         status, text = blobd.ends()
         compares(f"{title}: the status", status, 0)
         told = f"blobd: the log in {made.folder} was not rewritten: /{name} is damaged at byte {place}: "
@@ -208,7 +209,7 @@ def differing_rewriting(room):
     request = made.folder / "rewrite"
     request.write_bytes(b"")
     wait_until("the removal of a request", lambda: not request.exists())
-    time.sleep(1)
+    time.sleep(3.5)  # It waits for a change at two looks.
     status, text = blobd.ends()
     compares("the status of a program whose rewriting differs", status, 0)
     number = len(made.log.paths) - 1

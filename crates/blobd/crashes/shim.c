@@ -16,6 +16,7 @@
      CRASH_FAIL_FOLDER_SYNC=N, CRASH_FAIL_REMOVE=N
                            the N-th sync of a folder, or removal of a file of the log, fails with EIO
      CRASH_FAIL_WRITE=N    the N-th write to the log writes one half of its bytes, and the write after it fails with ENOSPC
+     CRASH_FAIL_READ=N     the N-th read of a file of the log fails with EIO
      CRASH_FAIL_DATABASE_SYNC=N, CRASH_FAIL_DATABASE_WRITE=N
                            the same for the files of the database */
 #define _GNU_SOURCE
@@ -37,8 +38,8 @@
 /* The syncs and writes of the log, and of the database. */
 static atomic_int syncs[2], writes[2];
 
-/* The syncs of folders, and the removals of files of the log. */
-static atomic_int folder_syncs, removals;
+/* The syncs of folders, and the removals and reads of files of the log. */
+static atomic_int folder_syncs, removals, reads;
 
 /* The calls on the log and on folders. */
 static atomic_int calls;
@@ -247,6 +248,18 @@ static ssize_t room_for(int fd, size_t count) {
         return -1;
     }
     return now == failing[of_database] ? (ssize_t) (count / 2) : (ssize_t) count;
+}
+
+ssize_t read(int fd, void *bytes, size_t count) {
+    char path[4096];
+    long long length;
+    long failing = number_of("CRASH_FAIL_READ");
+    const char *name = failing ? name_of(fd, path, &length) : NULL;
+    if (name && log_name(name) && ++reads == failing) {
+        errno = EIO;
+        return -1;
+    }
+    return REAL(read)(fd, bytes, count);
 }
 
 ssize_t write(int fd, const void *bytes, size_t count) {

@@ -1,23 +1,28 @@
 //! Serves connections on a store whose log is replayed and continued.
-ghost use Rattle.std.specs.Prelude.{◌≡◌, ◌+◌, [], IfOk, OnOk};
-ghost use Rattle.blob_store.specs.DurableStates.{IsWholeOnSomeDisk};
+ghost use Rattle.std.specs.Prelude.{◌≡◌, [], IfOk, OnOk};
 ghost use Rattle.blob_store.specs.Parts.{names_of};
+ghost use Rattle.blob_store.specs.Starts.{IsStarted};
+ghost use Rattle.blob_store.specs.StoreCalls.{AreBalancedTotals};
+ghost use Rattle.segmented_disk.specs.Views.{starting};
 ghost use Rattle.store_server.specs.Connections.{AreServed, AreServedOn};
 
 use crate::hashers::Hashers;
 use blob_digest::Refusal;
-use blob_store::{Desk, LogPolicy, Naming, Parts, SharedLogDevice, Store, Totals};
-use durable_log::{CommitError, IdleDevice, LeaderCell};
+use blob_store::{Desk, LogPolicy, Naming, Parts, SharedLogDevice, StartedLog, Store, Totals};
+use durable_log::{CommitError, IdleDevice};
 use ghost_log::SharedLog;
 use lease_table::{LeaseEvent, LeaseNaming};
 use locked_book::{Step, StoreLog};
 use log_disk::{Disk, DiskError, FileDisk, ReplayedDisk};
-use log_folder::{HashedAhead, NextSegments, OpenLog, Outcome, Segment, Watch, Work};
+use log_folder::{
+    CloseRequest, HashedAhead, NextSegments, Noting, OpenLog, Outcome, Segment, Watch, Work,
+};
 use log_frames::Ending;
 use segmented_disk::SegmentedDisk;
 use std::alloc::{AllocError, Global};
 use std::io::{self, ErrorKind, Read, Write};
 use std::marker::Brand;
+use std::snapshot::Snapshot;
 use std::sync::Wait;
 use std::thread::{self, Threads};
 use store_replay::{
@@ -44,8 +49,8 @@ pub struct ExaminedLog<'w> {
 pub enum ServeFault {
     /// Memory ran out.
     Memory,
-    /// A read of this file failed, with an error of this kind.
-    Read(FolderFile, ErrorKind),
+    /// A read of this file failed.
+    Read(FolderFile, io::Error),
     /// The frame at a place has a record that cannot be replayed.
     Record {
         /// The place of the frame.
@@ -68,23 +73,26 @@ impl ServeFault {
     pub fn of_read(file: FolderFile, error: io::Error) -> ServeFault {
         match error.kind() {
             ErrorKind::OutOfMemory => ServeFault::Memory,
-            kind => ServeFault::Read(file, kind),
+            _ => ServeFault::Read(file, error),
         }
     }
 }
 
 /// The disk of a log in a folder.
-type FolderDisk = SegmentedDisk<FileDisk, NextSegments>;
+pub type FolderDisk = SegmentedDisk<FileDisk, NextSegments>;
 
-/// The device of a log in a folder.
-type FolderLog<S> = IdleDevice<Step, StoreLog<S>, FolderDisk>;
+/// The log of a store in a folder, after its start.
+type FolderLog<S> = StartedLog<S, FolderDisk>;
 
 /// Returns the fault if the read of a file ended by itself, and not at a record.
-fn read_fault(file: FolderFile, ending: Ending) -> Option<ServeFault> {
+fn read_fault<I>(file: FolderFile, input: &Noting<I>, ending: Ending) -> Option<ServeFault> {
     match ending {
-        Ending::Failed(kind) => Some(ServeFault::Read(file, kind)),
+        Ending::Failed(kind) => Some(ServeFault::Read(file, input.error(kind))),
         Ending::Memory => Some(ServeFault::Memory),
-        Ending::TooLong => Some(ServeFault::Read(file, ErrorKind::FileTooLarge)),
+        Ending::TooLong => {
+            let error = io::Error::from(ErrorKind::FileTooLarge);
+            Some(ServeFault::Read(file, error))
+        }
         Ending::End | Ending::Torn | Ending::Damaged(_) | Ending::Refused => None,
     }
 }
@@ -104,8 +112,9 @@ fn record_fault(place: LogPlace, fault: Option<Fault>) -> ServeFault {
 }
 
 /// Returns why one of the log's files was not replayed to its end.
-fn fault_of<W: Wait, S: Naming>(
+fn fault_of<I, W: Wait, S: Naming>(
     start: LogPlace,
+    input: &Noting<I>,
     replayed: Replayed<'_, W, S, HashedAhead>,
 ) -> ServeFault {
     let read = replayed.read();
@@ -115,7 +124,7 @@ fn fault_of<W: Wait, S: Naming>(
         place: read.cursor.place,
         offset: start.offset.saturating_add(read.cursor.place),
     };
-    match read_fault(start.file, read.ending) {
+    match read_fault(start.file, input, read.ending) {
         Some(fault) => fault,
         None => record_fault(place, fault),
     }
@@ -129,7 +138,9 @@ fn replay_file<'s, W: Wait, S: Naming>(
     replay: Replay<'s, W, S, HashedAhead>,
     buffer: &mut Vec<u8>,
     segment: &mut Segment,
-) -> Result<Replayed<'s, W, S, HashedAhead>, ServeFault> {
+) -> Result<Replayed<'s, W, S, HashedAhead>, ServeFault>
+    ensures { IfOk result (λ r. r.id ≡ segment.old.id) }
+{
     let (name, id, start) = (segment.name, segment.id, segment.place(0));
     let mut input = match segment.frames(host, folder, work) {
         Ok(input) => input,
@@ -137,7 +148,7 @@ fn replay_file<'s, W: Wait, S: Naming>(
     };
     let replayed = replay_log(replay, &mut input, buffer, id)?;
     if !replayed.is_whole() {
-        return Err(fault_of(start, replayed));
+        return Err(fault_of(start, input.get_ref().input(), replayed));
     }
     Ok(replayed)
 }
@@ -159,7 +170,7 @@ fn replay_files<'s, W: Wait, S: Naming>(
     Ok(replay)
 }
 
-/// Replays the log of a folder at a desk, and continues it after its last file. Returns the desk and the device of the log.
+/// Replays the log of a folder at a desk, and continues it after its last file. Returns the log of the start.
 fn replay_with_desk<W: Wait, S: Naming>(
     rt: &W,
     host: &HostRuntime,
@@ -171,9 +182,10 @@ fn replay_with_desk<W: Wait, S: Naming>(
     log: OpenLog,
     next: NextSegments,
     ahead: HashedAhead,
-) -> Result<(Desk<S>, FolderLog<S>), ServeFault>
+) -> Result<FolderLog<S>, ServeFault>
     requires written { device.written ≡ [] }
     requires durable { device.durable ≡ [] }
+    requires folder { next ≡ starting log.last.id }
 {
     let OpenLog {
         mut closed,
@@ -200,14 +212,18 @@ fn replay_with_desk<W: Wait, S: Naming>(
         before,
     } = last;
     match continue_on_file(alloc, replayed, file, next, before) {
-        Ok(continued) => Ok(continued),
+        Ok(started) => Ok(started),
         Err(ContinueError::Disk(DiskError::Memory)) => Err(ServeFault::Memory),
         Err(ContinueError::Disk(error)) => Err(ServeFault::Log(CommitError::Disk(error))),
-        Err(ContinueError::Unfinished) => Err(ServeFault::Read(name, ErrorKind::UnexpectedEof)),
+        Err(ContinueError::Unfinished) => {
+            let error = io::Error::from(ErrorKind::UnexpectedEof);
+            Err(ServeFault::Read(name, error))
+        }
+        Err(ContinueError::Differs) => Err(ServeFault::Log(CommitError::Closed)),
     }
 }
 
-/// Replays the log of a folder, and continues it after its last file. Returns the device of the log.
+/// Replays the log of a folder, and continues it after its last file. Returns the log of the start.
 fn replay_on<W: Wait, S: Naming>(
     rt: &W,
     host: &HostRuntime,
@@ -221,6 +237,7 @@ fn replay_on<W: Wait, S: Naming>(
 ) -> Result<FolderLog<S>, ServeFault>
     requires written { device.written ≡ [] }
     requires durable { device.durable ≡ [] }
+    requires folder { next ≡ starting log.last.id }
 {
     let Ok(mut desks) = store.desks(rt, 1) else {
         return Err(ServeFault::Memory);
@@ -228,34 +245,11 @@ fn replay_on<W: Wait, S: Naming>(
     let Some(desk) = desks.pop() else {
         unreachable!()
     };
-    match replay_with_desk(
+    let started = replay_with_desk(
         rt, host, folder, alloc, store, desk, device, log, next, ahead,
-    ) {
-        Ok((desk, device)) => {
-            desks.push_reserved(desk);
-            store.settle(rt, desks);
-            Ok(device)
-        }
-        Err(fault) => {
-            store.settle(rt, desks);
-            Err(fault)
-        }
-    }
-}
-
-/// Returns the device of a log whose files have the records of the store's history, and no others. This is so after a replay.
-fn whole_log<W: Wait, S: Naming>(
-    rt: &W,
-    store: &Store<S>,
-    device: FolderLog<S>,
-) -> Result<FolderLog<S>, ServeFault>
-    ensures { IfOk result (λ d. IsWholeOnSomeDisk S.names d) }
-{
-    let (device, whole) = store.is_on_disk(rt, device);
-    if whole {
-        return Ok(device);
-    }
-    Err(ServeFault::Log(CommitError::Closed))
+    );
+    store.settle(rt, desks);
+    started
 }
 
 /// Starts the thread that rewrites the log. Without the thread, the log is rewritten only at a start.
@@ -283,6 +277,89 @@ fn finish_log<W: Wait, S: Naming>(
     Ok(())
 }
 
+/// Connections that were served on a store with a log: the store's totals, and, only in the proof, the log after its start.
+#[derive(Drop)]
+pub struct ServedLog<S: Naming> {
+    /// The store's totals.
+    pub totals: Totals,
+    /// The log after the start.
+    pub start: Snapshot<StartedLog<S, FolderDisk>>,
+}
+
+/// Returns the files that follow the last one of a folder's log, which has this number and id, and the watch that rewrites the closed ones.
+fn following(
+    alloc: Global,
+    host: HostRuntime,
+    folder: &str,
+    outcome: Outcome,
+    number: u64,
+    id: u64,
+) -> Result<(NextSegments, Watch), AllocError>
+    ensures { IfOk result (λ r. r.0 ≡ starting id) }
+{
+    let close = CloseRequest::new(alloc)?;
+    let path = String::from_str(alloc, folder)?;
+    let watch = Watch::new(host, path, outcome, close.share()?);
+    let path = String::from_str(alloc, folder)?;
+    let next = NextSegments::after(host, path, number, id, close)?;
+    Ok((next, watch))
+}
+
+/// Replays the log of a folder, and continues it after its last file, while threads hash the contents of the log. Returns the log of the
+/// start.
+fn replay_hashed<W: Threads + Wait, S: Naming>(
+    rt: &W,
+    host: &HostRuntime,
+    folder: &str,
+    alloc: Global,
+    store: &Store<S>,
+    device: IdleDevice<Step, StoreLog<S>, ReplayedDisk>,
+    log: OpenLog,
+    next: NextSegments,
+) -> Result<FolderLog<S>, ServeFault>
+    requires written { device.written ≡ [] }
+    requires durable { device.durable ≡ [] }
+    requires folder { next ≡ starting log.last.id }
+{
+    let hashers = Hashers::start(rt, *host, folder, alloc, &log)?;
+    let ahead = hashers.observer()?;
+    let started = replay_on(rt, host, folder, alloc, store, device, log, next, ahead);
+    hashers.end(rt);
+    started
+}
+
+/// Serves all connections on a store whose log was started, with a table of leases that has this log, and writes the end of the log.
+fn serve_started<
+    W: Threads + Wait + Sync,
+    S: Naming + Send + Sync,
+    L: LeaseNaming + Send + Sync,
+    I: Read + Send + Drop,
+    O: Write + Send + Drop,
+>(
+    rt: &W,
+    alloc: Global,
+    store: &Store<S>,
+    started: FolderLog<S>,
+    leases: SharedLog<LeaseEvent>,
+    end: &EndCell,
+    lines: &mut [Connection<I, O>],
+) -> Result<ServedLog<S>, ServeFault>
+    requires log { (leases.name ≡ L.log) × (leases.entries ≡ []) }
+    ensures start { IfOk result (λ r. IsStarted S.names r.start.value) }
+    ensures served { OnOk result (AreServed S.names L.log I.remaining O.contents lines.old lines.new) }
+    ensures totals { IfOk result (λ r. AreBalancedTotals r.totals) }
+{
+    started.reveal_start();
+    let start = Snapshot::of(&started);
+    let (totals, device) = serve_on::<W, S, L, FolderDisk, I, O>(
+        rt, alloc, store, started, end, leases, lines,
+    )?;
+    match finish_log(rt, store, device) {
+        Ok(()) => Ok(ServedLog { totals, start }),
+        Err(error) => Err(ServeFault::Log(error)),
+    }
+}
+
 /// Replays the log of a new store of these parts, and serves all connections on it, with a table of leases that has this log.
 /// The type parameters name the parts and the log.
 fn serve_log_parts<
@@ -299,11 +376,12 @@ fn serve_log_parts<
     leases: SharedLog<LeaseEvent>,
     end: &EndCell,
     lines: &mut [Connection<I, O>],
-) -> Result<Totals, ServeFault>
+) -> Result<ServedLog<S>, ServeFault>
     requires named { names_of parts ≡ S.names }
     requires log { (leases.name ≡ L.log) × (leases.entries ≡ []) }
+    ensures start { IfOk result (λ r. IsStarted S.names r.start.value) }
     ensures served { OnOk result (AreServed S.names L.log I.remaining O.contents lines.old lines.new) }
-    ensures totals { IfOk result (λ t. t.received ≡ t.in_sessions + t.closed + t.abandoned) }
+    ensures totals { IfOk result (λ r. AreBalancedTotals r.totals) }
 {
     let ExaminedLog {
         host,
@@ -311,36 +389,20 @@ fn serve_log_parts<
         log,
         outcome,
     } = examined;
-    let watch = Watch::new(host, String::from_str(alloc, folder)?, outcome);
-    let path = String::from_str(alloc, folder)?;
-    let next = NextSegments::after(host, path, log.number, log.last.id);
+    let (next, watch) = following(alloc, host, folder, outcome, log.number, log.last.id)?;
     let replayed = ReplayedDisk::new(alloc)?;
     let (store, device) = Store::<S>::with_log(parts, replayed);
-    let hashers = Hashers::start(rt, host, folder, alloc, &log)?;
-    let ahead = hashers.observer()?;
-    let replayed = replay_on(rt, &host, folder, alloc, &store, device, log, next, ahead);
-    hashers.end(rt);
-    let device = whole_log(rt, &store, replayed?)?;
+    let started = replay_hashed(rt, &host, folder, alloc, &store, device, log, next)?;
     start_watch(rt, watch);
-    let device = LeaderCell::new(device);
-    let totals = serve_on::<W, S, L, FolderDisk, I, O>(
-        rt,
-        alloc,
-        &store,
-        Some(&device),
-        end,
-        leases,
-        lines,
-    );
-    match finish_log(rt, &store, device) {
-        Ok(()) => Ok(totals),
-        Err(error) => Err(ServeFault::Log(error)),
-    }
+    serve_started::<W, S, L, I, O>(rt, alloc, &store, started, leases, end, lines)
 }
 
 /// Replays the log of a folder into a new store of these parts, and serves all connections on the store until they end, as `serve_new`
 /// does. Each change is recorded in the log, and is durable before its reply if the policy of the parts promises that. Returns
 /// the store's totals, in which the replayed changes are counted.
+///
+/// The store's history begins with the records that were replayed, and no others, all of them durable on the log's device
+/// (`start`). The store of these parts, which is served, and the store of this log are one: they have the same names.
 ///
 /// While the connections are served, a thread rewrites the closed files of the log. It goes on until the program ends.
 ///
@@ -359,9 +421,10 @@ pub fn serve_log<W: Threads + Wait + Sync, I: Read + Send + Drop, O: Write + Sen
     examined: ExaminedLog<'_>,
     end: &EndCell,
     lines: &mut [Connection<I, O>],
-) -> Result<Totals, ServeFault>
+) -> Result<ServedLog<Brand>, ServeFault>
+    ensures start { IfOk result (λ r. IsStarted (names_of parts) r.start.value) }
     ensures served { OnOk result (AreServedOn parts I.remaining O.contents lines.old lines.new) }
-    ensures totals { IfOk result (λ t. t.received ≡ t.in_sessions + t.closed + t.abandoned) }
+    ensures totals { IfOk result (λ r. AreBalancedTotals r.totals) }
 {
     let leases = SharedLog::new(alloc)?;
     serve_log_parts::<W, Brand, Brand, I, O>(rt, alloc, parts, examined, leases, end, lines)

@@ -7,6 +7,7 @@ use crate::totals::conclude;
 use blob_store::Parts;
 use log_folder::{
     DataFolder, FolderError, OpenLog, Outcome, Segment, When, accept_loss, compact, open_log,
+    salvage,
 };
 use server_cli::{LogOptions, Need, Options, Stop};
 use std::io::{self, ErrorKind, Read, Write};
@@ -15,22 +16,76 @@ use std::thread::Threads;
 use store_replay::{Cause, Damage, FolderFile, LogPlace};
 use store_server::{Connection, EndCell};
 
-/// Opens the log of a folder. If the loss of what is after a place was accepted and the log is damaged there, cuts it there.
+/// Returns whether a log with this damage may be read further. One of two logs may not, and one with a record of a later version.
+fn is_loss(damage: &Damage) -> bool {
+    !matches!(
+        damage,
+        Damage::Second | Damage::Record(Cause::UnknownKind(_))
+    )
+}
+
+/// How a start goes on with a damaged log.
+#[derive(Clone, Copy)]
+enum Mending {
+    /// The log is cut at this place.
+    Cut(LogPlace),
+    /// What is left of the log is written anew.
+    Salvage,
+}
+
+/// Returns how a start goes on with a log that is damaged at a place, if the loss was accepted.
+fn mending_of(
+    folder: &DataFolder<'_>,
+    how: LogOptions<'_>,
+    place: LogPlace,
+    damage: &Damage,
+) -> Option<Mending> {
+    if how.accepted_loss == Some(place.offset) {
+        return Some(Mending::Cut(place));
+    }
+    if folder.accepts_loss && is_loss(damage) {
+        return Some(Mending::Salvage);
+    }
+    None
+}
+
+/// Mends a damaged log.
+fn mend(rt: &HostRuntime, folder: &DataFolder<'_>, mending: Mending) -> Result<(), FolderError> {
+    match mending {
+        Mending::Cut(place) => accept_loss(rt, folder, place),
+        Mending::Salvage => salvage(rt, folder),
+    }
+}
+
+/// Mends a damaged log, and opens it.
+fn open_after(
+    rt: &HostRuntime,
+    folder: &DataFolder<'_>,
+    mending: Mending,
+) -> Result<OpenLog, FolderError> {
+    mend(rt, folder, mending)?;
+    open_log(rt, folder)
+}
+
+/// Opens the log of a folder. If it is damaged and the loss of what is after that place was accepted, cuts it there. If any loss was
+/// accepted, goes on with what is left of it.
 fn open_mended<'w>(
     rt: &HostRuntime,
     folder: &DataFolder<'w>,
     how: LogOptions<'w>,
 ) -> Result<OpenLog, Stop<'w>> {
-    let found = match open_log(rt, folder) {
-        Err(FolderError::Damaged(place, _)) if how.accepted_loss == Some(place.offset) => {
-            match accept_loss(rt, folder, place) {
-                Ok(()) => open_log(rt, folder),
-                Err(error) => Err(error),
-            }
-        }
-        found => found,
+    let error = match open_log(rt, folder) {
+        Ok(log) => return Ok(log),
+        Err(error) => error,
     };
-    match found {
+    let mending = match &error {
+        FolderError::Damaged(place, damage) => mending_of(folder, how, *place, damage),
+        _ => None,
+    };
+    let Some(mending) = mending else {
+        return Err(folder_stop(how.folder, error));
+    };
+    match open_after(rt, folder, mending) {
         Ok(log) => Ok(log),
         Err(error) => Err(folder_stop(how.folder, error)),
     }
@@ -133,9 +188,8 @@ fn record_stop<'w>(folder: &'w str, place: LogPlace, cause: Cause) -> Stop<'w> {
 fn fault_stop<'w>(folder: &'w str, fault: ServeFault) -> Stop<'w> {
     match fault {
         ServeFault::Memory => Stop::Memory,
-        ServeFault::Read(file, kind) => {
-            let error = FolderError::of_file("read", file, io::Error::from(kind));
-            folder_stop(folder, error)
+        ServeFault::Read(file, error) => {
+            folder_stop(folder, FolderError::of_file("read", file, error))
         }
         ServeFault::Log(error) => Stop::LogFailed { folder, error },
         ServeFault::Record { place, cause } => record_stop(folder, place, cause),
@@ -163,42 +217,55 @@ fn serve_once<
         return Err(Stop::Memory);
     };
     match serve_log(threads, rt.alloc(), parts, log, end, lines) {
-        Ok(totals) => conclude(rt, totals, lines),
+        Ok(served) => conclude(rt, served.totals, lines),
         Err(fault) => Err(fault_stop(how.folder, fault)),
+    }
+}
+
+/// Opens the log of a folder after a replay was stopped by the settings, which are too small. The store may have needed more only for a
+/// time. So the log is rewritten, and has only what is there at its end. Returns the stop if it was rewritten before.
+fn reopened_smaller<'w>(
+    rt: &HostRuntime,
+    folder: &DataFolder<'w>,
+    how: LogOptions<'w>,
+    stop: Stop<'w>,
+) -> Result<ExaminedLog<'w>, Stop<'w>> {
+    let log = open_mended(rt, folder, how)?;
+    let log = examined(rt, folder, how, log, When::Always)?;
+    match log.outcome {
+        Outcome::Rewritten(_) => Ok(log),
+        Outcome::Kept(_) => Err(stop),
     }
 }
 
 /// Opens the log of a folder after a replay was stopped, if another replay may succeed, and returns the stop otherwise.
 ///
-/// If a record cannot be replayed and the loss of it was accepted, the log is cut. If the settings are too small, the store may have
-/// needed more only for a time. So the log is rewritten, and has only what is there at its end.
+/// If a record cannot be replayed and the loss of it was accepted, the log is cut, or what is left of it is written anew. If the settings
+/// are too small, the log is rewritten.
 fn reopened<'w>(
     rt: &HostRuntime,
     folder: &DataFolder<'w>,
     how: LogOptions<'w>,
     stop: Stop<'w>,
 ) -> Result<ExaminedLog<'w>, Stop<'w>> {
-    match stop {
-        Stop::Damaged { place, .. } if how.accepted_loss == Some(place.offset) => {
-            match accept_loss(rt, folder, place) {
-                Ok(()) => open_folder(rt, folder, how),
-                Err(error) => Err(folder_stop(how.folder, error)),
-            }
-        }
-        stop if stop.is_of_settings() => {
-            let log = open_mended(rt, folder, how)?;
-            let log = examined(rt, folder, how, log, When::Always)?;
-            match log.outcome {
-                Outcome::Rewritten(_) => Ok(log),
-                Outcome::Kept(_) => Err(stop),
-            }
-        }
-        stop => Err(stop),
+    let mending = match &stop {
+        Stop::Damaged { place, damage, .. } => mending_of(folder, how, *place, damage),
+        _ => None,
+    };
+    if let Some(mending) = mending {
+        return match mend(rt, folder, mending) {
+            Ok(()) => open_folder(rt, folder, how),
+            Err(error) => Err(folder_stop(how.folder, error)),
+        };
     }
+    if stop.is_of_settings() {
+        return reopened_smaller(rt, folder, how, stop);
+    }
+    Err(stop)
 }
 
 /// Serves connections on a store of the options with the log of a folder, and prints its totals. If the log cannot be replayed as it
-/// is, it is cut or rewritten once ([`reopened`]).
+/// is, it is cut, rewritten, or written anew once ([`reopened`]).
 pub fn serve_folder<
     'w,
     W: Threads + Wait + Sync + Copy + Send + 'static,

@@ -27,7 +27,24 @@ const PAUSE_MILLIS: u64 = 50;
 pub struct DataFolder<'w> {
     /// The path of the folder.
     pub path: &'w str,
+    /// Whether this start may go on with what is left of a damaged log: the file `accept-loss` was in the folder.
+    pub accepts_loss: bool,
     lock: File,
+}
+
+/// The name of the file by which the operator accepts the loss of what is damaged.
+const ACCEPT_LOSS: &str = "accept-loss";
+
+/// Returns whether the operator accepts a loss at this start. Removes the file that says so.
+fn takes_acceptance(rt: &HostRuntime, folder: &str) -> io::Result<bool> {
+    let path = format!(in rt.alloc(); "{folder}/{ACCEPT_LOSS}")?;
+    match fs::remove_file(rt, path.as_str()) {
+        Ok(()) => Ok(true),
+        Err(error) => match error.kind() {
+            ErrorKind::NotFound => Ok(false),
+            _ => Err(error),
+        },
+    }
 }
 
 /// Returns the path of the folder that contains this one.
@@ -160,7 +177,15 @@ impl<'w> DataFolder<'w> {
             Ok(false) => return Err(FolderError::Held),
             Err(error) => return Err(FolderError::of_file("lock", FolderFile::Lock, error)),
         }
-        let opened = DataFolder { path: folder, lock };
+        let accepts_loss = match takes_acceptance(rt, folder) {
+            Ok(accepts) => accepts,
+            Err(error) => return Err(FolderError::of_file("use", FolderFile::Folder, error)),
+        };
+        let opened = DataFolder {
+            path: folder,
+            accepts_loss,
+            lock,
+        };
         opened.remove_one(rt, FolderFile::NewLog)?;
         opened.remove_one(rt, FolderFile::NewBase)?;
         Ok(opened)

@@ -4,25 +4,33 @@
 //! `docs/LOG.md` has the layout.
 #![tactic(auto)]
 
+mod close_request;
 mod contents;
 mod data_folder;
 mod error;
+mod fault;
 mod gathering;
 mod hash_ahead;
 mod listing;
 mod next_segments;
+mod noting;
 mod opening;
 mod progress;
 mod rewriting;
+mod room;
+mod salvaging;
 mod segment;
 mod watch;
 
+pub use close_request::CloseRequest;
 pub use data_folder::DataFolder;
 pub use error::FolderError;
 pub use hash_ahead::{HashAhead, HashedAhead};
 pub use next_segments::NextSegments;
+pub use noting::Noting;
 pub use opening::{OpenLog, accept_loss, open_log};
 pub use progress::{Progress, Work};
 pub use rewriting::{Outcome, When, compact};
+pub use salvaging::salvage;
 pub use segment::Segment;
 pub use watch::Watch;

@@ -100,6 +100,15 @@ impl Listing {
         Ok(files)
     }
 
+    /// Returns the files of the log, in order: the base, if there is one, and the segments up to the last one, whether they exist or not.
+    pub fn all_files(&self, alloc: Global) -> io::Result<Vec<FolderFile>> {
+        let mut files = self.closed_files(alloc)?;
+        if self.last() > self.base {
+            files.push(FolderFile::Log(self.last()))?;
+        }
+        Ok(files)
+    }
+
     /// Returns the greatest number of a segment from `first` on and below `limit`, if there is one.
     fn greatest(&self, first: u64, limit: u64) -> Option<u64> {
         let mut found = None;

@@ -1,13 +1,21 @@
 //! Makes the next segment of a log in a folder.
 
+ghost use Rattle.std.specs.Prelude.{◌≡◌, IfOk};
+ghost use Rattle.segmented_disk.specs.Views.{starting};
+
+use crate::close_request::CloseRequest;
 use crate::data_folder::{create, rename_synced};
 use framed_disk::FramedDisk;
 use log_disk::{DiskError, FileDisk};
-use segmented_disk::{NoBytes, SegmentFolder};
+use segmented_disk::{BytesCell, NoBytes, SegmentFolder};
+use std::alloc::AllocError;
 use std::io::{self, ErrorKind};
+use std::marker::Model;
 use store_replay::FolderFile;
 
 /// The folder of a log, as the place where its next segment is made.
+///
+/// Contracts see what it has published since it was made.
 #[derive(Drop)]
 pub struct NextSegments {
     rt: HostRuntime,
@@ -16,21 +24,55 @@ pub struct NextSegments {
     number: u64,
     /// Its id.
     id: u64,
+    /// By it the last segment is asked to close.
+    close: CloseRequest,
+    /// The payloads of the segments that have ended.
+    ended: BytesCell,
+}
+
+impl Model for NextSegments {
+    ghost use Rattle.segmented_disk.specs.Views.{FolderView};
+
+    ghost Value = { FolderView };
+
+    ghost view = { λ f. record { ended = f.ended; last_id = f.id } };
 }
 
 impl NextSegments {
-    /// Continues the segments of a folder after the one with this number and id.
-    pub fn after(rt: HostRuntime, folder: String, number: u64, id: u64) -> NextSegments {
-        NextSegments {
+    /// Continues the segments of a folder after the one with this number and id. The last one is closed at a request.
+    ///
+    /// # Errors
+    ///
+    /// `AllocError` if memory runs out.
+    pub fn after(
+        rt: HostRuntime,
+        folder: String,
+        number: u64,
+        id: u64,
+        close: CloseRequest,
+    ) -> Result<NextSegments, AllocError>
+        ensures { IfOk result (λ f. f ≡ starting id) }
+    {
+        let ended = BytesCell::new::<NoBytes>(rt.alloc())?;
+        Ok(NextSegments {
             rt,
             folder,
             number,
             id,
-        }
+            close,
+            ended,
+        })
     }
 }
 
 impl SegmentFolder<FileDisk> for NextSegments {
+    ghost published = { λ f. f };
+
+    /// Returns whether the last segment is to be closed by request.
+    fn wants_next(&self) -> bool {
+        self.close.is_made()
+    }
+
     /// Makes `log.new`. Its id follows that of the last segment.
     fn create(&mut self) -> Result<(FileDisk, u64), DiskError> {
         let file = create(&self.rt, self.folder.as_str(), FolderFile::NewLog)?;
@@ -44,15 +86,15 @@ impl SegmentFolder<FileDisk> for NextSegments {
         ended: &FramedDisk<FileDisk>,
         next: &FramedDisk<FileDisk>,
     ) -> Result<(), DiskError> {
-        let _ = ended;
-        let _ = next;
         let Some(number) = self.number.checked_add(1) else {
             return Err(DiskError::Io(io::Error::from(ErrorKind::FileTooLarge)));
         };
         let (folder, name) = (self.folder.as_str(), FolderFile::Log(number));
         rename_synced(&self.rt, folder, FolderFile::NewLog, name)?;
         self.number = number;
-        self.id = self.id.wrapping_add(1);
+        self.id = next.id();
+        self.ended.add_payloads(ended);
+        self.close.set(false);
         Ok(())
     }
 }

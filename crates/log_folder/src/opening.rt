@@ -3,6 +3,7 @@
 use crate::data_folder::{DataFolder, create_log, random_id, rename_synced};
 use crate::error::FolderError;
 use crate::listing::Listing;
+use crate::noting::Noting;
 use crate::segment::Segment;
 use log_frames::{
     Cursor, Ending, FramesRead, HEADER_LENGTH, MAX_PAYLOAD, read_frames, start_of, write_frame,
@@ -39,11 +40,11 @@ enum Repair {
 pub(crate) fn frames_of<'f>(
     rt: &HostRuntime,
     segment: &'f mut Segment,
-) -> Result<BufReader<&'f File>, FolderError> {
+) -> Result<BufReader<Noting<&'f File>>, FolderError> {
     if let Err(error) = segment.file.seek(SeekFrom::Start(HEADER_LENGTH)) {
         return Err(FolderError::of_file("read", segment.name, error));
     }
-    match BufReader::new(rt.alloc(), &segment.file) {
+    match BufReader::new(rt.alloc(), Noting::new(&segment.file)) {
         Ok(input) => Ok(input),
         Err(_) => Err(FolderError::Memory),
     }
@@ -65,8 +66,9 @@ fn is_marked(read: FramesRead) -> bool {
 
 /// Returns what is wrong with a segment that was scanned. Returns `None` if it is closed and whole, or if it is the last one, which may
 /// end in the middle of a write.
-fn damage_of(
+pub(crate) fn damage_of<I>(
     name: FolderFile,
+    input: &Noting<I>,
     scan: &mut Scan,
     is_last: bool,
 ) -> Result<Option<Damage>, FolderError> {
@@ -82,7 +84,7 @@ fn damage_of(
             },
             None => Ok(Some(Damage::Record(Cause::Malformed))),
         },
-        Ending::Failed(kind) => { Err(FolderError::of_file("read", name, io::Error::from(kind))) }
+        Ending::Failed(kind) => Err(FolderError::of_file("read", name, input.error(kind))),
         Ending::Memory => Err(FolderError::Memory),
         Ending::TooLong => {
             let error = io::Error::from(ErrorKind::FileTooLarge);
@@ -193,8 +195,9 @@ fn scan_sound(
     let (name, id) = (segment.name, segment.id);
     let mut input = frames_of(rt, segment)?;
     let mut scan = scan_log(&mut input, buffer, id, start_of(id));
+    let damage = damage_of(name, input.get_ref(), &mut scan, is_last)?;
     drop(input);
-    match damage_of(name, &mut scan, is_last)? {
+    match damage {
         Some(damage) => {
             let place = segment.place(scan.read.cursor.place);
             Err(FolderError::Damaged(place, damage))

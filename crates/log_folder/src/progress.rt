@@ -67,6 +67,11 @@ impl<'r, R: Clock + Eprint, I> Progress<'r, R, I> {
         }
     }
 
+    /// Returns the reader of the file.
+    pub fn input(&self) -> &I {
+        &self.input
+    }
+
     /// Prints how far it is, unless it printed within this second.
     fn report(&mut self) {
         let Some(seconds) = self.work.seconds(self.rt) else {

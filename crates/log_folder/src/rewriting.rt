@@ -2,12 +2,15 @@
 
 use crate::data_folder::{create, remove, rename_synced};
 use crate::error::FolderError;
-use crate::progress::Work;
+use crate::fault::RewriteFault;
+use crate::noting::Noting;
+use crate::progress::{Progress, Work};
+use crate::room::{base_length, room_for_base};
 use crate::segment::Segment;
 use log_frames::{Cursor, header_bytes, write_frame};
 use log_rewriting::{Filter, Inventory, LogRewriting, RewriteError, take_inventory};
 use std::fs::File;
-use std::io::{self, BufWriter, Seek, SeekFrom, Write};
+use std::io::{self, BufReader, BufWriter, Seek, SeekFrom, Write};
 use store_replay::FolderFile;
 
 /// Segments of at most this length in all are not rewritten, in bytes.
@@ -39,28 +42,46 @@ pub fn length_of(segments: &[Segment]) -> u64 {
     }
 }
 
+/// Returns the fault of a file that was read. It has the error with which a read failed.
+fn fault_of(
+    file: FolderFile,
+    input: &BufReader<Progress<'_, HostRuntime, Noting<&File>>>,
+    error: RewriteError,
+) -> RewriteFault {
+    match error {
+        RewriteError::Read(error) => {
+            let error = input.get_ref().input().error(error.kind());
+            RewriteFault::of_file(file, RewriteError::Read(error))
+        }
+        error => RewriteFault::of_file(file, error),
+    }
+}
+
 /// Returns the inventory of segments.
 fn inventory_of(
     rt: &HostRuntime,
     folder: &str,
     segments: &mut [Segment],
     buffer: &mut Vec<u8>,
-) -> Result<Inventory, RewriteError> {
+) -> Result<Inventory, RewriteFault> {
     let work = Work::begin(rt, "examining", length_of(segments));
     let mut inventory = Inventory::new(rt.alloc());
     for segment in segments {
-        let id = segment.id;
+        let (name, id) = (segment.name, segment.id);
         let mut input = match segment.frames(rt, folder, work) {
             Ok(input) => input,
-            Err(error) => return Err(RewriteError::of_read(error)),
+            Err(error) => return Err(RewriteFault::of_file(name, RewriteError::of_read(error))),
         };
-        inventory = take_inventory(rt.alloc(), inventory, &mut input, buffer, id)?;
+        inventory = match take_inventory(rt.alloc(), inventory, &mut input, buffer, id) {
+            Ok(inventory) => inventory,
+            Err(error) => return Err(fault_of(name, &input, error)),
+        };
     }
     Ok(inventory)
 }
 
 /// Syncs a log, and writes a last frame which states that it was synced up to there.
-fn sync_and_mark(file: &mut File, id: u64, end: Cursor) -> io::Result<()> {
+pub(crate) fn sync_and_mark(file: &mut File, id: u64, end: Cursor) -> io::Result<()> {
     file.sync_all()?;
     let _ = file.seek(SeekFrom::End(0))?;
     if end.place <= u64::MAX - 40 {
@@ -78,25 +99,28 @@ fn write_needed(
     buffer: &mut Vec<u8>,
     file: &File,
     id: u64,
-) -> Result<Cursor, RewriteError> {
+) -> Result<Cursor, RewriteFault> {
     let Ok(output) = BufWriter::new(rt.alloc(), file) else {
-        return Err(RewriteError::Memory);
+        return Err(RewriteFault::from(RewriteError::Memory));
     };
     let work = Work::begin(rt, "rewriting", length_of(segments));
     let mut rewriting = LogRewriting::new(rt.alloc(), filter, output, id);
     for segment in segments {
-        let old = segment.id;
+        let (name, old) = (segment.name, segment.id);
         let mut input = match segment.frames(rt, folder, work) {
             Ok(input) => input,
-            Err(error) => return Err(RewriteError::of_read(error)),
+            Err(error) => return Err(RewriteFault::of_file(name, RewriteError::of_read(error))),
         };
-        rewriting = rewriting.rewrite(&mut input, buffer, old)?;
+        rewriting = match rewriting.rewrite(&mut input, buffer, old) {
+            Ok(rewriting) => rewriting,
+            Err(error) => return Err(fault_of(name, &input, error)),
+        };
     }
-    rewriting.finish()
+    Ok(rewriting.finish()?)
 }
 
 /// Makes `base.new`, a log with this id and without frames.
-fn begin_base(rt: &HostRuntime, folder: &str, id: u64) -> io::Result<File> {
+pub(crate) fn begin_base(rt: &HostRuntime, folder: &str, id: u64) -> io::Result<File> {
     let mut file = create(rt, folder, FolderFile::NewBase)?;
     file.write_all(&header_bytes(id))?;
     Ok(file)
@@ -110,14 +134,14 @@ fn write_base(
     segments: &mut [Segment],
     buffer: &mut Vec<u8>,
     id: u64,
-) -> Result<Segment, RewriteError> {
+) -> Result<Segment, RewriteFault> {
     let mut file = match begin_base(rt, folder, id) {
         Ok(file) => file,
-        Err(error) => return Err(RewriteError::of_write(error)),
+        Err(error) => return Err(RewriteFault::from(RewriteError::of_write(error))),
     };
     let end = write_needed(rt, folder, filter, segments, buffer, &file, id)?;
     if let Err(error) = sync_and_mark(&mut file, id, end) {
-        return Err(RewriteError::of_write(error));
+        return Err(RewriteFault::from(RewriteError::of_write(error)));
     }
     match file.seek(SeekFrom::End(0)) {
         Ok(length) => Ok(Segment {
@@ -127,8 +151,20 @@ fn write_base(
             length,
             before: 0,
         }),
-        Err(error) => Err(RewriteError::of_write(error)),
+        Err(error) => Err(RewriteFault::from(RewriteError::of_write(error))),
     }
+}
+
+/// Returns whether a base with this number of bytes of records may be written. Prints how much it needs if not.
+fn has_room(rt: &HostRuntime, folder: &str, records: u64) -> bool {
+    let (needed, room) = (base_length(records), room_for_base(rt, folder));
+    if needed <= room {
+        return true;
+    }
+    let _ = eprint!(rt;
+        "blobd: the log in {folder} was not rewritten: it needs {needed} bytes on the disk, and may take {room}\n"
+    );
+    false
 }
 
 /// Writes what is needed of segments into `base.new`, and compares the states that both leave. Does nothing if it is not the time to.
@@ -137,7 +173,7 @@ fn rewrite(
     folder: &str,
     segments: &mut [Segment],
     when: When,
-) -> Result<Outcome, RewriteError> {
+) -> Result<Outcome, RewriteFault> {
     let (was, id) = match segments.last() {
         Some(last) => (last.end(), last.id),
         None => return Ok(Outcome::Kept(0)),
@@ -151,11 +187,14 @@ fn rewrite(
     if when == When::Wasteful && live >= inventory.total() / 2 {
         return Ok(Outcome::Kept(live));
     }
+    if !has_room(rt, folder, live) {
+        return Ok(Outcome::Kept(was));
+    }
     let filter = inventory.filter()?;
     let mut base = [write_base(rt, folder, &filter, segments, &mut buffer, id)?];
     let left = inventory_of(rt, folder, &mut base, &mut buffer)?;
     if !inventory.has_same_state(&left) {
-        return Err(RewriteError::Differs);
+        return Err(RewriteFault::from(RewriteError::Differs));
     }
     let [base] = base;
     Ok(Outcome::Rewritten(base.length))
@@ -184,7 +223,7 @@ fn replace(
 }
 
 /// Rewrites the segments up to the one with this number, which are closed, into a base, if it is the time to. Prints both lengths. If
-/// the base cannot be written, prints why, and the segments stay as they are.
+/// the base cannot be written, or needs more room than it may take, prints why, and the segments stay as they are.
 ///
 /// The base is synced, and leaves the same state as the segments, before it takes their place. A crash leaves either.
 ///

@@ -2,6 +2,7 @@
 
 use crate::data_folder::open;
 use crate::error::FolderError;
+use crate::noting::Noting;
 use crate::progress::{Progress, Work};
 use log_frames::{HEADER_LENGTH, Opening, ReadFault, read_header};
 use std::fs::File;
@@ -28,14 +29,15 @@ fn read_id(name: FolderFile, before: u64, file: &mut File) -> Result<u64, Folder
     if let Err(error) = file.seek(SeekFrom::Start(0)) {
         return Err(FolderError::of_file("read", name, error));
     }
-    let damage = match read_header(file) {
+    let mut input = Noting::new(&*file);
+    let damage = match read_header(&mut input) {
         Ok(Opening::Log(id, _)) => return Ok(id),
         Ok(Opening::TooShort) => Damage::TooShort,
         Ok(Opening::NotALog) => Damage::NotALog,
         Ok(Opening::OtherVersion(version)) => Damage::OtherVersion(version),
         Ok(Opening::WrongSum) => Damage::WrongSum,
         Err(ReadFault::Failed(kind)) => {
-            return Err(FolderError::of_file("read", name, io::Error::from(kind)));
+            return Err(FolderError::of_file("read", name, input.error(kind)));
         }
         Err(ReadFault::Memory) => return Err(FolderError::Memory),
         Err(ReadFault::TooLong) => {
@@ -102,9 +104,10 @@ impl Segment {
         rt: &'f HostRuntime,
         folder: &'f str,
         work: Work,
-    ) -> io::Result<BufReader<Progress<'f, HostRuntime, &'f File>>> {
+    ) -> io::Result<BufReader<Progress<'f, HostRuntime, Noting<&'f File>>>> {
         let _ = self.file.seek(SeekFrom::Start(HEADER_LENGTH))?;
-        let input = Progress::new(rt, work, folder, self.name, self.before, &self.file);
+        let input = Noting::new(&self.file);
+        let input = Progress::new(rt, work, folder, self.name, self.before, input);
         let input = BufReader::new(rt.alloc(), input)?;
         Ok(input)
     }

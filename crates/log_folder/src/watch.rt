@@ -1,5 +1,6 @@
 //! Rewrites closed segments while a store is served.
 
+use crate::close_request::CloseRequest;
 use crate::data_folder::remove;
 use crate::error::FolderError;
 use crate::listing::Listing;
@@ -13,9 +14,13 @@ use store_replay::FolderFile;
 /// The pause between two looks at the folder, in milliseconds.
 const PAUSE_MILLIS: u64 = 1000;
 
+/// The number of looks at which a request waits for the end of the last segment.
+const PATIENCE: u64 = 2;
+
 /// Watches the folder of a log, to rewrite its closed segments while a store writes the last one.
 ///
-/// It examines them when they are twice as long as what was needed of them before, and when the file `rewrite` is in the folder.
+/// It examines them when they are twice as long as what was needed of them before, and when the file `rewrite` is in the folder. In that
+/// case the last segment is closed before its next frame, and the request waits for that at two looks.
 /// So the bytes that it reads are, over a long time, a small multiple of those that are written.
 #[derive(Drop)]
 pub struct Watch {
@@ -25,6 +30,9 @@ pub struct Watch {
     next: u64,
     /// The number of the last segment when they were last looked at.
     last: u64,
+    close: CloseRequest,
+    /// The number of looks at which a request still waits, and the number of the last segment when it was made.
+    asked: Option<(u64, u64)>,
 }
 
 /// Returns the length of the closed segments from which on they are examined again, in bytes.
@@ -61,22 +69,39 @@ fn open_closed(
 }
 
 impl Watch {
-    /// Begins after the segments of a folder were examined with this outcome.
-    pub fn new(rt: HostRuntime, folder: String, outcome: Outcome) -> Watch {
+    /// Begins after the segments of a folder were examined with this outcome. It asks by this handle for the end of the last segment.
+    pub fn new(rt: HostRuntime, folder: String, outcome: Outcome, close: CloseRequest) -> Watch {
         Watch {
             rt,
             folder,
             next: next_length(outcome),
             last: 0,
+            close,
+            asked: None,
         }
     }
 
-    /// Returns whether the file `rewrite` was in the folder. Removes it.
-    fn is_asked(&self) -> bool {
-        matches!(
-            remove(&self.rt, self.folder.as_str(), FolderFile::Request),
-            Ok(true)
-        )
+    /// Notes a request if the file `rewrite` is in the folder, and removes the file. `last` is the number of the last segment, which
+    /// is closed before its next frame from then on.
+    fn note_request(&mut self, last: u64) {
+        let removed = remove(&self.rt, self.folder.as_str(), FolderFile::Request);
+        if matches!(removed, Ok(true)) {
+            self.close.set(true);
+            self.asked = Some((PATIENCE, last));
+        }
+    }
+
+    /// Returns whether a request is due: the last segment of that time was closed, or was not at two looks.
+    fn is_due(&mut self, last: u64) -> bool {
+        let Some((looks, number)) = self.asked else {
+            return false;
+        };
+        if last == number && looks > 0 {
+            self.asked = Some((looks - 1, number));
+            return false;
+        }
+        self.asked = None;
+        true
     }
 
     /// Rewrites the closed segments of a listing, if they are long enough or it was asked for. If one of them is missing or damaged,
@@ -101,12 +126,13 @@ impl Watch {
 
     /// Looks at the folder, and rewrites the closed segments if it is the time to.
     fn look(&mut self) -> Result<(), FolderError> {
-        let is_asked = self.is_asked();
         let listing = match Listing::read(&self.rt, self.folder.as_str()) {
             Ok(listing) => listing,
             Err(error) => return Err(FolderError::of_file("read", FolderFile::Folder, error)),
         };
         let last = listing.last();
+        self.note_request(last);
+        let is_asked = self.is_due(last);
         if last == self.last && !is_asked {
             return Ok(());
         }

@@ -3,25 +3,25 @@ ghost use Rattle.std.specs.Prelude.{◌≡◌};
 ghost use Rattle.log_rewriting.specs.declared.failure.RewriteError.TheVariants.{Memory};
 
 use crate::error::InventoryError;
-use std::alloc::AllocError;
+use std::alloc::{AllocError, AllocFailed};
 use std::io::{self, ErrorKind};
 use thiserror::Error;
 
 /// The reason why a log is not rewritten.
-#[derive(Clone, Copy, Debug, PartialEq, Eq, Drop, Error)]
+#[derive(Clone, Copy, Debug, Drop, Error)]
 pub enum RewriteError {
     /// Memory allocation failed.
     #[error("out of memory")]
     Memory,
-    /// The log cannot be read, with an error of this kind.
+    /// The log cannot be read.
     #[error("cannot read it: {0}")]
-    Read(ErrorKind),
-    /// The rewritten log cannot be written, with an error of this kind.
+    Read(io::Error),
+    /// The rewritten log cannot be written.
     #[error("cannot write the new log: {0}")]
-    Write(ErrorKind),
-    /// The log does not end after a whole record.
-    #[error("it does not end after a whole record")]
-    NotWhole,
+    Write(io::Error),
+    /// The frames of a segment end at this byte of it, and no whole record ends there, or the segment does not.
+    #[error("no whole record ends at byte {0}, or no frame begins there")]
+    NotWhole(u64),
     /// The bytes at an offset in the joined payloads of the log are no record.
     #[error("there is no record at byte {0} of the records")]
     NoRecord(u64),
@@ -41,7 +41,7 @@ impl RewriteError {
     pub fn of_write(error: io::Error) -> RewriteError {
         match error.kind() {
             ErrorKind::OutOfMemory => RewriteError::Memory,
-            kind => RewriteError::Write(kind),
+            _ => RewriteError::Write(error),
         }
     }
 
@@ -49,7 +49,7 @@ impl RewriteError {
     pub fn of_read(error: io::Error) -> RewriteError {
         match error.kind() {
             ErrorKind::OutOfMemory => RewriteError::Memory,
-            kind => RewriteError::Read(kind),
+            _ => RewriteError::Read(error),
         }
     }
 }
@@ -58,6 +58,14 @@ impl From<AllocError> for RewriteError {
     ghost from_gives = { λ _ e. e ≡ Memory };
 
     fn from(_error: AllocError) -> RewriteError {
+        RewriteError::Memory
+    }
+}
+
+impl<T: Drop> From<AllocFailed<T>> for RewriteError {
+    ghost from_gives = { λ _ e. e ≡ Memory };
+
+    fn from(_error: AllocFailed<T>) -> RewriteError {
         RewriteError::Memory
     }
 }

@@ -4,7 +4,7 @@ use crate::failure::RewriteError;
 use log_frames::{Ending, FrameSink, read_frames, start_of};
 use log_records::{Change, RecordError, next_record};
 use std::alloc::Global;
-use std::io::Read;
+use std::io::{self, Read};
 use std::mem;
 
 /// A receiver of the changes of a log, in the order of their records.
@@ -119,11 +119,12 @@ pub fn give_changes<C: Receiver, R: Read>(
         offset,
         error,
     } = joiner;
+    let place = read.cursor.place;
     match read.ending {
         Ending::End if left.is_empty() => Ok((receiver, offset)),
-        Ending::Refused => Err(error.unwrap_or(RewriteError::NotWhole)),
-        Ending::Failed(kind) => Err(RewriteError::Read(kind)),
+        Ending::Refused => Err(error.unwrap_or(RewriteError::NotWhole(place))),
+        Ending::Failed(kind) => Err(RewriteError::Read(io::Error::from(kind))),
         Ending::Memory => Err(RewriteError::Memory),
-        _ => Err(RewriteError::NotWhole),
+        _ => Err(RewriteError::NotWhole(place)),
     }
 }

@@ -27,3 +27,4 @@ pub use filter::Filter;
 pub use inventory::Inventory;
 pub use kept::Kept;
 pub use logs::{LogRewriting, take_inventory};
+pub use writing::RecordWriter;
