@@ -13,16 +13,26 @@ fn is_read(name: &str) -> bool {
     of_database || name == witness::FILE_NAME || log_end::is_of_log(name)
 }
 
-/// Syncs a file, and drops its cached pages.
-fn drop_pages_of(path: &Path) -> io::Result<()> {
-    let file = File::open(path)?;
-    // A page that is not on the disk yet cannot be dropped.
-    file.sync_all()?;
+/// Drops the cached pages of a file that are on the disk.
+fn drop_clean_pages(file: &File) -> io::Result<()> {
     // SAFETY: the call only takes numbers; the descriptor is open.
     match unsafe { libc::posix_fadvise(file.as_raw_fd(), 0, 0, libc::POSIX_FADV_DONTNEED) } {
         0 => Ok(()),
         error => Err(io::Error::from_raw_os_error(error)),
     }
+}
+
+/// Drops the cached pages of a file that are on the disk, if the system can.
+pub fn forget(file: &File) {
+    let _ = drop_clean_pages(file);
+}
+
+/// Syncs a file, and drops its cached pages.
+fn drop_pages_of(path: &Path) -> io::Result<()> {
+    let file = File::open(path)?;
+    // A page that is not on the disk yet cannot be dropped.
+    file.sync_all()?;
+    drop_clean_pages(&file)
 }
 
 /// Syncs the files of the log and of the database in a folder, and drops their cached pages.

@@ -3,7 +3,7 @@
 use crate::clock::now;
 use crate::document::Facts;
 use crate::tags::{Kept, Removal, Tags};
-use crate::writer::{Change, DatabaseUnavailable, Done, Writer};
+use crate::writer::{Change, Done, WriteFailure, Writer};
 use std::ops::Deref;
 use std::sync::Arc;
 
@@ -35,7 +35,7 @@ impl Catalog {
     }
 
     /// Adds a manifest that the store accepted, and its tag if it was put under one.
-    pub async fn put(&self, repo: &str, digest: &str, facts: Facts, tag: Option<&str>) -> Result<(), DatabaseUnavailable> {
+    pub async fn put(&self, repo: &str, digest: &str, facts: Facts, tag: Option<&str>) -> Result<(), WriteFailure> {
         let writer = match &self.writer {
             Some(writer) => writer,
             None => {
@@ -63,7 +63,7 @@ impl Catalog {
     }
 
     /// Removes a tag. Returns whether it was there.
-    pub async fn remove_tag(&self, repo: &str, tag: &str) -> Result<bool, DatabaseUnavailable> {
+    pub async fn remove_tag(&self, repo: &str, tag: &str) -> Result<bool, WriteFailure> {
         let writer = match &self.writer {
             Some(writer) if self.tags.by_tag(repo, tag).is_some() => writer,
             _ => return Ok(self.tags.remove_tag(repo, tag, now())),
@@ -80,7 +80,7 @@ impl Catalog {
         repo: &str,
         digest: &str,
         removal: Removal,
-    ) -> Result<Result<RemovedTags, Kept>, DatabaseUnavailable> {
+    ) -> Result<Result<RemovedTags, Kept>, WriteFailure> {
         if let Err(kept) = self.tags.begin_removal(repo, digest, removal) {
             return Ok(Err(kept));
         }
@@ -88,14 +88,20 @@ impl Catalog {
             Some(writer) if self.tags.is_known(repo, digest) => writer,
             _ => return Ok(Ok(RemovedTags(Vec::new()))),
         };
-        match writer.write(Change::RemoveManifest { repo: repo.to_string(), digest: digest.to_string() }).await? {
-            Done::Removed(tags) => Ok(Ok(RemovedTags(tags))),
-            Done::Nothing => Ok(Ok(RemovedTags(Vec::new()))),
+        match writer.write(Change::RemoveManifest { repo: repo.to_string(), digest: digest.to_string() }).await {
+            Ok(Done::Removed(tags)) => Ok(Ok(RemovedTags(tags))),
+            Ok(Done::Nothing) => Ok(Ok(RemovedTags(Vec::new()))),
+            Err(failure) => {
+                if failure == WriteFailure::NoRoom {
+                    self.tags.end_removal(repo, digest);
+                }
+                Err(failure)
+            }
         }
     }
 
     /// Shows a manifest and its tags again that the store did not delete. A tag that names another manifest by now stays.
-    pub async fn undo_removal(&self, repo: &str, digest: &str, tags: RemovedTags) -> Result<(), DatabaseUnavailable> {
+    pub async fn undo_removal(&self, repo: &str, digest: &str, tags: RemovedTags) -> Result<(), WriteFailure> {
         if let (Some(writer), Some((facts, since))) = (&self.writer, self.tags.any_facts(repo, digest)) {
             let (repo, digest) = (repo.to_string(), digest.to_string());
             writer.write(Change::RestoreManifest { repo, digest, facts, since, tags: tags.0 }).await?;

@@ -3,6 +3,7 @@
 use crate::document::Facts;
 use crate::limits::tenant_of;
 use crate::marks::{self, Marks};
+use crate::unsynced;
 use crate::upload_name::{Secret, SECRET_LEN};
 use crate::witness::Witness;
 use crate::writer::Change;
@@ -17,6 +18,9 @@ use std::time::Duration;
 
 /// The name of the database's file in the folder.
 pub const FILE_NAME: &str = "registry.db";
+
+/// The flags with which the file is opened. It exists, and one thread uses a connection.
+const FLAGS: OpenFlags = OpenFlags::SQLITE_OPEN_READ_WRITE.union(OpenFlags::SQLITE_OPEN_NO_MUTEX);
 
 /// The time that the program before has to release the database.
 const WAIT: Duration = Duration::from_secs(5);
@@ -145,10 +149,26 @@ pub struct Rows {
     pub recorded: HashMap<String, u32>,
 }
 
+/// The outcome of a transaction that did not fail.
+#[derive(Clone, Copy, Debug, PartialEq, Eq)]
+pub enum Committed {
+    Made,
+    /// The disk has no room: nothing was changed.
+    NoRoom,
+}
+
+/// Returns whether SQLite found no room on the disk. It has undone the transaction then.
+fn is_full(error: &rusqlite::Error) -> bool {
+    error.sqlite_error_code() == Some(ErrorCode::DiskFull)
+}
+
 /// An open database.
 pub struct Database {
     connection: Connection,
     path: PathBuf,
+    is_synced: bool,
+    /// Whether it was opened on a disk without room, and is not written yet.
+    is_unwritten: bool,
     marks: Marks,
     witness: Witness,
     /// The number of transactions that the witness had when the database was opened.
@@ -176,8 +196,7 @@ impl Database {
         let witness = Witness::open(folder).map_err(unusable)?;
         let witnessed = witness.read();
         let of_sqlite = |error| OpenError::of_sqlite(&path, error);
-        let flags = OpenFlags::SQLITE_OPEN_READ_WRITE | OpenFlags::SQLITE_OPEN_NO_MUTEX;
-        let mut connection = Connection::open_with_flags(&path, flags).map_err(of_sqlite)?;
+        let mut connection = Connection::open_with_flags(&path, FLAGS).map_err(of_sqlite)?;
         set_up(&connection).map_err(of_sqlite)?;
         if let Some(fault) = check_or_make(&mut connection).map_err(of_sqlite)? {
             return Err(OpenError::new(Problem::Damaged, &path, fault));
@@ -190,7 +209,47 @@ impl Database {
             // The names of the files have to survive too.
             File::open(folder).and_then(|folder| folder.sync_all()).map_err(unusable)?;
         }
-        Ok(Database { connection, path, marks, witness, witnessed })
+        Ok(Database { connection, path, is_synced, is_unwritten: false, marks, witness, witnessed })
+    }
+
+    /// Opens the database of a folder on a disk without room. It is written only after the disk has room. Meanwhile no other program
+    /// can read it.
+    ///
+    /// # Errors
+    ///
+    /// Those of `open`. A database of an earlier version is not of this version.
+    pub fn open_without_room(folder: &Path, is_synced: bool) -> Result<Database, OpenError> {
+        let path = folder.join(FILE_NAME);
+        let unusable = |error: io::Error| OpenError::new(Problem::Unusable, &path, error);
+        let witness = Witness::open(folder).map_err(unusable)?;
+        let witnessed = witness.read();
+        let of_sqlite = |error| OpenError::of_sqlite(&path, error);
+        let connection = Connection::open_with_flags(&path, FLAGS).map_err(of_sqlite)?;
+        set_up_without_room(&connection).map_err(of_sqlite)?;
+        if let Some(fault) = check(&connection).map_err(of_sqlite)? {
+            return Err(OpenError::new(Problem::Damaged, &path, fault));
+        }
+        let marks = marks::read(&connection).map_err(of_sqlite)?;
+        Ok(Database { connection, path, is_synced, is_unwritten: true, marks, witness, witnessed })
+    }
+
+    /// Opens the database as on a disk with room, if it was opened without.
+    fn begin_writing(&mut self) -> rusqlite::Result<()> {
+        if !self.is_unwritten {
+            return Ok(());
+        }
+        // The lock of the other connection would keep this one out.
+        let other = std::mem::replace(&mut self.connection, Connection::open_in_memory()?);
+        other.close().map_err(|(_, error)| error)?;
+        self.connection = Connection::open_with_flags(&self.path, FLAGS)?;
+        set_up(&self.connection)?;
+        if !self.is_synced {
+            let folder = self.path.parent().unwrap_or_else(|| Path::new("."));
+            unsynced::mark(folder).map_err(|error| rusqlite::Error::ToSqlConversionFailure(error.into()))?;
+            self.connection.execute_batch("PRAGMA synchronous = OFF")?;
+        }
+        self.is_unwritten = false;
+        Ok(())
     }
 
     /// Returns the marks of the database.
@@ -250,8 +309,22 @@ impl Database {
     }
 
     /// Makes changes in one transaction, in their order. `recorded` has the tenants whose number changes up to which all open
-    /// sessions are recorded. `now` is the time, in seconds since 1970. Nothing is changed if it fails.
+    /// sessions are recorded. `now` is the time, in seconds since 1970. Nothing is changed if it fails, or if the disk has no room.
     pub fn commit<'c>(
+        &mut self,
+        changes: impl Iterator<Item = &'c Change>,
+        recorded: &[(String, u32)],
+        now: u64,
+    ) -> rusqlite::Result<Committed> {
+        let committed = self.begin_writing().and_then(|()| self.commit_written(changes, recorded, now));
+        match committed {
+            Ok(()) => Ok(Committed::Made),
+            Err(error) if is_full(&error) && self.connection.is_autocommit() => Ok(Committed::NoRoom),
+            Err(error) => Err(error),
+        }
+    }
+
+    fn commit_written<'c>(
         &mut self,
         changes: impl Iterator<Item = &'c Change>,
         recorded: &[(String, u32)],
@@ -324,6 +397,12 @@ fn set_up(connection: &Connection) -> rusqlite::Result<()> {
     connection.execute_batch("PRAGMA synchronous = FULL; PRAGMA foreign_keys = ON")
 }
 
+/// Lets this connection alone read the database, so that SQLite needs no file with an index of what is in its log.
+fn set_up_without_room(connection: &Connection) -> rusqlite::Result<()> {
+    connection.busy_timeout(WAIT)?;
+    connection.query_row("PRAGMA locking_mode = EXCLUSIVE", [], |_| Ok(()))
+}
+
 /// Checks the database, or makes its tables if it is empty, or adds to those of version 1. Returns what is wrong, if anything is.
 fn check_or_make(connection: &mut Connection) -> rusqlite::Result<Option<String>> {
     let transaction = connection.transaction_with_behavior(TransactionBehavior::Exclusive)?;
@@ -336,15 +415,22 @@ fn check_or_make(connection: &mut Connection) -> rusqlite::Result<Option<String>
     if is_empty || found == (APPLICATION, 1) {
         transaction.execute_batch(ADDITIONS)?;
         transaction.execute_batch(&format!("PRAGMA application_id = {APPLICATION}; PRAGMA user_version = {VERSION}"))?;
-    } else if found != (APPLICATION, VERSION) {
+    }
+    let fault = check(&transaction)?;
+    if fault.is_none() {
+        transaction.commit()?;
+    }
+    Ok(fault)
+}
+
+/// Returns what is wrong with a database, if anything is.
+fn check(connection: &Connection) -> rusqlite::Result<Option<String>> {
+    let number = |query: &str| connection.query_row(query, [], |row| row.get::<_, i64>(0));
+    if (number("PRAGMA application_id")?, number("PRAGMA user_version")?) != (APPLICATION, VERSION) {
         return Ok(Some("not a database of this version of registryd".to_string()));
     }
-    let checked: String = transaction.query_row("PRAGMA quick_check(1)", [], |row| row.get(0))?;
-    if checked != "ok" {
-        return Ok(Some(format!("damaged: {checked}")));
-    }
-    transaction.commit()?;
-    Ok(None)
+    let checked: String = connection.query_row("PRAGMA quick_check(1)", [], |row| row.get(0))?;
+    Ok((checked != "ok").then(|| format!("damaged: {checked}")))
 }
 
 /// Runs a statement.

@@ -4,7 +4,7 @@ use crate::bounds::Excess;
 use crate::frames::{Reason, Refusal};
 use crate::limits::{tenant_of, Limit, MAX_LASTING, MAX_MANIFESTS, MAX_REPOSITORIES, MAX_UPLOADS};
 use crate::store::StoreUnavailable;
-use crate::writer::DatabaseUnavailable;
+use crate::writer::WriteFailure;
 use hyper::header::{HeaderValue, CONTENT_TYPE};
 use hyper::{Body, Response, StatusCode};
 use serde_json::{json, Value};
@@ -117,6 +117,12 @@ impl Fault {
             .with_detail(json!({ "free": free, "minimum": min_free }))
     }
 
+    /// The disk of the folder has no room for a change.
+    pub fn no_room() -> Fault {
+        let message = "the disk of the registry is full: only reads are served";
+        Fault::new(StatusCode::INSUFFICIENT_STORAGE, "UNSUPPORTED", message).with_header("Retry-After", "60")
+    }
+
     /// The request has no credentials, or they are wrong.
     pub fn unauthorized(challenge: impl Into<String>) -> Fault {
         Fault::new(StatusCode::UNAUTHORIZED, "UNAUTHORIZED", "valid credentials are required")
@@ -209,10 +215,15 @@ impl From<StoreUnavailable> for Fault {
     }
 }
 
-impl From<DatabaseUnavailable> for Fault {
-    fn from(_: DatabaseUnavailable) -> Fault {
-        Fault::new(StatusCode::SERVICE_UNAVAILABLE, "UNSUPPORTED", "the database has ended, or does not reply in time")
-            .with_header("Retry-After", "1")
+impl From<WriteFailure> for Fault {
+    fn from(failure: WriteFailure) -> Fault {
+        match failure {
+            WriteFailure::NoRoom => Fault::no_room(),
+            WriteFailure::Unavailable => {
+                Fault::new(StatusCode::SERVICE_UNAVAILABLE, "UNSUPPORTED", "the database has ended, or does not reply in time")
+                    .with_header("Retry-After", "1")
+            }
+        }
     }
 }
 

@@ -1,27 +1,36 @@
-//! The folder of a registry that survives restarts: its files, and the room on its disk.
+//! The folder of a registry that survives restarts: its files.
 use crate::database::FILE_NAME;
-use crate::fault::Fault;
 use crate::log_end::is_of_log;
-use std::ffi::CString;
+use crate::room::Room;
 use std::io;
-use std::os::unix::ffi::OsStrExt;
 use std::path::{Path, PathBuf};
-use std::sync::Mutex;
-use std::time::{Duration, Instant};
+use std::sync::Arc;
 
-/// The time for which a look at the disk counts. A disk that takes 1 GB in a second gets 20 MB in this time.
-const LOOK: Duration = Duration::from_millis(20);
-
-/// The folder, and the number of bytes that stay free on its disk.
+/// The folder.
 pub struct Folder {
     path: PathBuf,
-    min_free: u64,
-    /// The time of the last look, and the number of bytes that were free.
-    last: Mutex<Option<(Instant, u64)>>,
+    /// The room on its disk.
+    pub room: Arc<Room>,
 }
 
 /// The file by which the store is asked to rewrite its log.
 const REWRITE: &str = "rewrite";
+
+/// The file by which a start of the store goes on with what is left of a damaged log.
+const ACCEPT_LOSS: &str = "accept-loss";
+
+/// Lets the next start of the store go on with what is left of a damaged log. It removes the file.
+pub fn accept_damage(path: &Path) -> io::Result<()> {
+    std::fs::File::create(path.join(ACCEPT_LOSS)).map(drop)
+}
+
+/// Removes the file that a start has left whose store did not start.
+pub fn forget_acceptance(path: &Path) -> io::Result<()> {
+    match std::fs::remove_file(path.join(ACCEPT_LOSS)) {
+        Err(error) if error.kind() != io::ErrorKind::NotFound => Err(error),
+        _ => Ok(()),
+    }
+}
 
 /// Returns the length of the store's log in a folder, in bytes, or `None` if there is no log.
 pub fn log_length(path: &Path) -> Option<u64> {
@@ -30,50 +39,13 @@ pub fn log_length(path: &Path) -> Option<u64> {
     lengths.map(|file| file.metadata().map_or(0, |data| data.len())).reduce(|sum, length| sum + length)
 }
 
-/// Returns the number of bytes on the disk of a folder that this user may still write.
-fn free_bytes(path: &Path) -> io::Result<u64> {
-    let path = CString::new(path.as_os_str().as_bytes())?;
-    // SAFETY: zeros are a value of the struct, which has only numbers.
-    let mut room: libc::statvfs = unsafe { std::mem::zeroed() };
-    // SAFETY: the path ends with a zero byte, and `room` has room for the struct that the call writes.
-    match unsafe { libc::statvfs(path.as_ptr(), &mut room) } {
-        0 => Ok(room.f_bavail.saturating_mul(room.f_frsize)),
-        _ => Err(io::Error::last_os_error()),
-    }
-}
-
 impl Folder {
-    pub fn new(path: PathBuf, min_free: u64) -> Folder {
-        Folder { path, min_free, last: Mutex::default() }
+    pub fn new(path: PathBuf, room: Arc<Room>) -> Folder {
+        Folder { path, room }
     }
 
     pub fn path(&self) -> &Path {
         &self.path
-    }
-
-    /// Returns the number of free bytes, by a look that is at most `LOOK` old. Returns `None` if the system has no answer.
-    pub fn free(&self) -> Option<u64> {
-        let mut last = self.last.lock().unwrap();
-        match *last {
-            Some((time, free)) if time.elapsed() < LOOK => return Some(free),
-            _ => {}
-        }
-        let free = free_bytes(&self.path).ok()?;
-        *last = Some((Instant::now(), free));
-        Some(free)
-    }
-
-    /// Returns the number of bytes that stay free on the disk.
-    pub fn min_free(&self) -> u64 {
-        self.min_free
-    }
-
-    /// Fails if less than the minimum is free.
-    pub fn check(&self) -> Result<(), Fault> {
-        match self.free() {
-            Some(free) if free < self.min_free => Err(Fault::disk_full(free, self.min_free)),
-            _ => Ok(()),
-        }
     }
 
     /// Returns the length of the log, in bytes.
@@ -83,7 +55,13 @@ impl Folder {
 
     /// Asks the store to rewrite its log. It looks for the request once a second.
     pub fn ask_for_rewriting(&self) -> io::Result<()> {
+        self.room.prepare_rewriting(self.log_bytes());
         std::fs::File::create(self.path.join(REWRITE)).map(drop)
+    }
+
+    /// Returns whether the store has not yet seen the request.
+    pub fn is_rewriting_asked(&self) -> bool {
+        self.path.join(REWRITE).exists()
     }
 
     /// Returns the length of the database, in bytes, with the transactions that are not yet in its file.
@@ -101,13 +79,8 @@ impl Folder {
 mod tests {
     use super::*;
 
-    #[test]
-    fn the_minimum_is_compared_with_the_free_bytes() {
-        let folder = |min_free| Folder::new(std::env::temp_dir(), min_free);
-        assert!(folder(0).check().is_ok());
-        assert!(folder(u64::MAX).check().is_err());
-        let free = folder(0).free().unwrap();
-        assert!(free > 0 && free < u64::MAX);
+    fn folder_at(path: PathBuf) -> Folder {
+        Folder::new(path.clone(), Arc::new(Room::new(path, 0, 0)))
     }
 
     #[test]
@@ -119,17 +92,16 @@ mod tests {
             std::fs::write(path.join(name), text).unwrap();
         }
         assert_eq!(log_length(&path), Some(8));
-        let folder = Folder::new(path.clone(), 0);
+        let folder = folder_at(path.clone());
+        assert!(!folder.is_rewriting_asked());
         folder.ask_for_rewriting().unwrap();
-        assert!(path.join("rewrite").exists());
+        assert!(path.join("rewrite").exists() && folder.is_rewriting_asked());
         std::fs::remove_dir_all(path).unwrap();
     }
 
     #[test]
-    fn a_folder_that_is_not_there_has_no_minimum() {
-        let folder = Folder::new(PathBuf::from("/no/such/folder"), u64::MAX);
-        assert_eq!(folder.free(), None);
-        assert!(folder.check().is_ok());
+    fn a_folder_that_is_not_there_is_empty() {
+        let folder = folder_at(PathBuf::from("/no/such/folder"));
         assert_eq!((folder.log_bytes(), folder.database_bytes()), (0, 0));
     }
 }

@@ -1,5 +1,5 @@
 //! The limits of a tenant. The store reports all of them with one status; this module finds the one that a call has reached.
-use crate::writer::{Change, DatabaseUnavailable, Writer};
+use crate::writer::{Change, WriteFailure, Writer};
 use std::collections::{HashMap, HashSet};
 use std::sync::{Arc, Mutex};
 
@@ -101,7 +101,7 @@ impl Repositories {
     }
 
     /// Begins a request that may open an upload. With a database, the repository is recorded when this returns.
-    pub async fn enter<'r>(&'r self, repo: &'r str) -> Result<Entering<'r>, DatabaseUnavailable> {
+    pub async fn enter<'r>(&'r self, repo: &'r str) -> Result<Entering<'r>, WriteFailure> {
         let mut entering = Entering { request: self.begin_change(repo), is_settled: false };
         if let Some(writer) = self.writer.as_ref().filter(|_| !entering.request.is_recorded) {
             entering.request.is_recorded = true;
@@ -124,7 +124,7 @@ impl Repositories {
     }
 
     /// Records that the store used all numbers of a repository's tenant up to this one.
-    pub async fn begin_numbers(&self, repo: &str, number: u32) -> Result<(), DatabaseUnavailable> {
+    pub async fn begin_numbers(&self, repo: &str, number: u32) -> Result<(), WriteFailure> {
         if let Some(writer) = &self.writer {
             writer.write(Change::BeginUploads { repo: repo.to_string(), number }).await?;
             self.set_numbered(tenant_of(repo));

@@ -36,7 +36,7 @@ pub struct LastFile {
 
 /// Returns the number in the name of a file of the log after this start of the name. A file `log` of an earlier version becomes
 /// `log.1`.
-fn number(name: &str, kind: &str) -> Option<u64> {
+pub fn number_of(name: &str, kind: &str) -> Option<u64> {
     let number = name.strip_prefix(kind)?;
     match number {
         "" if kind == "log" => Some(1),
@@ -46,7 +46,7 @@ fn number(name: &str, kind: &str) -> Option<u64> {
 
 /// Returns whether a file with this name is part of the store's log.
 pub fn is_of_log(name: &str) -> bool {
-    number(name, "log").or_else(|| number(name, "base")).is_some()
+    number_of(name, "log").or_else(|| number_of(name, "base")).is_some()
 }
 
 /// Returns the last file of the log in a folder, or `None` if no regular file is part of one. A segment with the number of a base
@@ -56,7 +56,7 @@ pub fn last_file(folder: &Path) -> Option<LastFile> {
     for file in std::fs::read_dir(folder).ok()?.flatten() {
         let name = file.file_name();
         let name = name.to_str().unwrap_or_default();
-        let (found, is_base) = match (number(name, "log"), number(name, "base")) {
+        let (found, is_base) = match (number_of(name, "log"), number_of(name, "base")) {
             (Some(number), _) => (number, false),
             (None, Some(number)) => (number, true),
             (None, None) => continue,

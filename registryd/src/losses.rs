@@ -7,7 +7,7 @@ use crate::marks::Marks;
 use std::collections::BTreeSet;
 use std::fmt;
 
-/// The greatest number of lost manifests and tags that are named.
+/// The greatest number of lost manifests and tags that the text of a loss names.
 const NAMED: usize = 10;
 
 /// Something that was on the disk and is lost.
@@ -23,8 +23,8 @@ pub enum Loss {
     OtherLog,
     /// The log ends before a place that was on the disk.
     LogEnd { end: LogEnd, kept: LogEnd },
-    /// The store does not have manifests of the database. The first are named.
-    Manifests { manifests: usize, tags: usize, names: Vec<String>, others: usize },
+    /// The store does not have manifests of the database. The text names the first ones.
+    Manifests { manifests: usize, tags: usize, names: Vec<String> },
     /// The store uses the numbers of uploads again.
     Uploads,
 }
@@ -50,12 +50,12 @@ impl fmt::Display for Loss {
                 text.write_str(", and was on the disk up to ")?;
                 place(text, kept)
             }
-            Loss::Manifests { manifests, tags, names, others } => {
+            Loss::Manifests { manifests, tags, names } => {
                 write!(text, "the store does not have {manifests} manifests of {FILE_NAME} with {tags} tags: ")?;
-                text.write_str(&names.join(", "))?;
-                match others {
+                text.write_str(&names[..names.len().min(NAMED)].join(", "))?;
+                match names.len().saturating_sub(NAMED) {
                     0 => Ok(()),
-                    _ => write!(text, " and {others} more"),
+                    others => write!(text, " and {others} more"),
                 }
             }
             Loss::Uploads => text.write_str("the store has lost uploads: clients have to begin all open uploads again"),
@@ -76,6 +76,14 @@ impl Loss {
         }
     }
 
+    /// Returns the names of all lost tags and manifests.
+    fn names(&self) -> &[String] {
+        match self {
+            Loss::Manifests { names, .. } => names,
+            _ => &[],
+        }
+    }
+
     /// Returns the loss of manifests and their tags. The tags are named first.
     pub fn of_manifests(missing: &[ManifestRow], tags: &[TagRow]) -> Loss {
         let lost: BTreeSet<(&str, &str)> = missing.iter().map(|row| (&*row.repo, &*row.digest)).collect();
@@ -84,9 +92,8 @@ impl Loss {
         let tagged: BTreeSet<(&str, &str)> = tags.iter().map(|(repo, _, digest)| (*repo, *digest)).collect();
         let by_tag = tags.iter().map(|(repo, tag, digest)| format!("{repo}:{tag} ({digest})"));
         let by_digest = lost.difference(&tagged).map(|(repo, digest)| format!("{repo}@{digest}"));
-        let others = (tags.len() + lost.len() - tagged.len()).saturating_sub(NAMED);
-        let names = by_tag.chain(by_digest).take(NAMED).collect();
-        Loss::Manifests { manifests: missing.len(), tags: tags.len(), names, others }
+        let names = by_tag.chain(by_digest).collect();
+        Loss::Manifests { manifests: missing.len(), tags: tags.len(), names }
     }
 }
 
@@ -106,7 +113,10 @@ impl OnLoss {
     pub fn meet(self, loss: &Loss) -> Result<(), Failure> {
         match self {
             OnLoss::End => return Err(Failure::of_loss(loss)),
-            OnLoss::Accept => tracing::warn!("accepted a loss: {loss}"),
+            OnLoss::Accept => {
+                tracing::warn!("accepted a loss: {loss}");
+                loss.names().iter().for_each(|name| tracing::warn!("lost: {name}"));
+            }
             OnLoss::GoOn => tracing::warn!("a crash may leave this after a start with --sync never: {loss}"),
         }
         Ok(())

@@ -20,9 +20,11 @@ mod ending;
 mod exchange;
 mod fault;
 mod folder;
+mod frame_check;
 mod frames;
 mod framing;
 mod head_lines;
+mod held;
 mod in_flight;
 mod limits;
 mod log_end;
@@ -51,6 +53,8 @@ mod reload;
 mod repositories;
 mod retention;
 mod rights;
+mod room;
+mod scrub;
 mod server;
 mod shares;
 mod starting;
@@ -90,6 +94,8 @@ use crate::provenance::Provenance;
 use crate::registry::Registry;
 use crate::reload::{FromFile, Hangup, Reloads};
 use crate::rights::Rights;
+use crate::room::Room;
+use crate::scrub::Scrub;
 use crate::starting::{Service, Serving};
 use crate::tags::Tags;
 use crate::tenants::Tenant;
@@ -342,13 +348,13 @@ fn bounds_by_tenant(options: &Options, tags: &Tags) -> HashMap<String, Bounds> {
 }
 
 /// Opens the folder and its database, if there is a folder.
-async fn open_folder(options: &Options) -> Result<Option<Opened>, Failure> {
-    match options.data.clone() {
-        Some(folder) => {
+async fn open_folder(options: &Options, room: &Option<Arc<Room>>) -> Result<Option<Opened>, Failure> {
+    match (options.data.clone(), room.clone()) {
+        (Some(folder), Some(room)) => {
             let options = options.clone();
-            startup::blocking(move || opening::open(&options, folder)).await.map(Some)
+            startup::blocking(move || opening::open(&options, folder, &room)).await.map(Some)
         }
-        None => Ok(None),
+        _ => Ok(None),
     }
 }
 
@@ -359,8 +365,9 @@ async fn start(options: &Options, access: Access) -> Result<Started, Failure> {
     let metrics = Metrics::new();
     metrics.set_verified(provenance.is_proved());
     let limit = Duration::from_secs(options.call_s);
-    let writer = options.data.as_ref().map(|_| Writer::new(metrics.add_folder(options.is_durable()), limit));
-    let opened = open_folder(options).await?;
+    let room = options.data.clone().map(|path| Arc::new(Room::new(path, options.min_free(), options.reserve())));
+    let writer = room.clone().map(|room| Writer::new(metrics.add_folder(options.is_durable()), limit, room));
+    let opened = open_folder(options, &room).await?;
     capacity::warn_of_sums(&options.tenants(), options.slots);
     let (store, mut child) = shares::start_store(options, writer.clone()).await?;
     let kept = match opened {
@@ -398,7 +405,8 @@ async fn start(options: &Options, access: Access) -> Result<Started, Failure> {
         uploads,
         repositories,
         loose: options.keep_untagged.map_or_else(LooseBlobs::default, |_| LooseBlobs::new(writer.clone(), loose_blobs)),
-        folder: options.data.clone().map(|path| Folder::new(path, options.min_free())),
+        folder: options.data.clone().zip(room).map(|(path, room)| Folder::new(path, room)),
+        scrub: options.data.clone().and_then(|path| Some(Scrub::new(path, options.scrub_pace()?, &metrics))),
         turns: Default::default(),
         metrics,
         sweep_requests: Default::default(),
@@ -414,12 +422,12 @@ async fn start(options: &Options, access: Access) -> Result<Started, Failure> {
         tags: Catalog::new(tags, writer),
         started: status::now(),
     });
-    work_in_background(&registry, options);
+    work_in_background(&registry, options)?;
     Ok(Started { registry, child, database, synced: options.data.clone().filter(|_| options.is_durable()) })
 }
 
-/// Starts the garbage collector, the expiry of uploads and of manifests without tags, and the reserve of memory.
-fn work_in_background(registry: &Arc<Registry>, options: &Options) {
+/// Starts the garbage collector, the expiry of uploads and of manifests without tags, the reserve of memory, and the reads of the log.
+fn work_in_background(registry: &Arc<Registry>, options: &Options) -> Result<(), Failure> {
     let rest = Duration::from_millis(options.sweep_ms);
     let sweeper = registry.clone();
     tokio::spawn(async move { sweeper.sweep(rest).await });
@@ -431,6 +439,10 @@ fn work_in_background(registry: &Arc<Registry>, options: &Options) {
         tokio::spawn(async move { keeper.keep_untagged(time).await });
     }
     tokio::spawn(memory::keep_reserve());
+    if let Some(scrub) = &registry.scrub {
+        scrub.start()?;
+    }
+    Ok(())
 }
 
 /// Returns the limits of client connections. The number of open files limits their number too.
@@ -459,18 +471,21 @@ async fn failed(database: &Option<(Arc<Writer>, WriterThread)>) -> Failure {
 /// Looks at the folder until something is wrong with it, and returns what. It never returns without a folder.
 async fn watch_folder(registry: &Registry, database: &Option<(Arc<Writer>, WriterThread)>, synced: &Option<PathBuf>) -> Failure {
     let folder = match &registry.folder {
-        Some(folder) => folder.path().to_path_buf(),
+        Some(folder) => folder,
         None => return std::future::pending().await,
     };
     let writer = database.as_ref().filter(|_| synced.is_some()).map(|(writer, _)| writer.clone());
-    Watch::new(folder, writer).run().await
+    Watch::new(folder.path().to_path_buf(), folder.room.clone(), writer).run().await
 }
 
 /// Asks the store to rewrite its log after each signal. A signal that arrives during the start is obeyed after it.
 async fn rewrite_on_signal(mut asked: Signal, registry: Arc<Registry>) {
     while asked.recv().await.is_some() {
         match registry.folder.as_ref().map(Folder::ask_for_rewriting) {
-            Some(Ok(())) => tracing::info!("asked the store to rewrite its log"),
+            Some(Ok(())) => {
+                tracing::info!("asked the store to rewrite its log");
+                registry.close_last_file().await;
+            }
             Some(Err(error)) => tracing::error!("cannot ask the store to rewrite its log: {error}"),
             None => tracing::warn!("there is no log to rewrite: start with --data"),
         }
@@ -501,6 +516,10 @@ async fn serve(started: Started, serving: Serving, mut signals: Signals, notifie
         tracing::warn!(connections = connections.len(), "closing connections whose requests did not finish in time");
         connections.close_all();
     }
+    if let Some(folder) = &registry.folder {
+        // The last changes of the database and the end of the log need little.
+        folder.room.make();
+    }
     // The database ends first: the store's lock on the folder protects it.
     let mut ended = Ok(());
     if let Some((writer, thread)) = database {
@@ -510,6 +529,9 @@ async fn serve(started: Started, serving: Serving, mut signals: Signals, notifie
         ended = ended.and(writer.end(thread).await.map_err(|why| Failure::of_database(&why)));
     }
     registry.store.end(child).await.and(ended)?;
+    if let Some(folder) = &registry.folder {
+        folder.room.end();
+    }
     tracing::info!("stopped");
     Ok(())
 }

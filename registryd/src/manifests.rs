@@ -12,6 +12,7 @@ use crate::registry::{empty, with_body, Call, HandlerResult, Registry};
 use crate::store::StoreUnavailable;
 use crate::tags::{is_tag, Kept, NamedManifest, Removal};
 use crate::turns::Turn;
+use crate::writer::WriteFailure;
 use bytes::Bytes;
 use hyper::header::IF_MATCH;
 use hyper::{Body, StatusCode};
@@ -56,7 +57,13 @@ async fn adopt(call: &Call, digest: &str, size: u64) -> Result<NamedManifest, Fa
     if !tags.is_known(&call.repo, digest) {
         let content = [call.registry.store.get_manifest(&call.repo, digest).await??];
         let facts = tokio::task::block_in_place(|| facts_of_stored(&content)).ok_or_else(Fault::manifest_unknown)?;
-        tags.put(&call.repo, digest, facts, None).await?;
+        match tags.put(&call.repo, digest, facts.clone(), None).await {
+            // It is added by a later request.
+            Err(WriteFailure::NoRoom) => {
+                return Ok(NamedManifest { digest: digest.to_string(), media_type: facts.media_type, size });
+            }
+            added => added?,
+        }
         call.registry.repositories.add(&call.repo);
         tracing::info!(repo = %call.repo, digest, "found a manifest whose push was interrupted");
     }

@@ -93,6 +93,7 @@ struct Inner {
     live: IntGauge,
     database: IntGauge,
     free: IntGauge,
+    reserve: IntGauge,
     commits: Commits,
     syncs: Syncs,
 }
@@ -126,6 +127,7 @@ impl Metrics {
             live: gauge("registryd_live_bytes", "Bytes of the blobs and uploads of all tenants, which the log has to keep."),
             database: gauge("registryd_database_bytes", "Length of the database of tags, in bytes."),
             free: gauge("registryd_free_bytes", "Bytes that are free on the disk of the folder."),
+            reserve: gauge("registryd_reserve_bytes", "Bytes of the reserve, which is given up on a full disk."),
             commits: Commits::new(),
             syncs: Syncs::new(),
             registry,
@@ -211,15 +213,21 @@ impl Metrics {
         (syncs.total.get(), Some(syncs.last.get()).filter(|time| *time != 0))
     }
 
+    /// Adds a metric. Each name is added once.
+    pub fn add(&self, metric: Box<dyn prometheus::core::Collector>) {
+        self.0.registry.register(metric).expect("each name is registered once");
+    }
+
     /// Adds the metrics of a folder, and returns the counter of the database's transactions.
     pub fn add_folder(&self, is_durable: bool) -> Commits {
-        let Inner { registry, durable, log, live, database, free, commits, syncs, .. } = &*self.0;
+        let Inner { registry, durable, log, live, database, free, reserve, commits, syncs, .. } = &*self.0;
         durable.set(i64::from(is_durable));
-        let all: [Box<dyn prometheus::core::Collector>; 8] = [
+        let all: [Box<dyn prometheus::core::Collector>; 9] = [
             Box::new(log.clone()),
             Box::new(live.clone()),
             Box::new(database.clone()),
             Box::new(free.clone()),
+            Box::new(reserve.clone()),
             Box::new(commits.total.clone()),
             Box::new(commits.last.clone()),
             Box::new(syncs.total.clone()),
@@ -235,9 +243,10 @@ impl Metrics {
     pub fn set_folder(&self, folder: &Folder) {
         self.0.log.set(folder.log_bytes() as i64);
         self.0.database.set(folder.database_bytes() as i64);
-        if let Some(free) = folder.free() {
+        if let Some(free) = folder.room.free() {
             self.0.free.set(free as i64);
         }
+        self.0.reserve.set(folder.room.reserved() as i64);
     }
 
     /// Returns the text of all metrics. It asks the store for the free slots, and for each tenant's use, quota, blobs and share.

@@ -7,6 +7,7 @@ use crate::folder;
 use crate::log_end::{self, LogEnd};
 use crate::losses::{Loss, OnLoss};
 use crate::options::Options;
+use crate::room::Room;
 use crate::unsynced;
 use crate::watching::LOCK;
 use std::fs::{DirBuilder, File};
@@ -26,6 +27,8 @@ pub struct Opened {
     pub database: Database,
     /// Whether each change is on the disk before its reply.
     pub is_synced: bool,
+    /// Whether the disk has no room, so that the start changes nothing.
+    pub is_full: bool,
     on_loss: OnLoss,
     /// The length of the log if the store may cut it because the operator accepts what that loses.
     cuttable: Option<u64>,
@@ -98,8 +101,18 @@ fn on_loss(options: &Options, folder: &Path) -> OnLoss {
     }
 }
 
+/// Returns whether the disk of a folder has no room for the changes of a start, although the reserve was given up. A folder without a
+/// database can then not be used.
+fn is_full(room: &Room, folder: &Path) -> bool {
+    let is_full = has_database(folder) && !room.make();
+    if is_full {
+        tracing::error!("the disk is full: only reads are served until there is room");
+    }
+    is_full
+}
+
 /// Opens the folder of the options. Drops its cached pages before anything reads them.
-pub fn open(options: &Options, folder: PathBuf) -> Result<Opened, Failure> {
+pub fn open(options: &Options, folder: PathBuf, room: &Room) -> Result<Opened, Failure> {
     let is_synced = options.is_durable();
     make(&folder).map_err(|error| Failure::of_folder("cannot make the folder", &folder, &error))?;
     warn_of_access(&folder);
@@ -108,6 +121,7 @@ pub fn open(options: &Options, folder: PathBuf) -> Result<Opened, Failure> {
     if is_synced {
         cached::drop_pages(&folder).map_err(|(path, error)| Failure::of_folder("cannot sync", &path, &error))?;
     }
+    folder::forget_acceptance(&folder).map_err(|error| Failure::of_folder("cannot use the folder", &folder, &error))?;
     if options.accept_loss {
         tracing::warn!("--accept-loss is given: a loss that this start finds is accepted; remove the option afterwards");
     }
@@ -115,15 +129,22 @@ pub fn open(options: &Options, folder: PathBuf) -> Result<Opened, Failure> {
     if !has_database(&folder) && log_end::last_file(&folder).is_some() {
         on_loss.meet(&Loss::Database)?;
     }
-    if !is_synced {
+    let is_full = is_full(room, &folder);
+    if !is_synced && !is_full {
         unsynced::mark(&folder).map_err(|error| Failure::of_folder("cannot mark the folder", &folder, &error))?;
     }
-    let mut database = Database::open(&folder, is_synced)?;
+    let mut database = match is_full {
+        true => Database::open_without_room(&folder, is_synced)?,
+        false => Database::open(&folder, is_synced)?,
+    };
     let has_log = log_end::last_file(&folder).is_some();
     if let Some(loss) = Loss::by_marks(database.marks(), database.older_by(), has_log, LogEnd::of(&folder)) {
         on_loss.meet(&loss)?;
     }
-    database.loosen_log_end()?;
+    if !is_full {
+        database.loosen_log_end()?;
+    }
+    room.tend();
     let cuttable = options.accept_loss_after.and_then(|_| folder::log_length(&folder));
-    Ok(Opened { folder, database, is_synced, on_loss, cuttable })
+    Ok(Opened { folder, database, is_synced, is_full, on_loss, cuttable })
 }

@@ -2,6 +2,7 @@
 use crate::bounds::Bounds;
 use crate::registry::MetricsAccess;
 use crate::retention::hours;
+use crate::scrub::DEFAULT_PACE;
 use crate::tags::Removal;
 use crate::tenants::{self, tenant_word, Tenant};
 use crate::uploads::UploadTimeouts;
@@ -13,6 +14,9 @@ use std::time::Duration;
 
 /// The minimum of free bytes if the option is missing.
 const MIN_FREE: u64 = 64 << 20;
+
+/// The length of the reserve if the option is missing, in bytes.
+const RESERVE: u64 = 64 << 20;
 
 /// When changes are on the disk.
 #[derive(Clone, Copy, Debug, PartialEq, Eq, ValueEnum)]
@@ -92,9 +96,15 @@ pub struct Options {
     /// Drop what a log or database has lost and start
     #[arg(long, requires = "data")]
     pub accept_loss: bool,
+    /// Read the log again at this pace [default: 4]; 0: never
+    #[arg(long, value_name = "N", requires = "data", value_parser = clap::value_parser!(u64).range(..=1 << 20))]
+    pub scrub_mib_s: Option<u64>,
     /// Accept no content if less is free [default: 67108864]
     #[arg(long, value_name = "BYTES", requires = "data")]
     pub min_free: Option<u64>,
+    /// Keep a reserve for deletes on a full disk [default: 67108864]
+    #[arg(long, value_name = "BYTES", requires = "data")]
+    pub reserve: Option<u64>,
     /// Serve HTTPS with this certificate and its chain in PEM
     #[arg(long, value_name = "FILE", requires = "tls_key")]
     pub tls_cert: Option<PathBuf>,
@@ -186,6 +196,16 @@ impl Options {
     /// Returns the number of bytes that stay free on the disk of the folder.
     pub fn min_free(&self) -> u64 {
         self.min_free.unwrap_or(MIN_FREE)
+    }
+
+    /// Returns the pace at which closed files of the log are read again, in MiB a second, or `None` if they are not.
+    pub fn scrub_pace(&self) -> Option<u64> {
+        Some(self.scrub_mib_s.unwrap_or(DEFAULT_PACE)).filter(|pace| self.data.is_some() && *pace > 0)
+    }
+
+    /// Returns the length of the reserve, in bytes.
+    pub fn reserve(&self) -> u64 {
+        self.reserve.unwrap_or(RESERVE)
     }
 
     /// Returns whether changes are on the disk before their replies.
@@ -291,11 +311,20 @@ mod tests {
         assert!(memory.store_options().is_empty() && !memory.is_durable());
         let kept = parsed(&["--data", "/srv/registry", "a=1"]);
         assert_eq!(kept.store_options(), ["--data", "/srv/registry", "--sync", "closes"]);
-        assert_eq!((kept.is_durable(), kept.min_free()), (true, 64 << 20));
+        assert_eq!((kept.is_durable(), kept.min_free(), kept.reserve()), (true, 64 << 20, 64 << 20));
         let never = parsed(&["--data", "d", "--sync", "never", "--accept-loss-after", "7", "--min-free", "0", "a=1"]);
         assert_eq!(never.store_options(), ["--data", "d", "--sync", "never", "--accept-loss-after", "7"]);
         assert_eq!((never.is_durable(), never.min_free()), (false, 0));
-        let words: [&[&str]; 4] = [&["--sync", "each"], &["--accept-loss-after", "1"], &["--accept-loss"], &["--min-free", "1"]];
+        assert_eq!((memory.scrub_pace(), kept.scrub_pace()), (None, Some(DEFAULT_PACE)));
+        assert_eq!(parsed(&["--data", "d", "--scrub-mib-s", "0", "a=1"]).scrub_pace(), None);
+        let words: [&[&str]; 6] = [
+            &["--sync", "each"],
+            &["--accept-loss-after", "1"],
+            &["--accept-loss"],
+            &["--min-free", "1"],
+            &["--reserve", "1"],
+            &["--scrub-mib-s", "1"],
+        ];
         for words in words {
             assert!(Options::try_parse_from([&["registryd"], words, &["a=1"]].concat()).is_err(), "{words:?}");
         }

@@ -16,6 +16,7 @@ use crate::metrics::Metrics;
 use crate::path::{decoded, query_value, Target};
 use crate::provenance::Provenance;
 use crate::rights::{Demand, Right, Scope};
+use crate::scrub::Scrub;
 use crate::starting::ALIVE;
 use crate::status::{SweepHistory, View};
 use crate::store::{Store, StoreUnavailable};
@@ -33,6 +34,10 @@ use std::sync::Arc;
 use std::time::{Duration, Instant};
 use uuid::Uuid;
 
+/// The time that the store has to see a request to rewrite its log, and the pause between two looks.
+const CLOSE_TIME: Duration = Duration::from_secs(10);
+const CLOSE_REST: Duration = Duration::from_millis(100);
+
 /// The state of the registry.
 pub struct Registry {
     pub store: Store,
@@ -44,6 +49,8 @@ pub struct Registry {
     pub loose: LooseBlobs,
     /// The folder, if the registry survives restarts.
     pub folder: Option<Folder>,
+    /// The reads of the log while clients are served.
+    pub scrub: Option<Arc<Scrub>>,
     /// The writers of a manifest take turns, each for the time of its call to the store. Readers take no turn.
     pub turns: Turns,
     pub metrics: Metrics,
@@ -172,7 +179,12 @@ impl Call {
 
     /// Fails if the disk of the folder has less free than its minimum.
     pub fn check_disk(&self) -> Result<(), Fault> {
-        self.registry.folder.as_ref().map_or(Ok(()), Folder::check)
+        self.registry.folder.as_ref().map_or(Ok(()), |folder| folder.room.check_content())
+    }
+
+    /// Fails if the disk of the folder has no room for a change without content.
+    fn check_change(&self) -> Result<(), Fault> {
+        self.registry.folder.as_ref().map_or(Ok(()), |folder| folder.room.check_change())
     }
 
     /// Begins a call that may create the repository. If no tenant can have it, the store refuses the call.
@@ -352,6 +364,8 @@ impl Registry {
         let call = Call { registry: self, head, repo, caller };
         if adds_content(&method, &target, call.query("mount").is_some()) {
             call.check_disk()?;
+        } else if !matches!(method, Method::GET | Method::HEAD) {
+            call.check_change()?;
         }
         if content.is_any() {
             let is_charged = matches!(target, Target::Uploads { .. } | Target::Upload { .. });
@@ -410,6 +424,35 @@ impl Registry {
         self.metrics.text(&self.store, &self.tenants, self.slots, self.uploads.len()).await
     }
 
+    /// Returns whether the disk of the folder has room for changes without content.
+    pub fn has_room(&self) -> bool {
+        self.folder.as_ref().map_or(true, |folder| folder.room.make())
+    }
+
+    /// Lets the store close the last file of its log after it was asked to rewrite it: it does so at the next change. An upload is opened
+    /// and abandoned for that.
+    pub async fn close_last_file(&self) {
+        let folder = match &self.folder {
+            Some(folder) if self.has_room() => folder,
+            _ => return tracing::warn!("the disk has no room: the last file of the log is not closed"),
+        };
+        let end = Instant::now() + CLOSE_TIME;
+        while folder.is_rewriting_asked() && Instant::now() < end {
+            tokio::time::sleep(CLOSE_REST).await;
+        }
+        tokio::time::sleep(CLOSE_REST).await;
+        let mut tenants = self.tenants.iter();
+        let repo = tenants.find_map(|tenant| self.repositories.page(tenant, "", 1).0.pop());
+        if let Some(repo) = repo {
+            if let Ok(Ok(session)) = self.store.start_upload(&repo).await {
+                let name = self.uploads.add(&repo, session);
+                if let Ok(Ok(())) = self.abandon_session(&repo, session).await {
+                    self.uploads.remove(&name);
+                }
+            }
+        }
+    }
+
     /// Returns a response without content if the store replies.
     async fn probe(&self, headers: &[(&str, &str)]) -> HandlerResult {
         match self.store.replies().await {
@@ -428,6 +471,9 @@ impl Registry {
     }
 
     async fn expire_once(&self, patience: UploadTimeouts) -> Result<(), StoreUnavailable> {
+        if !self.has_room() {
+            return Ok(());
+        }
         for name in self.uploads.unused(patience) {
             if let Some(upload) = self.uploads.take_unused(&name, patience) {
                 self.abandon(name, upload).await?;

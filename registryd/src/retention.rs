@@ -61,10 +61,12 @@ impl Registry {
                 recorded = Instant::now();
                 self.tags.record_time();
             }
-            for repo in self.tags.names() {
-                self.delete_unheld(&repo, now().saturating_sub(time.as_secs())).await;
+            if self.has_room() {
+                for repo in self.tags.names() {
+                    self.delete_unheld(&repo, now().saturating_sub(time.as_secs())).await;
+                }
+                self.unlink_loose(time).await;
             }
-            self.unlink_loose(time).await;
             tokio::time::sleep(rest).await;
         }
     }

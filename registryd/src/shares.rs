@@ -1,5 +1,6 @@
 //! The shares of the tenants for which the command line has none: each gets an equal part of the slots.
 use crate::ending::{Failure, OTHER_SETTINGS};
+use crate::folder;
 use crate::options::Options;
 use crate::store::{Setup, Store};
 use crate::tenants::Tenant;
@@ -38,6 +39,9 @@ async fn start_with(options: &Options, writer: &Option<Arc<Writer>>, tenants: &[
         connections: options.lines.into(),
         call: Duration::from_secs(options.call_s),
     };
+    if let Some(data) = options.data.as_ref().filter(|_| options.accept_loss) {
+        folder::accept_damage(data).map_err(|error| Failure::of_folder("cannot accept a loss", data, &error))?;
+    }
     Store::start(setup).await
 }
 

@@ -4,7 +4,7 @@
 //! missing manifest, and each open upload has a name and is abandoned if nobody continues it. Empty repositories are
 //! removed.
 use crate::clock::{self, now};
-use crate::database::{Database, ManifestRow, Rows, UploadRow};
+use crate::database::{Committed, Database, ManifestRow, Rows, UploadRow};
 use crate::document::{self, Facts};
 use crate::ending::Failure;
 use crate::frames::{Command, Reason, Refusal, Request};
@@ -64,7 +64,7 @@ struct Findings {
 /// the disk.
 pub async fn recover(store: &Store, opened: Opened) -> Result<Kept, Failure> {
     let on_loss = opened.on_loss();
-    let Opened { folder, mut database, is_synced, .. } = opened;
+    let Opened { folder, mut database, is_synced, is_full, .. } = opened;
     let (database, mut rows) = blocking(move || {
         let rows = database.read()?;
         Ok((database, rows))
@@ -80,14 +80,18 @@ pub async fn recover(store: &Store, opened: Opened) -> Result<Kept, Failure> {
     findings.changes.extend(missing.iter().map(ManifestRow::removal));
     drop_missing(&mut rows, &missing);
     findings.changes.extend(complete(store, &mut rows.manifests).await.map_err(unavailable)?);
-    rows.add_probes(store);
+    if !is_full {
+        rows.add_probes(store);
+    }
     for (tenant, repos) in by_tenant(store, &rows.repositories) {
-        find_uploads(store, tenant, &repos, &rows, &mut findings).await.map_err(unavailable)?;
+        find_uploads(store, tenant, &repos, &rows, is_full, &mut findings).await.map_err(unavailable)?;
     }
     if findings.have_numbers_returned {
         on_loss.meet(&Loss::Uploads)?;
     }
-    findings.changes.extend(remove_unused(store, &mut rows.repositories).await.map_err(unavailable)?);
+    if !is_full {
+        findings.changes.extend(remove_unused(store, &mut rows.repositories).await.map_err(unavailable)?);
+    }
     if !missing.is_empty() {
         tracing::warn!(count = missing.len(), "dropped manifests that the store does not have, with their tags");
     }
@@ -96,7 +100,10 @@ pub async fn recover(store: &Store, opened: Opened) -> Result<Kept, Failure> {
     let Findings { changes, uploads, recorded: found, have_numbers_returned } = findings;
     let correction = Correction { changes, recorded: found, have_numbers_returned, folder: is_synced.then_some(folder) };
     let known = rows.secret;
-    let (database, secret) = blocking(move || correction.make(database, known)).await?;
+    let (database, secret) = match is_full {
+        true => (database, known),
+        false => blocking(move || correction.make(database, known)).await?,
+    };
     let tags = tags_of(&rows);
     let Rows { repositories, loose_blobs, .. } = rows;
     Ok(Kept { database, secret, tags, repositories, uploads, loose_blobs, recorded })
@@ -123,7 +130,10 @@ impl Correction {
             let end = LogEnd::synced(folder).map_err(|error| Failure::of_folder("cannot sync the log", folder, &error))?;
             self.changes.extend(end.map(|end| Change::KeepLogEnd { end }));
         }
-        database.commit(self.changes.iter(), &self.recorded, now()).map_err(failed)?;
+        match database.commit(self.changes.iter(), &self.recorded, now()).map_err(failed)? {
+            Committed::Made => {}
+            Committed::NoRoom => return Err(Failure::of_database("the disk is full")),
+        }
         // All changes up to now are on the disk.
         if let Some(folder) = &self.folder {
             unsynced::clear(folder)
@@ -218,12 +228,14 @@ fn by_tenant<'r>(store: &Store, repos: &'r [String]) -> BTreeMap<&'r str, Vec<&'
 }
 
 /// Finds the open uploads of a tenant: those of the database, and those that were opened after its last transaction. The
-/// numbers of these are greater than the recorded one and less than the tenant's next one.
+/// numbers of these are greater than the recorded one and less than the tenant's next one. They are left to a later start if the disk
+/// is full, because the next number is found by opening an upload.
 async fn find_uploads(
     store: &Store,
     tenant: &str,
     repos: &[&str],
     rows: &Rows,
+    is_full: bool,
     findings: &mut Findings,
 ) -> Result<(), StoreUnavailable> {
     let known: Vec<&UploadRow> = rows.uploads.iter().filter(|row| tenant_of(&row.repo) == tenant).collect();
@@ -243,6 +255,9 @@ async fn find_uploads(
         }
     }
     let recorded = rows.recorded.get(tenant).copied().unwrap_or(0);
+    if is_full {
+        return Ok(());
+    }
     let next = next_number(store, repos).await?;
     findings.have_numbers_returned |= next.map_or(false, |next| next <= recorded);
     let known: HashSet<u32> = known.iter().map(|row| row.number).collect();

@@ -160,6 +160,7 @@ impl Registry {
             "uploads": self.uploads.len(),
             "collector": { "sweeps": sweeps, "freed": freed, "held": held, "last": self.sweeps.json() },
             "folder": self.folder_json(),
+            "scrub": self.scrub.as_ref().map(|scrub| scrub.json()),
             "bounds": {
                 "manifests": self.bounds.manifests,
                 "manifest_bytes": self.bounds.manifest_bytes,
@@ -177,8 +178,10 @@ impl Registry {
         Some(json!({
             "log_bytes": folder.log_bytes(),
             "database_bytes": folder.database_bytes(),
-            "free_bytes": folder.free(),
-            "min_free_bytes": folder.min_free(),
+            "free_bytes": folder.room.free(),
+            "min_free_bytes": folder.room.min_free(),
+            "reserve_bytes": folder.room.reserved(),
+            "serves": folder.room.level().name(),
             "commits": commits,
             "last_commit": last_commit,
             "syncs": syncs,

@@ -1,8 +1,9 @@
 //! The look at the folder that happens once a second while clients are served. It finds out if a file that the programs have
-//! open was removed, moved or replaced, and records in the database how far the log is on the disk.
+//! open was removed, moved or replaced, looks at the room on the disk, and records in the database how far the log is on the disk.
 use crate::database;
 use crate::ending::Failure;
 use crate::log_end::{self, LogEnd};
+use crate::room::Room;
 use crate::startup::blocking;
 use crate::writer::{Change, Writer};
 use std::io;
@@ -76,6 +77,8 @@ fn last_of(folder: &Path) -> Option<(u64, PathBuf, Identity)> {
 /// The looks at a folder.
 pub struct Watch {
     folder: PathBuf,
+    /// The room on its disk.
+    room: Arc<Room>,
     /// The writer of the database, if each change is on the disk before its reply.
     writer: Option<Arc<Writer>>,
     files: Files,
@@ -88,9 +91,9 @@ pub struct Watch {
 
 impl Watch {
     /// Makes a watch of a folder whose programs have started. With a writer it records the end of the log.
-    pub fn new(folder: PathBuf, writer: Option<Arc<Writer>>) -> Watch {
+    pub fn new(folder: PathBuf, room: Arc<Room>, writer: Option<Arc<Writer>>) -> Watch {
         let files = Files::of(&folder);
-        Watch { folder, writer, files, seen: None, kept: None, looks: 0 }
+        Watch { folder, room, writer, files, seen: None, kept: None, looks: 0 }
     }
 
     /// Looks at the folder until something is wrong, and returns what.
@@ -115,6 +118,7 @@ impl Watch {
                 return Err(Failure::of_gone(&path));
             }
         }
+        self.room.tend();
         let end = LogEnd::of(&self.folder);
         self.looks += 1;
         if end != self.kept && (end == self.seen || self.looks >= MOST_LOOKS) {

@@ -1,12 +1,13 @@
 //! The thread that writes the database. It puts all changes that wait into one transaction, so that one sync serves many
 //! requests, and then makes them in the tables of this process, in the same order. So what a request reads is durable.
 use crate::clock::now;
-use crate::database::Database;
+use crate::database::{Committed, Database};
 use crate::document::Facts;
 use crate::limits::tenant_of;
 use crate::log_end::LogEnd;
 use crate::metrics::Commits;
 use crate::numbers::Numbers;
+use crate::room::Room;
 use crate::tags::Tags;
 use std::collections::{BTreeSet, HashMap};
 use std::sync::{Arc, Condvar, Mutex, MutexGuard};
@@ -104,9 +105,14 @@ pub enum Done {
     Removed(Vec<String>),
 }
 
-/// The database has failed, is closed, or does not reply in time: a change may be there or not after a restart.
+/// The reason why a change was not made.
 #[derive(Debug, PartialEq, Eq)]
-pub struct DatabaseUnavailable;
+pub enum WriteFailure {
+    /// The database has failed, is closed, or does not reply in time: the change may be there or not after a restart.
+    Unavailable,
+    /// The disk has no room. Nothing was changed.
+    NoRoom,
+}
 
 impl Change {
     /// Makes a change in the tables of this process that became durable at this time.
@@ -121,6 +127,12 @@ impl Change {
             _ => {}
         }
         Done::Nothing
+    }
+
+    /// Returns whether the change is made later if the disk has no room now, although a request waits for it: it restores what an
+    /// earlier change took away.
+    fn stays(&self) -> bool {
+        matches!(self, Change::RestoreManifest { .. })
     }
 
     /// Notes the number of an upload. Returns the tenant if the number changed up to which all are recorded.
@@ -142,7 +154,7 @@ impl Change {
 /// A change, and the request that waits for it, if one does.
 struct Waiting {
     change: Change,
-    reply: Option<oneshot::Sender<Done>>,
+    reply: Option<oneshot::Sender<Result<Done, WriteFailure>>>,
 }
 
 #[derive(Default)]
@@ -165,6 +177,8 @@ pub struct Writer {
     commits: Commits,
     /// The time limit of a change.
     limit: Duration,
+    /// The room on the disk.
+    room: Arc<Room>,
 }
 
 /// The thread, and the database that it has opened.
@@ -172,8 +186,8 @@ pub struct WriterThread(JoinHandle<rusqlite::Result<()>>);
 
 impl Writer {
     /// Makes a writer that counts its transactions. Its thread is not running yet.
-    pub fn new(commits: Commits, limit: Duration) -> Arc<Writer> {
-        Arc::new(Writer { state: Mutex::default(), ready: Condvar::new(), failed: Notify::new(), commits, limit })
+    pub fn new(commits: Commits, limit: Duration, room: Arc<Room>) -> Arc<Writer> {
+        Arc::new(Writer { state: Mutex::default(), ready: Condvar::new(), failed: Notify::new(), commits, limit, room })
     }
 
     /// Starts the thread. `recorded` has, for each tenant, the number up to which its uploads are recorded.
@@ -210,15 +224,15 @@ impl Writer {
     }
 
     /// Makes a change. Returns after it is durable and made in the tables of this process. A change that is late is made
-    /// nevertheless.
-    pub async fn write(&self, change: Change) -> Result<Done, DatabaseUnavailable> {
+    /// nevertheless. One that fails for room is not made, unless it restores something: that is made when there is room.
+    pub async fn write(&self, change: Change) -> Result<Done, WriteFailure> {
         let (reply, made) = oneshot::channel();
         self.add(Waiting { change, reply: Some(reply) });
         let made = tokio::time::timeout(self.limit, made).await.map_err(|_| {
             tracing::warn!("the database does not reply in time");
-            DatabaseUnavailable
+            WriteFailure::Unavailable
         })?;
-        made.map_err(|_| DatabaseUnavailable)
+        made.unwrap_or(Err(WriteFailure::Unavailable))
     }
 
     /// Makes a change at some later time. It is lost if the program or the machine stops before.
@@ -281,21 +295,70 @@ impl Writer {
         self.failed.notify_one();
     }
 
+    /// Returns whether the disk has room for a transaction with these changes. The reserve is given up only if a request waits.
+    fn has_room(&self, batch: &[Waiting]) -> bool {
+        match batch.iter().any(|waiting| waiting.reply.is_some()) {
+            true => self.room.make(),
+            false => self.room.is_there(),
+        }
+    }
+
+    /// Replies to the requests whose changes were not made for want of room. Changes that nobody waits for are tried again after a
+    /// while, in front of those that came meanwhile. They are lost if the writer is closed.
+    fn put_back(&self, batch: Vec<Waiting>) {
+        let mut left = Vec::new();
+        for Waiting { change, reply } in batch {
+            if reply.is_none() || change.stays() {
+                left.push(Waiting { change, reply: None });
+            }
+            if let Some(reply) = reply {
+                let _ = reply.send(Err(WriteFailure::NoRoom));
+            }
+        }
+        let mut state = self.state();
+        if state.is_closed {
+            if !left.is_empty() {
+                tracing::warn!(count = left.len(), "the disk is full: changes that no request waited for are not recorded");
+            }
+            return;
+        }
+        left.append(&mut state.waiting);
+        state.since = Some(Instant::now());
+        state.waiting = left;
+    }
+
     /// Writes changes until the writer is closed, or until one transaction fails: after a failed write or sync the system may
-    /// have dropped what it could not write, so nothing is tried again.
+    /// have dropped what it could not write, so nothing is tried again. A transaction for which the disk has no room is undone
+    /// instead.
     fn run(&self, mut database: Database, tags: &Tags, mut numbers: HashMap<String, Numbers>) -> rusqlite::Result<()> {
         let _guard = FailOnPanic(self);
+        let mut unrecorded = BTreeSet::new();
         while let Some(batch) = self.next() {
-            let (recorded, now) = (see_numbers(&mut numbers, &batch), now());
-            if let Err(error) = database.commit(batch.iter().map(|waiting| &waiting.change), &recorded, now) {
-                self.fail(error.to_string());
-                return Err(error);
+            unrecorded.extend(see_numbers(&mut numbers, &batch));
+            let recorded: Vec<(String, u32)> =
+                unrecorded.iter().map(|name: &String| (name.clone(), numbers[name].upto())).collect();
+            let now = now();
+            let committed = match self.has_room(&batch) {
+                true => database.commit(batch.iter().map(|waiting| &waiting.change), &recorded, now),
+                false => Ok(Committed::NoRoom),
+            };
+            match committed {
+                Ok(Committed::Made) => {}
+                Ok(Committed::NoRoom) => {
+                    self.put_back(batch);
+                    continue;
+                }
+                Err(error) => {
+                    self.fail(error.to_string());
+                    return Err(error);
+                }
             }
+            unrecorded.clear();
             self.commits.count();
             for Waiting { change, reply } in batch {
                 let done = change.apply(tags, now);
                 if let Some(reply) = reply {
-                    let _ = reply.send(done);
+                    let _ = reply.send(Ok(done));
                 }
             }
         }
@@ -315,9 +378,8 @@ impl Drop for FailOnPanic<'_> {
 }
 
 /// Notes the numbers of uploads in changes. Returns the tenants whose number changed up to which all are recorded.
-fn see_numbers(numbers: &mut HashMap<String, Numbers>, batch: &[Waiting]) -> Vec<(String, u32)> {
-    let changed: BTreeSet<&str> = batch.iter().filter_map(|waiting| waiting.change.see_number(numbers)).collect();
-    changed.into_iter().map(|tenant| (tenant.to_string(), numbers[tenant].upto())).collect()
+fn see_numbers(numbers: &mut HashMap<String, Numbers>, batch: &[Waiting]) -> Vec<String> {
+    batch.iter().filter_map(|waiting| waiting.change.see_number(numbers).map(str::to_string)).collect()
 }
 
 #[cfg(test)]
@@ -332,7 +394,8 @@ mod tests {
     }
 
     fn started(folder: &std::path::Path) -> (Arc<Writer>, WriterThread, Arc<Tags>) {
-        let writer = Writer::new(Commits::new(), Duration::from_secs(60));
+        let room = Arc::new(Room::new(folder.to_path_buf(), 0, 0));
+        let writer = Writer::new(Commits::new(), Duration::from_secs(60), room);
         let tags = Arc::new(Tags::default());
         let database = Database::open(folder, true).unwrap();
         let thread = writer.start(database, tags.clone(), HashMap::new()).unwrap();
@@ -359,7 +422,7 @@ mod tests {
         writer.note(Change::BeginUploads { repo: "other/web".to_string(), number: 7 });
         writer.note(Change::OpenUpload { repo: "other/web".to_string(), number: 9 });
         assert_eq!(writer.end(thread).await, Ok(()));
-        assert_eq!(writer.write(put("v2")).await, Err(DatabaseUnavailable));
+        assert_eq!(writer.write(put("v2")).await, Err(WriteFailure::Unavailable));
         let rows = Database::open(&folder, true).unwrap().read().unwrap();
         assert_eq!((rows.tags.len(), rows.manifests.len(), rows.uploads.len()), (0, 1, 2));
         assert_eq!(rows.recorded, [("acme".to_string(), 2), ("other".to_string(), 7)].into());
@@ -384,7 +447,7 @@ mod tests {
         let (writer, thread, tags) = started(&folder);
         assert_eq!(writer.write(put("v1")).await, Ok(Done::Nothing));
         writer.fail("the disk is full".to_string());
-        assert_eq!(writer.write(put("v2")).await, Err(DatabaseUnavailable));
+        assert_eq!(writer.write(put("v2")).await, Err(WriteFailure::Unavailable));
         assert_eq!(writer.failure().await, "the disk is full");
         assert_eq!(writer.end(thread).await, Err("the disk is full".to_string()));
         assert_eq!(tags.by_tag("acme/web", "v2"), None);

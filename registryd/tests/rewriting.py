@@ -125,15 +125,22 @@ def a_log_of_garbage_is_rewritten_without_a_signal():
             by_signal(server)
 
 
-def a_signal_changes_nothing_if_one_file_is_written_alone():
+def a_signal_closes_the_last_file_first():
+    """So what the last file deletes is gone after it. Nobody pushes meanwhile."""
     with folder() as path:
         with serving("--data", path) as server:
             image = pushed(server.client())
-            server.process.send_signal(signal.SIGUSR1)
-            server.wait_for("asked the store to rewrite its log")
-            assert until(lambda: not os.path.exists(f"{path}/rewrite"))
-            time.sleep(0.3)
-            assert [file.name for file in log_of(path).paths] == ["log.1"]
+            for number in range(2):
+                data = blob(number)[:MIB // 4]
+                push(server.client(), "acme/litter", data)
+                assert server.client().ask("DELETE", f"/v2/acme/litter/blobs/{sha256(data)}").status == 202
+            for number in range(1, 3):
+                names, length = rewrite(server, path), log_of(path).length()
+                assert names == [f"base.{number}", f"log.{number + 1}"] and length < MIB >> 3, (names, length)
+            assert server.metric("registryd_uploads") == 0
+            assert pulled(server.client(), "acme/one", "v1") == (image, MANIFEST)
+            by_signal(server)
+        with serving("--data", path) as server:
             assert pulled(server.client(), "acme/one", "v1") == (image, MANIFEST)
             by_signal(server)
 
@@ -177,7 +184,7 @@ def a_signal_during_a_start_is_not_lost():
 def main():
     play("rewriting", [
         everything_is_there_after_a_signal, the_metrics_show_what_a_rewriting_saves, a_log_of_garbage_is_rewritten_without_a_signal,
-        a_signal_changes_nothing_if_one_file_is_written_alone, a_registry_without_a_folder_has_nothing_to_rewrite,
+        a_signal_closes_the_last_file_first, a_registry_without_a_folder_has_nothing_to_rewrite,
         a_signal_during_a_start_is_not_lost])
 
 

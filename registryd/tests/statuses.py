@@ -79,7 +79,7 @@ def a_damaged_log():
                 log.seek(200)
                 log.write(bytes([byte[0] ^ 1]))
             status, text = ended("--data", path)
-            check((status, text), 8, name, "restore a backup, or accept the loss with --accept-loss-after")
+            check((status, text), 8, name, "restore a backup, or go on with what is left with --accept-loss", "--accept-loss-after")
             # What blobd names is what the option takes. Tags whose manifests are lost are dropped.
             byte = re.search(r"byte (\d+) of the log", text).group(1)
             with serving("--data", path, "--accept-loss-after", byte) as server:
@@ -209,7 +209,7 @@ def small_disk(megabytes):
 
 
 def a_disk_never_gets_full():
-    with small_disk(4) as path:
+    with small_disk(6) as path:
         if path is None:
             print("statuses: left out: a disk that gets full (cannot mount one)")
             return
@@ -219,41 +219,13 @@ def a_disk_never_gets_full():
             part, sent = random.Random(1).randbytes(50_000), 0
             while (answer := client.ask("PATCH", at, part, PATCH)).status == 202:
                 sent += len(part)
-                assert sent < 4 << 20
+                assert sent < 6 << 20
             assert answer.status == 507, answer.status
             assert sent > 1 << 20 and client.ask("GET", at)["Range"] == f"0-{sent - 1}", sent
             assert client.ask("PUT", "/v2/acme/one/manifests/v2", image, {"Content-Type": MANIFEST}).status == 507
             assert pulled(client, "acme/one", "v1") == (image, MANIFEST)
             assert client.ask("DELETE", at).status == 204
-            assert server.metric("registryd_free_bytes") < 2 << 20
-            by_signal(server)
-
-
-def a_full_disk_ends_both_and_loses_nothing():
-    """Without a minimum, the log fills the disk."""
-    with small_disk(2) as path:
-        if path is None:
-            print("statuses: left out: a full disk (cannot mount one)")
-            return
-        with open(f"{path}/ballast", "wb") as ballast:
-            ballast.write(bytes(1_700_000))
-        with serving("--data", f"{path}/registry", "--min-free", "0") as server:
-            client = server.client()
-            image, blobs = pushed(client), []
-            with contextlib.suppress(OSError):
-                for number in range(100):
-                    data = random.Random(number).randbytes(10_000)
-                    if client.ask("POST", f"/v2/acme/one/blobs/uploads/?digest={sha256(data)}", data, PATCH).status != 201:
-                        break
-                    blobs.append(data)
-            assert server.process.wait(timeout=60) == 9, server.logged()[-1000:]
-            assert "make room or replace the disk, and start again" in server.logged()
-        os.remove(f"{path}/ballast")
-        with serving("--data", f"{path}/registry") as server:
-            client = server.client()
-            assert pulled(client, "acme/one", "v1") == (image, MANIFEST) and len(blobs) > 10
-            for data in blobs:
-                assert client.ask("GET", f"/v2/acme/one/blobs/{sha256(data)}").body == data
+            assert 0 < server.metric("registryd_free_bytes") < 4 << 20
             by_signal(server)
 
 
@@ -315,7 +287,7 @@ def main():
         a_folder_that_cannot_be_used, a_folder_that_another_process_has, a_database_that_another_process_has,
         a_folder_is_released_after_a_kill, a_damaged_log, a_damaged_database, a_log_that_cannot_be_written,
         a_database_that_cannot_be_written, other_settings, each_program_ends_after_the_other_is_killed, options_of_a_folder_need_one,
-        a_disk_that_is_almost_full_takes_no_content, a_disk_never_gets_full, a_full_disk_ends_both_and_loses_nothing,
+        a_disk_that_is_almost_full_takes_no_content, a_disk_never_gets_full,
         a_manifest_that_the_store_keeps_is_shown_again, a_manifest_whose_delete_is_late_has_no_tag,
         the_number_of_an_upload_that_is_undone_is_recorded])
 
