@@ -1,0 +1,139 @@
+#!/usr/bin/env python3
+"""Tests what a registry has acknowledged after the file system of its folder lost everything that was not on the disk, as by a loss of power.
+
+The file system is on a loop device. It is shut down while clients push, without writing anything back, as ext4 and XFS can do, and mounted again. The
+tests need root and run in mounts of their own. They end with status 3 if such a file system cannot be made."""
+import contextlib, fcntl, http.client, itertools, os, random, shutil, struct, subprocess, sys, tempfile, threading, time
+
+from playing import play, until
+from restarts import pulled, pushed
+from server import MANIFEST, serving
+
+TOOLS = ("unshare", "mkfs.ext4", "mkfs.xfs", "mount", "umount")
+# A file system is shut down by this call (linux/fs.h has FS_IOC_SHUTDOWN as XFS_IOC_GOINGDOWN), without its log.
+SHUTDOWN, NO_LOG_FLUSH = 0x8004587D, struct.pack("I", 2)
+PUSHERS, ROUNDS, CANNOT = 4, 3, 3
+
+
+def run(*words):
+    subprocess.run(words, check=True, stdout=subprocess.DEVNULL, stderr=subprocess.PIPE)
+
+
+class Disk:
+    """A mounted file system of a kind."""
+
+    def __init__(self, top, kind):
+        self.image, self.at = f"{top}/image", f"{top}/disk"
+        os.makedirs(self.at)
+        run("truncate", "-s", "400M", self.image)
+        run(f"mkfs.{kind}", "-q", self.image)
+        self.mount()
+
+    def mount(self):
+        run("mount", "-o", "loop", self.image, self.at)
+
+    def loses_power(self):
+        folder = os.open(self.at, os.O_RDONLY)
+        try:
+            fcntl.ioctl(folder, SHUTDOWN, NO_LOG_FLUSH)
+        finally:
+            os.close(folder)
+
+    def unmount(self):
+        # A killed store is alive for a moment, and has files open.
+        assert until(lambda: subprocess.run(["umount", self.at], stderr=subprocess.DEVNULL).returncode == 0)
+
+    def ends(self):
+        subprocess.run(["umount", "-l", self.at], stderr=subprocess.DEVNULL)
+
+
+class Pusher(threading.Thread):
+    """Pushes tags until a push fails."""
+
+    def __init__(self, server, name):
+        super().__init__(daemon=True)
+        # The manifests whose push was acknowledged, by their tags.
+        self.client, self.prefix, self.done = server.client(), name, {}
+        self.start()
+
+    def run(self):
+        with contextlib.suppress(OSError, http.client.HTTPException, AssertionError):
+            for number in itertools.count():
+                tag = f"{self.prefix}-{number}"
+                layer = random.Random(tag).randbytes(random.Random(tag).randrange(200_000))
+                self.done[tag] = pushed(self.client, tag=tag, layer=layer)
+
+
+def pushed_until_power_is_lost(server, disk, name):
+    """Lets clients push for a second, and returns what was acknowledged to them when the disk had lost its power."""
+    pushers = [Pusher(server, f"{name}-{number}") for number in range(PUSHERS)]
+    assert until(lambda: all(len(pusher.done) > 2 for pusher in pushers)), "no push succeeds"
+    time.sleep(1)
+    disk.loses_power()
+    for pusher in pushers:
+        pusher.join(60)
+        assert not pusher.is_alive(), "a push does not end"
+    assert server.process.wait(timeout=60) == 9, server.logged()[-1000:]
+    return {tag: manifest for pusher in pushers for tag, manifest in pusher.done.items()}
+
+
+def lost_by(disk, *words):
+    """Plays rounds of pushes and losses of power. Returns the acknowledged tags that are lost, and all of them."""
+    known = {}
+    for number in range(ROUNDS):
+        with serving("--data", f"{disk.at}/registry", "--min-free", "0", "--reserve", "0", *words) as server:
+            client = server.client()
+            lost = [tag for tag, manifest in known.items() if pulled(client, "acme/one", tag) != (manifest, MANIFEST)]
+            if lost:
+                return lost, known
+            known |= pushed_until_power_is_lost(server, disk, f"round{number}")
+        disk.unmount()
+        disk.mount()
+    with serving("--data", f"{disk.at}/registry", "--min-free", "0", "--reserve", "0", *words) as server:
+        client = server.client()
+        lost = [tag for tag, manifest in known.items() if pulled(client, "acme/one", tag) != (manifest, MANIFEST)]
+        server.end()
+    return lost, known
+
+
+@contextlib.contextmanager
+def disk_of(kind):
+    with tempfile.TemporaryDirectory() as top:
+        disk = Disk(top, kind)
+        try:
+            yield disk
+        finally:
+            disk.ends()
+
+
+def what_is_acknowledged_survives(kind, *words):
+    with disk_of(kind) as disk:
+        lost, known = lost_by(disk, *words)
+        assert not lost, f"{len(lost)} of {len(known)} tags are lost: {lost[:20]}"
+
+
+def without_syncs_something_is_lost(kind):
+    """Shows that a loss would be seen."""
+    with disk_of(kind) as disk:
+        lost, _ = lost_by(disk, "--sync", "never")
+        assert lost, "nothing is lost without syncs"
+
+
+def main():
+    if os.getuid() != 0 or not all(shutil.which(tool) for tool in TOOLS):
+        sys.exit(CANNOT)
+    if sys.argv[1:] != ["--in-own-mounts"]:
+        os.execvp("unshare", ["unshare", "-m", sys.executable, os.path.abspath(__file__), "--in-own-mounts"])
+    try:
+        for kind in ("ext4", "xfs"):
+            with disk_of(kind) as disk:
+                disk.loses_power()
+    except (subprocess.CalledProcessError, OSError):
+        sys.exit(CANNOT)
+    play("file_systems", [
+        *((what_is_acknowledged_survives, kind, "--sync", policy) for kind in ("ext4", "xfs") for policy in ("closes", "each")),
+        (without_syncs_something_is_lost, "ext4")])
+
+
+if __name__ == "__main__":
+    main()
