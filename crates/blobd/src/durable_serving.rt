@@ -360,8 +360,11 @@ fn serve_started<
     }
 }
 
-/// Replays the log of a new store of these parts, and serves all connections on it, with a table of leases that has this log.
-/// The type parameters name the parts and the log.
+/// Replays the log of a folder into a new store of these parts, and serves all connections on it, with a table of leases that has this
+/// log. The type parameters name the parts and the log. Otherwise it is `serve_log`.
+///
+/// The store's history begins with the records that were replayed, and no others, all of them durable on the log's device
+/// (`start`). The store of these parts, which is served, and the store of this log are one: they have the same names.
 fn serve_log_parts<
     W: Threads + Wait + Sync,
     S: Naming + Send + Sync,
@@ -397,12 +400,34 @@ fn serve_log_parts<
     serve_started::<W, S, L, I, O>(rt, alloc, &store, started, leases, end, lines)
 }
 
+/// Serves as `serve_log_parts` does. Returns the totals alone, so that its caller may name the parts and the log.
+fn serve_for_totals<
+    W: Threads + Wait + Sync,
+    S: Naming + Send + Sync,
+    L: LeaseNaming + Send + Sync,
+    I: Read + Send + Drop,
+    O: Write + Send + Drop,
+>(
+    rt: &W,
+    alloc: Global,
+    parts: Parts,
+    examined: ExaminedLog<'_>,
+    leases: SharedLog<LeaseEvent>,
+    end: &EndCell,
+    lines: &mut [Connection<I, O>],
+) -> Result<Totals, ServeFault>
+    requires named { names_of parts ≡ S.names }
+    requires log { (leases.name ≡ L.log) × (leases.entries ≡ []) }
+    ensures served { OnOk result (AreServed S.names L.log I.remaining O.contents lines.old lines.new) }
+    ensures totals { IfOk result (λ t. AreBalancedTotals t) }
+{
+    let served = serve_log_parts::<W, S, L, I, O>(rt, alloc, parts, examined, leases, end, lines)?;
+    Ok(served.totals)
+}
+
 /// Replays the log of a folder into a new store of these parts, and serves all connections on the store until they end, as `serve_new`
 /// does. Each change is recorded in the log, and is durable before its reply if the policy of the parts promises that. Returns
 /// the store's totals, in which the replayed changes are counted.
-///
-/// The store's history begins with the records that were replayed, and no others, all of them durable on the log's device
-/// (`start`). The store of these parts, which is served, and the store of this log are one: they have the same names.
 ///
 /// While the connections are served, a thread rewrites the closed files of the log. It goes on until the program ends.
 ///
@@ -421,11 +446,10 @@ pub fn serve_log<W: Threads + Wait + Sync, I: Read + Send + Drop, O: Write + Sen
     examined: ExaminedLog<'_>,
     end: &EndCell,
     lines: &mut [Connection<I, O>],
-) -> Result<ServedLog<Brand>, ServeFault>
-    ensures start { IfOk result (λ r. IsStarted (names_of parts) r.start.value) }
+) -> Result<Totals, ServeFault>
     ensures served { OnOk result (AreServedOn parts I.remaining O.contents lines.old lines.new) }
-    ensures totals { IfOk result (λ r. AreBalancedTotals r.totals) }
+    ensures totals { IfOk result (λ t. AreBalancedTotals t) }
 {
     let leases = SharedLog::new(alloc)?;
-    serve_log_parts::<W, Brand, Brand, I, O>(rt, alloc, parts, examined, leases, end, lines)
+    serve_for_totals::<W, Brand, Brand, I, O>(rt, alloc, parts, examined, leases, end, lines)
 }

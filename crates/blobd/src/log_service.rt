@@ -217,7 +217,7 @@ fn serve_once<
         return Err(Stop::Memory);
     };
     match serve_log(threads, rt.alloc(), parts, log, end, lines) {
-        Ok(served) => conclude(rt, served.totals, lines),
+        Ok(totals) => conclude(rt, totals, lines),
         Err(fault) => Err(fault_stop(how.folder, fault)),
     }
 }
