@@ -1,110 +1,49 @@
 //! A container registry (OCI Distribution Specification 1.1). A `blobd` stores the blobs and manifests. Tags, facts of manifests
 //! and open uploads are in this process, and with `--data` in a database too. Without `--data` all data is in memory.
-mod access;
-mod appending;
-mod blobs;
-mod bounds;
-mod browser;
-mod cached;
-mod capacity;
-mod catalog;
-mod checks;
-mod clock;
-mod collector;
-mod conditional;
-mod connections;
-mod content;
+mod auth;
 mod database;
-mod document;
-mod ending;
-mod exchange;
-mod fault;
+mod endpoints;
 mod folder;
-mod frame_check;
-mod frames;
-mod framing;
-mod head_lines;
-mod held;
-mod in_flight;
-mod limits;
-mod log_end;
-mod loose;
-mod losses;
-mod manifests;
-mod marks;
-mod media_type;
-mod memory;
-mod metrics;
-mod namers;
-mod notify;
-mod numbers;
-mod opening;
-mod options;
-mod pages;
-mod path;
-mod pool;
-mod process;
-mod provenance;
-mod pushes;
-mod range;
-mod referrers;
-mod registry;
-mod reload;
-mod repositories;
-mod retention;
-mod rights;
-mod room;
-mod scrub;
-mod server;
-mod shares;
-mod starting;
-mod startup;
-mod status;
+mod http;
+mod metadata;
+mod operation;
+mod start;
 mod store;
-mod store_connection;
-mod tags;
-mod tenants;
-mod tls;
-mod tokens;
-mod transfer;
-mod turns;
-mod undo;
-mod unsynced;
-mod upload_name;
-mod uploading;
-mod uploads;
-mod watching;
-mod witness;
-mod writer;
 
-use crate::access::{Access, Logins, Users};
-use crate::bounds::Bounds;
-use crate::catalog::Catalog;
-use crate::connections::{Connections, Limits};
-use crate::ending::Failure;
-use crate::folder::Folder;
-use crate::in_flight::Memory;
-use crate::limits::Repositories;
-use crate::loose::LooseBlobs;
-use crate::metrics::Metrics;
-use crate::notify::Notifier;
-use crate::opening::Opened;
-use crate::options::Options;
-use crate::provenance::Provenance;
-use crate::registry::Registry;
-use crate::reload::{FromFile, Hangup, Reloads};
-use crate::rights::Rights;
-use crate::room::Room;
-use crate::scrub::Scrub;
-use crate::starting::{Service, Serving};
-use crate::tags::Tags;
-use crate::tenants::Tenant;
-use crate::tls::Tls;
-use crate::tokens::{Issuer, Key};
-use crate::upload_name::Secret;
-use crate::uploads::Uploads;
-use crate::watching::Watch;
-use crate::writer::{Writer, WriterThread};
+use crate::auth::access::{Access, Logins, Users};
+use crate::auth::rights::Rights;
+use crate::auth::tokens::{Issuer, Key};
+use crate::database::writer::{Writer, WriterThread};
+use crate::endpoints::registry::Registry;
+use crate::folder::disk_room::Room;
+use crate::folder::files::Folder;
+use crate::folder::scrub::Scrub;
+use crate::folder::watcher;
+use crate::folder::watcher::Watch;
+use crate::http::connections::{Connections, Limits};
+use crate::http::in_flight::Memory;
+use crate::http::tls::Tls;
+use crate::http::{server, tls};
+use crate::metadata::bounds::Bounds;
+use crate::metadata::clock;
+use crate::metadata::loose_blobs::LooseBlobs;
+use crate::metadata::manifest_table::Tags;
+use crate::metadata::manifests::Catalog;
+use crate::metadata::open_uploads::Uploads;
+use crate::metadata::repositories::Repositories;
+use crate::metadata::upload_names::Secret;
+use crate::operation::exit::Failure;
+use crate::operation::metrics::Metrics;
+use crate::operation::notify::Notifier;
+use crate::operation::reload::{FromFile, Hangup, Reloads};
+use crate::operation::{memory_reserve, status};
+use crate::start::opening::Opened;
+use crate::start::options::Options;
+use crate::start::provenance::Provenance;
+use crate::start::start_replies::{Service, Serving};
+use crate::start::tenants::Tenant;
+use crate::start::{capacity, default_shares, opening, provenance, recovery, start_replies};
+use crate::store::process;
 use clap::{CommandFactory, FromArgMatches};
 use std::collections::HashMap;
 use std::io;
@@ -119,7 +58,7 @@ use tokio::signal::unix::{signal, Signal, SignalKind};
 use tokio::sync::watch;
 
 #[global_allocator]
-static ALLOCATOR: memory::Reserving = memory::Reserving;
+static ALLOCATOR: memory_reserve::Reserving = memory_reserve::Reserving;
 
 /// The maximum number of connections to the metrics address.
 const METRICS_CONNECTIONS: usize = 16;
@@ -199,7 +138,7 @@ async fn run(options: Options) -> Result<(), Failure> {
     let notifier = Notifier::of_environment()?;
     let Listening { service, serving, address, metrics_address } = listen(&options, tls, connections).await?;
     tracing::info!(%address, log_bytes = service.log_bytes(), "starting");
-    starting::warn_of_memory(service.log_bytes());
+    start_replies::warn_of_memory(service.log_bytes());
     let started = tokio::select! {
         started = start(&options, access) => started?,
         () = signals.recv() => {
@@ -352,7 +291,7 @@ async fn open_folder(options: &Options, room: &Option<Arc<Room>>) -> Result<Opti
     match (options.data.clone(), room.clone()) {
         (Some(folder), Some(room)) => {
             let options = options.clone();
-            startup::blocking(move || opening::open(&options, folder, &room)).await.map(Some)
+            recovery::blocking(move || opening::open(&options, folder, &room)).await.map(Some)
         }
         _ => Ok(None),
     }
@@ -369,9 +308,9 @@ async fn start(options: &Options, access: Access) -> Result<Started, Failure> {
     let writer = room.clone().map(|room| Writer::new(metrics.add_folder(options.is_durable()), limit, room));
     let opened = open_folder(options, &room).await?;
     capacity::warn_of_sums(&options.tenants(), options.slots);
-    let (store, mut child) = shares::start_store(options, writer.clone()).await?;
+    let (store, mut child) = default_shares::start_store(options, writer.clone()).await?;
     let kept = match opened {
-        Some(opened) => match startup::recover(&store, opened).await {
+        Some(opened) => match recovery::recover(&store, opened).await {
             Ok(kept) => Some(kept),
             Err(_) if store.has_ended() => return Err(process::why_gone(&mut child).await),
             Err(failure) => {
@@ -438,7 +377,7 @@ fn work_in_background(registry: &Arc<Registry>, options: &Options) -> Result<(),
         let keeper = registry.clone();
         tokio::spawn(async move { keeper.keep_untagged(time).await });
     }
-    tokio::spawn(memory::keep_reserve());
+    tokio::spawn(memory_reserve::keep_reserve());
     if let Some(scrub) = &registry.scrub {
         scrub.start()?;
     }
@@ -524,7 +463,7 @@ async fn serve(started: Started, serving: Serving, mut signals: Signals, notifie
     let mut ended = Ok(());
     if let Some((writer, thread)) = database {
         if let Some(folder) = synced {
-            ended = watching::keep_last_end(folder, writer.clone()).await;
+            ended = watcher::keep_last_end(folder, writer.clone()).await;
         }
         ended = ended.and(writer.end(thread).await.map_err(|why| Failure::of_database(&why)));
     }

@@ -1,0 +1,262 @@
+//! Rights of users in repositories, and the file that lists them.
+use crate::http::paths::Target;
+use crate::operation::reload::read_text;
+use crate::start::tenants::is_repository;
+use hyper::Method;
+use std::collections::HashMap;
+use std::path::Path;
+
+/// The user of lines that hold for every request, also for one without credentials.
+const EVERYBODY: &str = "*";
+
+/// The prefix of lines that hold for every repository.
+const EVERYWHERE: &str = "*";
+
+/// A right in a repository.
+#[derive(Clone, Copy, Debug, PartialEq, Eq)]
+pub enum Right {
+    Read,
+    Write,
+    Delete,
+}
+
+impl Right {
+    /// Returns the right that a request needs in the repository of its path.
+    pub fn of(method: &Method, target: &Target<'_>) -> Right {
+        match (target, method) {
+            (Target::Uploads { .. } | Target::Upload { .. }, _) => Right::Write,
+            (_, &Method::GET | &Method::HEAD) => Right::Read,
+            (_, &Method::DELETE) => Right::Delete,
+            _ => Right::Write,
+        }
+    }
+
+    /// Returns the right's word in the file.
+    pub fn word(self) -> &'static str {
+        match self {
+            Right::Read => "read",
+            Right::Write => "write",
+            Right::Delete => "delete",
+        }
+    }
+
+    /// Returns the right with a word.
+    fn named(word: &str) -> Option<Right> {
+        [Right::Read, Right::Write, Right::Delete].into_iter().find(|right| right.word() == word)
+    }
+}
+
+/// What a request needs: a right in a repository.
+#[derive(Clone, Copy, Debug, PartialEq, Eq)]
+pub struct Demand<'p> {
+    pub right: Right,
+    pub repo: &'p str,
+}
+
+impl<'p> Demand<'p> {
+    /// Returns what a request needs, if its path names a repository.
+    pub fn of(method: &Method, target: &Target<'p>) -> Option<Demand<'p>> {
+        target.repo().map(|repo| Demand { right: Right::of(method, target), repo })
+    }
+}
+
+/// What a token has to list for a request.
+#[derive(Clone, Copy, Debug, PartialEq, Eq)]
+pub enum Scope<'p> {
+    /// Nothing: any token is enough.
+    Nothing,
+    /// The list of all repositories. A token without it lists those that it may read.
+    Catalog,
+    Repository(Demand<'p>),
+}
+
+impl<'p> Scope<'p> {
+    /// Returns what a token has to list for a request to a resource.
+    pub fn of(target: Option<&Target<'p>>, demand: Option<Demand<'p>>) -> Scope<'p> {
+        match (target, demand) {
+            (Some(Target::Catalog), _) => Scope::Catalog,
+            (_, Some(demand)) => Scope::Repository(demand),
+            (_, None) => Scope::Nothing,
+        }
+    }
+
+    /// Returns the scope's text in a challenge (Docker's "Token Scope Documentation"), if it has one.
+    pub fn text(&self) -> Option<String> {
+        match self {
+            Scope::Nothing => None,
+            Scope::Catalog => Some("registry:catalog:*".to_string()),
+            Scope::Repository(Demand { right, repo }) => {
+                let actions = match right {
+                    Right::Read => "pull",
+                    Right::Write => "pull,push",
+                    Right::Delete => "delete",
+                };
+                is_repository(repo).then(|| format!("repository:{repo}:{actions}"))
+            }
+        }
+    }
+}
+
+/// Returns whether a repository is the one that a prefix names, or is below it.
+fn is_below(repo: &str, prefix: &str) -> bool {
+    prefix == EVERYWHERE || repo.strip_prefix(prefix).map_or(false, |rest| rest.is_empty() || rest.starts_with('/'))
+}
+
+/// The rights of one line.
+#[derive(Debug, PartialEq, Eq)]
+struct Grant {
+    rights: Vec<Right>,
+    prefix: String,
+}
+
+/// The rights of a file.
+#[derive(Debug, Default)]
+pub struct Rights {
+    by_user: HashMap<String, Vec<Grant>>,
+}
+
+/// Parses a line `USER RIGHTS PREFIX`.
+fn parse_line(line: &str) -> Result<(&str, Grant), String> {
+    let words: Vec<&str> = line.split_whitespace().collect();
+    let (user, rights, prefix) = match words[..] {
+        [user, rights, prefix] => (user, rights, prefix),
+        _ => return Err("not USER RIGHTS PREFIX".to_string()),
+    };
+    let right = |word| Right::named(word).ok_or_else(|| format!("no such right: `{word}`: write read, write or delete"));
+    let rights = rights.split(',').map(right).collect::<Result<Vec<Right>, String>>()?;
+    if user == EVERYBODY && rights.iter().any(|right| *right != Right::Read) {
+        return Err("everybody may only read: write `* read PREFIX`".to_string());
+    }
+    if prefix != EVERYWHERE && !is_repository(prefix) {
+        return Err(format!("not the name of a repository: `{prefix}`: write acme or acme/app, or * for all"));
+    }
+    Ok((user, Grant { rights, prefix: prefix.to_string() }))
+}
+
+impl Rights {
+    /// Reads the lines of a file.
+    ///
+    /// # Errors
+    ///
+    /// - The file cannot be read.
+    /// - A line is not `USER RIGHTS PREFIX`. The message has the number of the first such line.
+    pub fn read(path: &Path) -> Result<Rights, String> {
+        let fault = |why: String| format!("cannot read the rights: {}: {why}", path.display());
+        let text = read_text(path).map_err(|error| fault(error.to_string()))?;
+        Rights::parse(&text).map_err(fault)
+    }
+
+    /// Parses the text of a file.
+    pub fn parse(text: &str) -> Result<Rights, String> {
+        let mut rights = Rights::default();
+        for (at, line) in text.lines().map(str::trim).enumerate() {
+            if line.is_empty() || line.starts_with('#') {
+                continue;
+            }
+            let (user, grant) = parse_line(line).map_err(|why| format!("line {}: {why}", at + 1))?;
+            rights.by_user.entry(user.to_string()).or_default().push(grant);
+        }
+        Ok(rights)
+    }
+
+    /// Returns whether everybody has a right in a repository.
+    pub fn are_public(&self, right: Right, repo: &str) -> bool {
+        self.allow(EVERYBODY, right, repo)
+    }
+
+    /// Returns whether a user has a right in a repository by a line for the user.
+    pub fn allow(&self, user: &str, right: Right, repo: &str) -> bool {
+        let grants = self.by_user.get(user).map_or(&[][..], Vec::as_slice);
+        grants.iter().any(|grant| grant.rights.contains(&right) && is_below(repo, &grant.prefix))
+    }
+}
+
+#[cfg(test)]
+mod tests {
+    use super::*;
+
+    #[test]
+    fn a_prefix_is_of_whole_components() {
+        for (repo, prefix) in
+            [("acme", "acme"), ("acme/app", "acme"), ("acme/app", "acme/app"), ("acme/app/x", "acme/app"), ("b", "*")]
+        {
+            assert!(is_below(repo, prefix), "{repo} {prefix}");
+        }
+        for (repo, prefix) in
+            [("acme/apple", "acme/app"), ("acmes/app", "acme"), ("acme", "acme/app"), ("b/acme", "acme"), ("", "acme")]
+        {
+            assert!(!is_below(repo, prefix), "{repo} {prefix}");
+        }
+    }
+
+    #[test]
+    fn lines_add_up() {
+        let text = "# comment\n\nacme read,write,delete acme\n ci\tread,write  acme/app \nci read other\n* read acme/public\n";
+        let rights = Rights::parse(text).unwrap();
+        for (user, right, repo, expected) in [
+            ("acme", Right::Delete, "acme/x", true),
+            ("acme", Right::Read, "other/x", false),
+            ("ci", Right::Write, "acme/app/x", true),
+            ("ci", Right::Delete, "acme/app", false),
+            ("ci", Right::Write, "acme/apple", false),
+            ("ci", Right::Read, "other/x", true),
+            ("ci", Right::Write, "other/x", false),
+            ("ci", Right::Read, "acme/public/x", false),
+            ("", Right::Read, "acme", false),
+        ] {
+            assert_eq!(rights.allow(user, right, repo), expected, "{user} {right:?} {repo}");
+        }
+        for (repo, expected) in [("acme/public", true), ("acme/public/x", true), ("acme/publics", false), ("acme", false)] {
+            assert_eq!(rights.are_public(Right::Read, repo), expected, "{repo}");
+        }
+        assert!(!rights.are_public(Right::Write, "acme/public"));
+    }
+
+    #[test]
+    fn bad_lines_are_errors() {
+        let lines = [
+            "acme",
+            "acme read",
+            "acme read acme extra",
+            "acme reed acme",
+            "acme Read acme",
+            "acme read, acme",
+            "acme , acme",
+            "* write acme",
+            "* read,delete acme",
+            "acme read acme/",
+            "acme read /acme",
+            "acme read Acme",
+            "acme read acme/*",
+            "acme read ..",
+            "acme\u{0}read acme",
+        ];
+        for line in lines {
+            let why = Rights::parse(&format!("# rights\nacme read acme\n{line}\n")).unwrap_err();
+            assert!(why.starts_with("line 3: "), "{line}: {why}");
+        }
+        assert!(Rights::parse("").unwrap().by_user.is_empty());
+    }
+
+    #[test]
+    fn requests_need_rights() {
+        let right = |method, path| Right::of(&method, &Target::of(path).unwrap());
+        for (method, path, expected) in [
+            (Method::GET, "/v2/a/tags/list", Right::Read),
+            (Method::GET, "/v2/a/manifests/v1", Right::Read),
+            (Method::HEAD, "/v2/a/manifests/v1", Right::Read),
+            (Method::PUT, "/v2/a/manifests/v1", Right::Write),
+            (Method::DELETE, "/v2/a/manifests/v1", Right::Delete),
+            (Method::GET, "/v2/a/blobs/x", Right::Read),
+            (Method::HEAD, "/v2/a/blobs/x", Right::Read),
+            (Method::DELETE, "/v2/a/blobs/x", Right::Delete),
+            (Method::POST, "/v2/a/blobs/uploads/", Right::Write),
+            (Method::GET, "/v2/a/blobs/uploads/x", Right::Write),
+            (Method::PATCH, "/v2/a/blobs/uploads/x", Right::Write),
+            (Method::PUT, "/v2/a/blobs/uploads/x", Right::Write),
+            (Method::DELETE, "/v2/a/blobs/uploads/x", Right::Write),
+        ] {
+            assert_eq!(right(method.clone(), path), expected, "{method} {path}");
+        }
+    }
+}

@@ -1,0 +1,52 @@
+//! What the database keeps in its settings about itself and about the log, by which a start finds out that one of the two was
+//! lost or replaced.
+use crate::folder::log_end::LogEnd;
+use rusqlite::{params, Connection, OptionalExtension};
+
+/// The marks in a database.
+#[derive(Debug, Default, PartialEq, Eq)]
+pub struct Marks {
+    /// An end of the log that was on the disk when it was written here.
+    pub log_end: Option<LogEnd>,
+    /// The number of transactions.
+    pub commits: u64,
+    /// The time of the last transaction, in seconds since 1970.
+    pub time: Option<u64>,
+}
+
+/// Returns a setting.
+fn setting<T: rusqlite::types::FromSql>(connection: &Connection, name: &str) -> rusqlite::Result<Option<T>> {
+    let query = "SELECT value FROM settings WHERE name = ?1";
+    connection.prepare_cached(query)?.query_row(params![name], |row| row.get(0)).optional()
+}
+
+/// Writes a setting.
+fn put(connection: &Connection, name: &str, value: &dyn rusqlite::ToSql) -> rusqlite::Result<()> {
+    let query = "INSERT OR REPLACE INTO settings (name, value) VALUES (?1, ?2)";
+    connection.prepare_cached(query)?.execute(params![name, value]).map(|_| ())
+}
+
+/// Returns the marks.
+pub fn read(connection: &Connection) -> rusqlite::Result<Marks> {
+    let log_end: Option<Vec<u8>> = setting(connection, "log_end")?;
+    let commits: Option<i64> = setting(connection, "commits")?;
+    let time = setting::<i64>(connection, "time")?.and_then(|time| u64::try_from(time).ok());
+    let log_end = log_end.and_then(|bytes| LogEnd::from_bytes(&bytes));
+    Ok(Marks { log_end, commits: commits.unwrap_or(0) as u64, time })
+}
+
+/// Writes an end of the log that is on the disk.
+pub fn put_log_end(connection: &Connection, end: LogEnd) -> rusqlite::Result<()> {
+    put(connection, "log_end", &end.to_bytes())
+}
+
+/// Keeps of the end of the log the number of its last file alone.
+pub fn loosen_log_end(connection: &Connection, end: LogEnd) -> rusqlite::Result<()> {
+    put_log_end(connection, LogEnd { length: 0, ..end })
+}
+
+/// Writes the number of transactions and the time of the last one, in seconds since 1970.
+pub fn put_commit(connection: &Connection, commits: u64, time: u64) -> rusqlite::Result<()> {
+    put(connection, "commits", &(commits as i64))?;
+    put(connection, "time", &(time as i64))
+}

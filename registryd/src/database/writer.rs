@@ -1,0 +1,456 @@
+//! The thread that writes the database. It puts all changes that wait into one transaction, so that one sync serves many
+//! requests, and then makes them in the tables of this process, in the same order. So what a request reads is durable.
+use crate::database::sqlite::{Committed, Database};
+use crate::database::upload_numbers::Numbers;
+use crate::folder::disk_room::Room;
+use crate::folder::log_end::LogEnd;
+use crate::metadata::clock::now;
+use crate::metadata::document::Facts;
+use crate::metadata::manifest_table::Tags;
+use crate::metadata::repositories::tenant_of;
+use crate::operation::metrics::Commits;
+use std::collections::{BTreeSet, HashMap};
+use std::sync::{Arc, Condvar, Mutex, MutexGuard};
+use std::thread::JoinHandle;
+use std::time::{Duration, Instant};
+use tokio::sync::{oneshot, Notify};
+
+/// The time after which changes are written that no request waits for.
+const REST: Duration = Duration::from_secs(1);
+
+/// The time that the thread has to write the last changes.
+const END_TIME: Duration = Duration::from_secs(8);
+
+/// A change of the database.
+#[derive(Clone, Debug, PartialEq, Eq)]
+pub enum Change {
+    /// An upload may be opened in a repository.
+    AddRepository {
+        repo: String,
+    },
+    /// No upload was opened in a repository, because the store refused it.
+    RemoveRepository {
+        repo: String,
+    },
+    /// The store has a manifest, and a tag names it from now on.
+    PutManifest {
+        repo: String,
+        digest: String,
+        facts: Facts,
+        tag: Option<String>,
+    },
+    /// The store has a manifest that was to be deleted.
+    RestoreManifest {
+        repo: String,
+        digest: String,
+        facts: Facts,
+        since: u64,
+        tags: Vec<String>,
+    },
+    /// A client has asked for a manifest by its digest.
+    TouchManifest {
+        repo: String,
+        digest: String,
+    },
+    RemoveTag {
+        repo: String,
+        tag: String,
+    },
+    /// A manifest is going to be deleted. Its tags are removed too.
+    RemoveManifest {
+        repo: String,
+        digest: String,
+    },
+    /// A blob is to be unlinked after some time.
+    AddLooseBlob {
+        repo: String,
+        digest: String,
+    },
+    /// A blob is unlinked, or a manifest refers to it.
+    RemoveLooseBlob {
+        repo: String,
+        digest: String,
+    },
+    OpenUpload {
+        repo: String,
+        number: u32,
+    },
+    EndUpload {
+        repo: String,
+        number: u32,
+    },
+    /// The store used this number for an upload that is not open.
+    PassUpload {
+        repo: String,
+        number: u32,
+    },
+    /// The store used all numbers of a tenant up to this one before, or for an upload that is not open.
+    BeginUploads {
+        repo: String,
+        number: u32,
+    },
+    /// The log is on the disk up to this end.
+    KeepLogEnd {
+        end: LogEnd,
+    },
+    /// Only the time of the transaction is recorded.
+    KeepTime,
+}
+
+/// What a change did to the tables of this process.
+#[derive(Debug, PartialEq, Eq)]
+pub enum Done {
+    Nothing,
+    /// Tags were removed.
+    Removed(Vec<String>),
+}
+
+/// The reason why a change was not made.
+#[derive(Debug, PartialEq, Eq)]
+pub enum WriteFailure {
+    /// The database has failed, is closed, or does not reply in time: the change may be there or not after a restart.
+    Unavailable,
+    /// The disk has no room. Nothing was changed.
+    NoRoom,
+}
+
+impl Change {
+    /// Makes a change in the tables of this process that became durable at this time.
+    fn apply(self, tags: &Tags, now: u64) -> Done {
+        match self {
+            Change::PutManifest { repo, digest, facts, tag } => tags.put(&repo, &digest, facts, tag.as_deref(), now),
+            Change::RestoreManifest { repo, digest, facts, since, tags: names } => {
+                tags.restore(&repo, &digest, facts, since, names)
+            }
+            Change::RemoveTag { repo, tag } => return Done::Removed(tags.take_tag(&repo, tag, now).into_iter().collect()),
+            Change::RemoveManifest { repo, digest } => return Done::Removed(tags.take_tags_of(&repo, &digest)),
+            _ => {}
+        }
+        Done::Nothing
+    }
+
+    /// Returns whether the change is made later if the disk has no room now, although a request waits for it: it restores what an
+    /// earlier change took away.
+    fn stays(&self) -> bool {
+        matches!(self, Change::RestoreManifest { .. })
+    }
+
+    /// Notes the number of an upload. Returns the tenant if the number changed up to which all are recorded.
+    fn see_number(&self, numbers: &mut HashMap<String, Numbers>) -> Option<&str> {
+        match self {
+            Change::OpenUpload { repo, number } | Change::PassUpload { repo, number } => {
+                let tenant = tenant_of(repo);
+                numbers.entry(tenant.to_string()).or_default().see(*number).then_some(tenant)
+            }
+            Change::BeginUploads { repo, number } => {
+                numbers.entry(tenant_of(repo).to_string()).or_default().see_all(*number);
+                Some(tenant_of(repo))
+            }
+            _ => None,
+        }
+    }
+}
+
+/// A change, and the request that waits for it, if one does.
+struct Waiting {
+    change: Change,
+    reply: Option<oneshot::Sender<Result<Done, WriteFailure>>>,
+}
+
+#[derive(Default)]
+struct State {
+    waiting: Vec<Waiting>,
+    /// Whether a request waits.
+    is_awaited: bool,
+    /// The time at which the first change was added that waits.
+    since: Option<Instant>,
+    is_closed: bool,
+    failure: Option<String>,
+}
+
+/// The changes that wait for the thread.
+pub struct Writer {
+    state: Mutex<State>,
+    ready: Condvar,
+    /// Notified after a failure.
+    failed: Notify,
+    commits: Commits,
+    /// The time limit of a change.
+    limit: Duration,
+    /// The room on the disk.
+    room: Arc<Room>,
+}
+
+/// The thread, and the database that it has opened.
+pub struct WriterThread(JoinHandle<rusqlite::Result<()>>);
+
+impl Writer {
+    /// Makes a writer that counts its transactions. Its thread is not running yet.
+    pub fn new(commits: Commits, limit: Duration, room: Arc<Room>) -> Arc<Writer> {
+        Arc::new(Writer { state: Mutex::default(), ready: Condvar::new(), failed: Notify::new(), commits, limit, room })
+    }
+
+    /// Starts the thread. `recorded` has, for each tenant, the number up to which its uploads are recorded.
+    pub fn start(
+        self: &Arc<Writer>,
+        database: Database,
+        tags: Arc<Tags>,
+        recorded: HashMap<String, u32>,
+    ) -> std::io::Result<WriterThread> {
+        let writer = self.clone();
+        let numbers = recorded.into_iter().map(|(tenant, upto)| (tenant, Numbers::after(upto))).collect();
+        let thread = std::thread::Builder::new().name("database".to_string());
+        thread.spawn(move || writer.run(database, &tags, numbers)).map(WriterThread)
+    }
+
+    fn state(&self) -> MutexGuard<'_, State> {
+        self.state.lock().unwrap_or_else(|poisoned| poisoned.into_inner())
+    }
+
+    fn add(&self, waiting: Waiting) {
+        let mut state = self.state();
+        if state.is_closed {
+            return;
+        }
+        let is_first = state.waiting.is_empty();
+        state.is_awaited |= waiting.reply.is_some();
+        state.since.get_or_insert_with(Instant::now);
+        let wakes = is_first || waiting.reply.is_some();
+        state.waiting.push(waiting);
+        drop(state);
+        if wakes {
+            self.ready.notify_one();
+        }
+    }
+
+    /// Makes a change. Returns after it is durable and made in the tables of this process. A change that is late is made
+    /// nevertheless. One that fails for room is not made, unless it restores something: that is made when there is room.
+    pub async fn write(&self, change: Change) -> Result<Done, WriteFailure> {
+        let (reply, made) = oneshot::channel();
+        self.add(Waiting { change, reply: Some(reply) });
+        let made = tokio::time::timeout(self.limit, made).await.map_err(|_| {
+            tracing::warn!("the database does not reply in time");
+            WriteFailure::Unavailable
+        })?;
+        made.unwrap_or(Err(WriteFailure::Unavailable))
+    }
+
+    /// Makes a change at some later time. It is lost if the program or the machine stops before.
+    pub fn note(&self, change: Change) {
+        self.add(Waiting { change, reply: None });
+    }
+
+    /// Waits until a change could not be made, and returns why.
+    pub async fn failure(&self) -> String {
+        loop {
+            let notified = self.failed.notified();
+            if let Some(failure) = self.state().failure.clone() {
+                return failure;
+            }
+            notified.await;
+        }
+    }
+
+    /// Writes the changes that wait, closes the database and ends the thread. Later changes fail.
+    pub async fn end(&self, thread: WriterThread) -> Result<(), String> {
+        self.state().is_closed = true;
+        self.ready.notify_one();
+        let joined = tokio::task::spawn_blocking(move || thread.0.join());
+        match tokio::time::timeout(END_TIME, joined).await {
+            Ok(Ok(Ok(Ok(())))) => self.state().failure.clone().map_or(Ok(()), Err),
+            Ok(Ok(Ok(Err(error)))) => Err(error.to_string()),
+            Ok(_) => Err("a bug in this program stopped its thread".to_string()),
+            Err(_) => Err(format!("it did not end within {} s", END_TIME.as_secs())),
+        }
+    }
+
+    /// Takes the changes that wait, after a request waits for one, they are old, or the writer is closed. Returns `None` if
+    /// it is closed and none waits.
+    fn next(&self) -> Option<Vec<Waiting>> {
+        let mut state = self.state();
+        loop {
+            let left = state.since.map_or(REST, |since| REST.saturating_sub(since.elapsed()));
+            if !state.waiting.is_empty() && (state.is_awaited || state.is_closed || left == Duration::ZERO) {
+                state.is_awaited = false;
+                state.since = None;
+                return Some(std::mem::take(&mut state.waiting));
+            }
+            if state.is_closed {
+                return None;
+            }
+            state = match state.waiting.is_empty() {
+                true => self.ready.wait(state).unwrap_or_else(|poisoned| poisoned.into_inner()),
+                false => self.ready.wait_timeout(state, left).unwrap_or_else(|poisoned| poisoned.into_inner()).0,
+            };
+        }
+    }
+
+    /// Refuses all changes from now on. The requests that wait are not replied to.
+    fn fail(&self, failure: String) {
+        let mut state = self.state();
+        state.is_closed = true;
+        state.failure.get_or_insert(failure);
+        state.waiting.clear();
+        drop(state);
+        self.failed.notify_one();
+    }
+
+    /// Returns whether the disk has room for a transaction with these changes. The reserve is given up only if a request waits.
+    fn has_room(&self, batch: &[Waiting]) -> bool {
+        match batch.iter().any(|waiting| waiting.reply.is_some()) {
+            true => self.room.make(),
+            false => self.room.is_there(),
+        }
+    }
+
+    /// Replies to the requests whose changes were not made for want of room. Changes that nobody waits for are tried again after a
+    /// while, in front of those that came meanwhile. They are lost if the writer is closed.
+    fn put_back(&self, batch: Vec<Waiting>) {
+        let mut left = Vec::new();
+        for Waiting { change, reply } in batch {
+            if reply.is_none() || change.stays() {
+                left.push(Waiting { change, reply: None });
+            }
+            if let Some(reply) = reply {
+                let _ = reply.send(Err(WriteFailure::NoRoom));
+            }
+        }
+        let mut state = self.state();
+        if state.is_closed {
+            if !left.is_empty() {
+                tracing::warn!(count = left.len(), "the disk is full: changes that no request waited for are not recorded");
+            }
+            return;
+        }
+        left.append(&mut state.waiting);
+        state.since = Some(Instant::now());
+        state.waiting = left;
+    }
+
+    /// Writes changes until the writer is closed, or until one transaction fails: after a failed write or sync the system may
+    /// have dropped what it could not write, so nothing is tried again. A transaction for which the disk has no room is undone
+    /// instead.
+    fn run(&self, mut database: Database, tags: &Tags, mut numbers: HashMap<String, Numbers>) -> rusqlite::Result<()> {
+        let _guard = FailOnPanic(self);
+        let mut unrecorded = BTreeSet::new();
+        while let Some(batch) = self.next() {
+            unrecorded.extend(see_numbers(&mut numbers, &batch));
+            let recorded: Vec<(String, u32)> =
+                unrecorded.iter().map(|name: &String| (name.clone(), numbers[name].upto())).collect();
+            let now = now();
+            let committed = match self.has_room(&batch) {
+                true => database.commit(batch.iter().map(|waiting| &waiting.change), &recorded, now),
+                false => Ok(Committed::NoRoom),
+            };
+            match committed {
+                Ok(Committed::Made) => {}
+                Ok(Committed::NoRoom) => {
+                    self.put_back(batch);
+                    continue;
+                }
+                Err(error) => {
+                    self.fail(error.to_string());
+                    return Err(error);
+                }
+            }
+            unrecorded.clear();
+            self.commits.count();
+            for Waiting { change, reply } in batch {
+                let done = change.apply(tags, now);
+                if let Some(reply) = reply {
+                    let _ = reply.send(Ok(done));
+                }
+            }
+        }
+        database.close()
+    }
+}
+
+/// Refuses further changes if the thread panics.
+struct FailOnPanic<'w>(&'w Writer);
+
+impl Drop for FailOnPanic<'_> {
+    fn drop(&mut self) {
+        if std::thread::panicking() {
+            self.0.fail("a bug in this program stopped its thread".to_string());
+        }
+    }
+}
+
+/// Notes the numbers of uploads in changes. Returns the tenants whose number changed up to which all are recorded.
+fn see_numbers(numbers: &mut HashMap<String, Numbers>, batch: &[Waiting]) -> Vec<String> {
+    batch.iter().filter_map(|waiting| waiting.change.see_number(numbers).map(str::to_string)).collect()
+}
+
+#[cfg(test)]
+mod tests {
+    use super::*;
+    use std::path::PathBuf;
+
+    fn folder() -> PathBuf {
+        let path = std::env::temp_dir().join(format!("registryd-{}", uuid::Uuid::new_v4()));
+        std::fs::create_dir(&path).unwrap();
+        path
+    }
+
+    fn started(folder: &std::path::Path) -> (Arc<Writer>, WriterThread, Arc<Tags>) {
+        let room = Arc::new(Room::new(folder.to_path_buf(), 0, 0));
+        let writer = Writer::new(Commits::new(), Duration::from_secs(60), room);
+        let tags = Arc::new(Tags::default());
+        let database = Database::open(folder, true).unwrap();
+        let thread = writer.start(database, tags.clone(), HashMap::new()).unwrap();
+        (writer, thread, tags)
+    }
+
+    fn put(tag: &str) -> Change {
+        let (repo, digest) = ("acme/web".to_string(), "sha256:a".to_string());
+        let facts = Facts { media_type: "x/a".to_string(), ..Facts::default() };
+        Change::PutManifest { repo, digest, facts, tag: Some(tag.to_string()) }
+    }
+
+    #[tokio::test]
+    async fn a_change_is_durable_and_visible_after_its_reply() {
+        let folder = folder();
+        let (writer, thread, tags) = started(&folder);
+        assert_eq!(writer.write(put("v1")).await, Ok(Done::Nothing));
+        assert_eq!(tags.by_tag("acme/web", "v1").unwrap().media_type, "x/a");
+        writer.note(Change::OpenUpload { repo: "acme/web".to_string(), number: 1 });
+        let remove = Change::RemoveTag { repo: "acme/web".to_string(), tag: "v1".to_string() };
+        assert_eq!(writer.write(remove.clone()).await, Ok(Done::Removed(vec!["v1".to_string()])));
+        assert_eq!(writer.write(remove).await, Ok(Done::Removed(Vec::new())));
+        writer.note(Change::PassUpload { repo: "acme/web".to_string(), number: 2 });
+        writer.note(Change::BeginUploads { repo: "other/web".to_string(), number: 7 });
+        writer.note(Change::OpenUpload { repo: "other/web".to_string(), number: 9 });
+        assert_eq!(writer.end(thread).await, Ok(()));
+        assert_eq!(writer.write(put("v2")).await, Err(WriteFailure::Unavailable));
+        let rows = Database::open(&folder, true).unwrap().read().unwrap();
+        assert_eq!((rows.tags.len(), rows.manifests.len(), rows.uploads.len()), (0, 1, 2));
+        assert_eq!(rows.recorded, [("acme".to_string(), 2), ("other".to_string(), 7)].into());
+        std::fs::remove_dir_all(folder).unwrap();
+    }
+
+    #[tokio::test]
+    async fn a_change_that_nobody_waits_for_is_made_after_a_while() {
+        let folder = folder();
+        let (writer, thread, _) = started(&folder);
+        writer.note(Change::OpenUpload { repo: "acme/web".to_string(), number: 1 });
+        assert_eq!(writer.commits.total(), 0);
+        tokio::time::sleep(REST + Duration::from_millis(500)).await;
+        assert_eq!(writer.commits.total(), 1);
+        assert_eq!(writer.end(thread).await, Ok(()));
+        std::fs::remove_dir_all(folder).unwrap();
+    }
+
+    #[tokio::test]
+    async fn nothing_is_made_after_a_failure() {
+        let folder = folder();
+        let (writer, thread, tags) = started(&folder);
+        assert_eq!(writer.write(put("v1")).await, Ok(Done::Nothing));
+        writer.fail("the disk is full".to_string());
+        assert_eq!(writer.write(put("v2")).await, Err(WriteFailure::Unavailable));
+        assert_eq!(writer.failure().await, "the disk is full");
+        assert_eq!(writer.end(thread).await, Err("the disk is full".to_string()));
+        assert_eq!(tags.by_tag("acme/web", "v2"), None);
+        std::fs::remove_dir_all(folder).unwrap();
+    }
+}

@@ -1,0 +1,289 @@
+//! Manifests and tags.
+use crate::database::writer::WriteFailure;
+use crate::endpoints::registry::{empty, with_body, Call, HandlerResult, Registry};
+use crate::http::conditions::{check_match, entity_tag, has_content, not_modified};
+use crate::http::content::RequestContent;
+use crate::http::fault::Fault;
+use crate::http::pages::{page_response, WantedPage};
+use crate::metadata::clock::now;
+use crate::metadata::document::{self, Document, Facts};
+use crate::metadata::manifest_table::{is_tag, Kept, NamedManifest, Removal};
+use crate::metadata::media_type::{check_inert, media_type_of, MediaType};
+use crate::metadata::repositories::{tenant_of, Limit};
+use crate::metadata::turns::Turn;
+use crate::store::client::StoreUnavailable;
+use crate::store::frames::{Reason, Refusal};
+use bytes::Bytes;
+use hyper::header::IF_MATCH;
+use hyper::{Body, StatusCode};
+use serde_json::json;
+use sha2::{Digest, Sha256};
+use std::future::Future;
+
+/// The maximum number of look-ups of a reference before the client is asked to retry.
+const LOOK_UPS: usize = 8;
+
+/// Returns whether a reference is a digest and not a tag.
+pub fn is_digest(reference: &str) -> bool {
+    reference.contains(':')
+}
+
+/// Finds the manifest of a reference.
+async fn look_up(call: &Call, reference: &str) -> Result<NamedManifest, Fault> {
+    let tags = &call.registry.tags;
+    if !is_digest(reference) {
+        let unknown = || if call.has_tenant() { Fault::manifest_unknown() } else { Fault::tenant_unknown(&call.repo) };
+        return tags.by_tag(&call.repo, reference).ok_or_else(unknown);
+    }
+    if let Some(named) = tags.by_digest(&call.repo, reference) {
+        tags.touch(&call.repo, reference);
+        return Ok(named);
+    }
+    // The store checks the name and the digest. A manifest that it has is being put or deleted at this moment, or it was put
+    // when the program or the machine stopped.
+    let size = call.registry.store.stat_manifest(&call.repo, reference).await??;
+    if !tags.is_kept() || tags.is_known(&call.repo, reference) {
+        return Err(Fault::manifest_unknown());
+    }
+    adopt(call, reference, size).await
+}
+
+/// Adds a manifest of `size` bytes that the store has and the catalog has not: the program stopped before it was added. Its
+/// media type is that of its content.
+async fn adopt(call: &Call, digest: &str, size: u64) -> Result<NamedManifest, Fault> {
+    let tags = &call.registry.tags;
+    let _reserved = call.reserve(size).await?;
+    let _turn = call.registry.turns.take(&call.repo, digest).await;
+    if !tags.is_known(&call.repo, digest) {
+        let content = [call.registry.store.get_manifest(&call.repo, digest).await??];
+        let facts = tokio::task::block_in_place(|| facts_of_stored(&content)).ok_or_else(Fault::manifest_unknown)?;
+        match tags.put(&call.repo, digest, facts.clone(), None).await {
+            // It is added by a later request.
+            Err(WriteFailure::NoRoom) => {
+                return Ok(NamedManifest { digest: digest.to_string(), media_type: facts.media_type, size });
+            }
+            added => added?,
+        }
+        call.registry.repositories.add(&call.repo);
+        tracing::info!(repo = %call.repo, digest, "found a manifest whose push was interrupted");
+    }
+    tags.by_digest(&call.repo, digest).ok_or_else(Fault::manifest_unknown)
+}
+
+/// Returns the facts of a manifest that the store has, by its content alone.
+fn facts_of_stored(content: &[Bytes]) -> Option<Facts> {
+    let document = document::read(content).ok()?;
+    let media_type = media_type_of(None, &document).ok()?.text;
+    Some(document.facts_of_stored(media_type, size_of(content)))
+}
+
+/// Finds the manifest of a reference, and asks the store about it. The manifest may be deleted after the look-up while its
+/// tag moves to another one. Then the reference is looked up again.
+async fn read<T, A>(call: &Call, reference: &str, ask: impl Fn(NamedManifest) -> A) -> Result<(NamedManifest, T), Fault>
+where
+    A: Future<Output = Result<Result<T, Refusal>, Fault>>,
+{
+    for _ in 0..LOOK_UPS {
+        let named = look_up(call, reference).await?;
+        match ask(named.clone()).await? {
+            Err(Refusal { reason: Reason::ManifestUnknown, .. }) => {}
+            answer => return Ok((named, answer?)),
+        }
+    }
+    Err(Fault::tag_changing())
+}
+
+/// end-3: returns a manifest. The response holds memory for its content until it is sent.
+pub async fn get(call: &Call, reference: &str) -> HandlerResult {
+    let ask = |named: NamedManifest| async move {
+        let reserved = call.reserve(named.size).await?;
+        let content = call.registry.store.get_manifest(&call.repo, &named.digest).await?;
+        Ok(content.map(|bytes| (bytes, reserved)))
+    };
+    let (NamedManifest { digest, media_type, .. }, (bytes, reserved)) = read(call, reference, ask).await?;
+    check_match(call, Some(&digest))?;
+    if has_content(call, &digest) {
+        return not_modified(&digest);
+    }
+    let headers = [("Content-Type", &*media_type), ("Docker-Content-Digest", &*digest), ("ETag", &*entity_tag(&digest))];
+    let mut response = with_body(StatusCode::OK, &headers, Body::from(bytes))?;
+    response.extensions_mut().insert(reserved);
+    Ok(response)
+}
+
+/// end-3: returns the headers of a manifest, with its length.
+pub async fn head(call: &Call, reference: &str) -> HandlerResult {
+    let ask = |named: NamedManifest| async move { Ok(call.registry.store.stat_manifest(&call.repo, &named.digest).await?) };
+    let (NamedManifest { digest, media_type, .. }, size) = read(call, reference, ask).await?;
+    check_match(call, Some(&digest))?;
+    if has_content(call, &digest) {
+        return not_modified(&digest);
+    }
+    let (size, tag) = (size.to_string(), entity_tag(&digest));
+    let headers =
+        [("Content-Type", &*media_type), ("Docker-Content-Digest", &*digest), ("ETag", &*tag), ("Content-Length", &*size)];
+    empty(StatusCode::OK, &headers)
+}
+
+/// end-7: puts a manifest under a tag or by its digest.
+pub async fn put(call: &Call, reference: &str, content: &mut RequestContent) -> HandlerResult {
+    if !is_digest(reference) && !is_tag(reference) {
+        return Err(Fault::manifest_invalid("the reference is neither a tag nor a digest"));
+    }
+    let (tags, bounds) = (&call.registry.tags, &call.registry.bounds_of(&call.repo));
+    let exceeds = |excess| Fault::bound(excess, tenant_of(&call.repo));
+    tags.check_push(&call.repo, reference, content.len, bounds).map_err(exceeds)?;
+    let bytes = content.manifest().await?;
+    // Parsing a long manifest takes long, so it runs in a blocking thread.
+    let (digest, document) = tokio::task::block_in_place(|| (digest_of(&bytes), document::read(&bytes)));
+    if is_digest(reference) {
+        check_digest(&digest, reference)?;
+    }
+    let document = document?;
+    let given = media_type_of(call.header("content-type"), &document)?;
+    check_inert(&given.text)?;
+    let tag = Some(reference).filter(|reference| !is_digest(reference));
+    let condition = turn_by_condition(call, reference).await?;
+    let turn = call.registry.turns.take(&call.repo, &digest).await;
+    let facts = facts_to_store(call, &digest, document, given, size_of(&bytes))?;
+    let room = tags.reserve(&call.repo, (&digest, facts.size), tag, bounds).map_err(exceeds)?;
+    let changing = call.registry.repositories.begin_change(&call.repo);
+    call.check_limit(call.registry.store.put_manifest(&call.repo, &bytes).await?, Limit::Manifests)?;
+    let (subject, missing) = (facts.subject.clone(), tags.count_missing(&call.repo, &facts.lists));
+    tags.put(&call.repo, &digest, facts, tag).await?;
+    drop(room);
+    // With a database, the repository is recorded there from now on.
+    call.registry.repositories.add(&call.repo);
+    drop((changing, turn, condition));
+    accepted(call, &digest, subject.as_deref(), missing)
+}
+
+/// Returns the digest of the manifest that a reference names now.
+fn current(call: &Call, reference: &str) -> Option<String> {
+    let tags = &call.registry.tags;
+    let named = if is_digest(reference) { tags.by_digest(&call.repo, reference) } else { tags.by_tag(&call.repo, reference) };
+    named.map(|named| named.digest)
+}
+
+/// Checks the header `If-Match` of a push. Pushes to one tag with this header take turns, so that each checks what the last one put.
+/// A push without it does not wait.
+async fn turn_by_condition<'c>(call: &'c Call, reference: &str) -> Result<Option<Turn<'c>>, Fault> {
+    let has_turn = call.head.headers.contains_key(IF_MATCH) && !is_digest(reference);
+    let turn = if has_turn { Some(call.registry.turns.take(&call.repo, reference).await) } else { None };
+    check_match(call, current(call, reference).as_deref())?;
+    Ok(turn)
+}
+
+/// Returns the response to a manifest that was put. `missing` is how many of the manifests that it lists are missing.
+fn accepted(call: &Call, digest: &str, subject: Option<&str>, missing: usize) -> HandlerResult {
+    let location = format!("/v2/{}/manifests/{digest}", call.repo);
+    let mut headers = vec![("Location", &*location), ("Docker-Content-Digest", digest)];
+    headers.extend(subject.map(|subject| ("OCI-Subject", subject)));
+    let sparse = warning(&format!("the repository lacks {missing} of the manifests that the index lists"));
+    if missing > 0 {
+        headers.push(("Warning", &sparse));
+    }
+    let volatile = warning("the registry keeps this in memory: it is lost when the registry ends");
+    if !call.registry.tags.is_kept() {
+        headers.push(("Warning", &volatile));
+    }
+    empty(StatusCode::CREATED, &headers)
+}
+
+/// Returns the value of a header `Warning` (OCI Distribution Specification 1.1, "Warnings").
+fn warning(text: &str) -> String {
+    format!("299 - \"{text}\"")
+}
+
+/// Returns the length of a manifest, in bytes.
+fn size_of(parts: &[Bytes]) -> u64 {
+    parts.iter().map(|part| part.len() as u64).sum()
+}
+
+/// Returns the digest by which the store stores a manifest.
+fn digest_of(parts: &[Bytes]) -> String {
+    let mut hash = Sha256::new();
+    for part in parts {
+        hash.update(part);
+    }
+    format!("sha256:{:x}", hash.finalize())
+}
+
+/// Fails if the reference is a digest other than the manifest's. The store uses only SHA-256 for manifests.
+fn check_digest(digest: &str, reference: &str) -> Result<(), Fault> {
+    let fault = |message| Err(Fault::new(StatusCode::BAD_REQUEST, "DIGEST_INVALID", message));
+    if !reference.starts_with("sha256:") {
+        return fault("manifests are stored by sha256 only");
+    }
+    if digest != reference {
+        return fault("the digest differs from the manifest's");
+    }
+    Ok(())
+}
+
+/// Returns the facts of a manifest. Its media type is the stored one if the repository already has the manifest, and else the
+/// given one. Fails if they differ.
+fn facts_to_store(call: &Call, digest: &str, document: Document, given: MediaType, size: u64) -> Result<Facts, Fault> {
+    let media_type = match call.registry.tags.by_digest(&call.repo, digest) {
+        Some(stored) if given.is_given && !stored.media_type.eq_ignore_ascii_case(&given.text) => {
+            let message = format!("the repository has the manifest with media type {}, not {}", stored.media_type, given.text);
+            return Err(Fault::manifest_invalid(message));
+        }
+        Some(stored) => stored.media_type,
+        None => given.text,
+    };
+    document.facts(media_type, size)
+}
+
+/// end-9: deletes a manifest and its tags, or one tag.
+pub async fn delete(call: &Call, reference: &str) -> HandlerResult {
+    if let Some(digest) = current(call, reference) {
+        check_match(call, Some(&digest))?;
+    }
+    if is_digest(reference) {
+        let deleted = delete_manifest(&call.registry, &call.repo, reference, call.registry.asked_removal).await?;
+        if let Err(Kept::ListedBy(index)) = deleted {
+            call.registry.store.stat_manifest(&call.repo, reference).await??;
+            return Err(Fault::listed(&index));
+        }
+    } else if !call.registry.tags.remove_tag(&call.repo, reference).await? {
+        return Err(Fault::manifest_unknown());
+    }
+    empty(StatusCode::ACCEPTED, &[])
+}
+
+/// Deletes a manifest and its tags. They are hidden from now on, and are shown again if the store does not delete it. Nothing
+/// is deleted if the manifest is to be kept. The repository is removed if it is empty then.
+pub async fn delete_manifest(registry: &Registry, repo: &str, digest: &str, removal: Removal) -> Result<Result<(), Kept>, Fault> {
+    let Registry { store, tags, turns, .. } = registry;
+    let turn = turns.take(repo, digest).await;
+    let blobs = registry.blobs_to_loosen(repo, digest).await?;
+    let removed = match tags.begin_removal(repo, digest, removal).await? {
+        Ok(removed) => removed,
+        Err(kept) => return Ok(Err(kept)),
+    };
+    let deleted = store.delete_manifest(repo, digest).await;
+    match &deleted {
+        Ok(Ok(())) => {
+            tags.remove_manifest(repo, digest, now());
+            registry.loosen(repo, &blobs);
+        }
+        Ok(Err(Refusal { reason: Reason::ManifestUnknown, .. })) => tags.remove_manifest(repo, digest, now()),
+        Ok(Err(_)) => tags.undo_removal(repo, digest, removed).await?,
+        Err(StoreUnavailable) => {}
+    }
+    drop(turn);
+    registry.end_delete(repo, &deleted).await;
+    Ok(Ok(deleted??))
+}
+
+/// end-8: returns a page of the tags.
+pub async fn tags(call: &Call) -> HandlerResult {
+    let wanted = WantedPage::of(call.head.uri.query())?;
+    let page = call.registry.tags.page(&call.repo, &wanted.last, wanted.most);
+    let unknown = || Fault::new(StatusCode::NOT_FOUND, "NAME_UNKNOWN", "the repository has no manifests");
+    let page = page.ok_or_else(|| if call.has_tenant() { unknown() } else { Fault::tenant_unknown(&call.repo) })?;
+    let last = page.items.last().filter(|_| page.more);
+    let link = last.map(|last| wanted.next(&format!("/v2/{}/tags/list", call.repo), last, &[]));
+    page_response(&json!({ "name": call.repo, "tags": page.items }), link)
+}

@@ -1,0 +1,165 @@
+//! The transfer of a leased blob to a client, in pieces.
+use crate::endpoints::registry::Registry;
+use crate::store::client::{Answer, LeasedBlob, StoreUnavailable};
+use crate::store::connection::WHOLE_LEN;
+use crate::store::frames::Refusal;
+use bytes::Bytes;
+use hyper::body::Sender;
+use hyper::Body;
+use std::collections::VecDeque;
+use std::sync::Arc;
+use std::time::Duration;
+use tokio::task::JoinHandle;
+
+/// The maximum number of bytes that one read returns.
+pub const PIECE_LEN: u64 = WHOLE_LEN as u64;
+
+/// The number of pieces that are read at once, each on its own connection to the store. One is taken out of its pipe while
+/// the next is written into another.
+const READS_AT_ONCE: usize = 2;
+
+/// The number of bytes that a transfer holds if its tenant holds much.
+pub const LEAST_HELD: u64 = 128 << 10;
+
+/// The length of the pieces of such a transfer. It reads one at a time. The pieces that are read, wait and are sent, together
+/// with the server's buffer of 64 KiB, are within `LEAST_HELD`.
+const SHORT_PIECE_LEN: u64 = LEAST_HELD / 8;
+
+/// The time for which a client may take no byte of a piece.
+const IDLE_TIME: Duration = Duration::from_secs(300);
+
+/// A part of a response's content.
+#[derive(Debug, PartialEq, Eq)]
+pub enum Span {
+    Text(Bytes),
+    /// The bytes of the blob from one offset to another exclusive.
+    Content(u64, u64),
+}
+
+impl Span {
+    /// Returns the number of bytes.
+    pub fn len(&self) -> u64 {
+        match self {
+            Span::Text(text) => text.len() as u64,
+            Span::Content(start, end) => end - start,
+        }
+    }
+}
+
+/// How much of a blob a transfer reads ahead of its client.
+pub struct Pace {
+    /// The maximum length of a piece.
+    piece_len: u64,
+    /// The number of pieces that are read at once.
+    reads_at_once: usize,
+}
+
+impl Pace {
+    /// Returns the pace of a transfer that holds memory for long pieces, or only `LEAST_HELD` bytes.
+    pub fn of(has_most: bool) -> Pace {
+        match has_most {
+            true => Pace { piece_len: PIECE_LEN, reads_at_once: READS_AT_ONCE },
+            false => Pace { piece_len: SHORT_PIECE_LEN, reads_at_once: 1 },
+        }
+    }
+}
+
+/// A piece of a response's content.
+enum Piece {
+    Text(Bytes),
+    /// A read in progress.
+    Read(JoinHandle<Answer<Bytes>>),
+}
+
+/// The transfer of a leased blob to a client.
+pub struct Transfer {
+    registry: Arc<Registry>,
+    leased: LeasedBlob,
+    digest: String,
+    /// The spans from the next piece on.
+    spans: VecDeque<Span>,
+    pace: Pace,
+    /// The pieces that are being read, in order.
+    pieces: VecDeque<Piece>,
+}
+
+/// The reason why a transfer stopped early.
+enum TransferError {
+    StoreUnavailable,
+    Refused(Refusal),
+    /// The client disconnected, or takes no bytes.
+    Left,
+}
+
+impl From<StoreUnavailable> for TransferError {
+    fn from(_: StoreUnavailable) -> TransferError {
+        TransferError::StoreUnavailable
+    }
+}
+
+impl Transfer {
+    /// Begins a transfer, and returns the body that it fills. The lease is released after the last read, or if the client
+    /// disconnects.
+    pub fn begin(registry: &Arc<Registry>, leased: LeasedBlob, digest: &str, spans: VecDeque<Span>, pace: Pace) -> Body {
+        let (sender, body) = Body::channel();
+        let (registry, digest, pieces) = (registry.clone(), digest.to_string(), VecDeque::new());
+        tokio::spawn(Transfer { registry, leased, digest, spans, pace, pieces }.send(sender));
+        body
+    }
+
+    /// Sends the bytes, and releases the lease after its last read.
+    async fn send(mut self, mut sender: Sender) {
+        if let Err(stopped) = self.send_pieces(&mut sender).await {
+            if let TransferError::Refused(refusal) = stopped {
+                tracing::error!(reason = ?refusal.reason, "cannot read a leased blob");
+            }
+            sender.abort();
+        }
+        for piece in self.pieces.drain(..) {
+            if let Piece::Read(read) = piece {
+                let _ = read.await;
+            }
+        }
+        let number = self.leased.number;
+        if let Ok(Err(refusal)) = self.registry.store.give_back(number).await {
+            tracing::error!(reason = ?refusal.reason, "cannot release a lease");
+        }
+    }
+
+    /// Begins to read the next piece, if there is one.
+    fn read_next(&mut self) {
+        let piece = match self.spans.pop_front() {
+            None => return,
+            Some(Span::Text(text)) => Piece::Text(text),
+            Some(Span::Content(start, end)) => {
+                let next = end.min(start + self.pace.piece_len);
+                if next < end {
+                    self.spans.push_front(Span::Content(next, end));
+                }
+                let (registry, digest, number) = (self.registry.clone(), self.digest.clone(), self.leased.number);
+                Piece::Read(tokio::spawn(async move { registry.store.read(number, &digest, start, next - 1).await }))
+            }
+        };
+        self.pieces.push_back(piece);
+    }
+
+    /// Sends the bytes piece by piece. It holds no connection to the store while it waits for the client.
+    async fn send_pieces(&mut self, sender: &mut Sender) -> Result<(), TransferError> {
+        for _ in 0..self.pace.reads_at_once {
+            self.read_next();
+        }
+        while let Some(piece) = self.pieces.pop_front() {
+            let bytes = match piece {
+                Piece::Text(text) => text,
+                Piece::Read(read) => read.await.map_err(|_| StoreUnavailable)??.map_err(TransferError::Refused)?,
+            };
+            self.read_next();
+            let count = bytes.len();
+            match tokio::time::timeout(IDLE_TIME, sender.send_data(bytes)).await {
+                Ok(Ok(())) => self.registry.metrics.sent(count),
+                Ok(Err(_)) | Err(_) => return Err(TransferError::Left),
+            }
+        }
+        Ok(())
+    }
+}

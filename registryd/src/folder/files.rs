@@ -1,0 +1,107 @@
+//! The folder of a registry that survives restarts: its files.
+use crate::database::sqlite::FILE_NAME;
+use crate::folder::disk_room::Room;
+use crate::folder::log_end::is_of_log;
+use std::io;
+use std::path::{Path, PathBuf};
+use std::sync::Arc;
+
+/// The folder.
+pub struct Folder {
+    path: PathBuf,
+    /// The room on its disk.
+    pub room: Arc<Room>,
+}
+
+/// The file by which the store is asked to rewrite its log.
+const REWRITE: &str = "rewrite";
+
+/// The file by which a start of the store goes on with what is left of a damaged log.
+const ACCEPT_LOSS: &str = "accept-loss";
+
+/// Lets the next start of the store go on with what is left of a damaged log. It removes the file.
+pub fn accept_damage(path: &Path) -> io::Result<()> {
+    std::fs::File::create(path.join(ACCEPT_LOSS)).map(drop)
+}
+
+/// Removes the file that a start has left whose store did not start.
+pub fn forget_acceptance(path: &Path) -> io::Result<()> {
+    match std::fs::remove_file(path.join(ACCEPT_LOSS)) {
+        Err(error) if error.kind() != io::ErrorKind::NotFound => Err(error),
+        _ => Ok(()),
+    }
+}
+
+/// Returns the length of the store's log in a folder, in bytes, or `None` if there is no log.
+pub fn log_length(path: &Path) -> Option<u64> {
+    let files = std::fs::read_dir(path).ok()?.flatten();
+    let lengths = files.filter(|file| file.file_name().to_str().map_or(false, is_of_log));
+    lengths.map(|file| file.metadata().map_or(0, |data| data.len())).reduce(|sum, length| sum + length)
+}
+
+impl Folder {
+    pub fn new(path: PathBuf, room: Arc<Room>) -> Folder {
+        Folder { path, room }
+    }
+
+    pub fn path(&self) -> &Path {
+        &self.path
+    }
+
+    /// Returns the length of the log, in bytes.
+    pub fn log_bytes(&self) -> u64 {
+        log_length(&self.path).unwrap_or(0)
+    }
+
+    /// Asks the store to rewrite its log. It looks for the request once a second.
+    pub fn ask_for_rewriting(&self) -> io::Result<()> {
+        self.room.prepare_rewriting(self.log_bytes());
+        std::fs::File::create(self.path.join(REWRITE)).map(drop)
+    }
+
+    /// Returns whether the store has not yet seen the request.
+    pub fn is_rewriting_asked(&self) -> bool {
+        self.path.join(REWRITE).exists()
+    }
+
+    /// Returns the length of the database, in bytes, with the transactions that are not yet in its file.
+    pub fn database_bytes(&self) -> u64 {
+        self.bytes(FILE_NAME) + self.bytes(&format!("{FILE_NAME}-wal"))
+    }
+
+    /// Returns the length of a file of the folder, or 0 if there is none.
+    fn bytes(&self, name: &str) -> u64 {
+        std::fs::metadata(self.path.join(name)).map_or(0, |file| file.len())
+    }
+}
+
+#[cfg(test)]
+mod tests {
+    use super::*;
+
+    fn folder_at(path: PathBuf) -> Folder {
+        Folder::new(path.clone(), Arc::new(Room::new(path, 0, 0)))
+    }
+
+    #[test]
+    fn the_log_has_several_files() {
+        let path = std::env::temp_dir().join(format!("registryd-folder-{}", std::process::id()));
+        std::fs::create_dir(&path).unwrap();
+        assert_eq!(log_length(&path), None);
+        for (name, text) in [("base.3", "123"), ("log.4", "12345"), ("log.new", "x"), ("lock", "x"), ("log.x", "x")] {
+            std::fs::write(path.join(name), text).unwrap();
+        }
+        assert_eq!(log_length(&path), Some(8));
+        let folder = folder_at(path.clone());
+        assert!(!folder.is_rewriting_asked());
+        folder.ask_for_rewriting().unwrap();
+        assert!(path.join("rewrite").exists() && folder.is_rewriting_asked());
+        std::fs::remove_dir_all(path).unwrap();
+    }
+
+    #[test]
+    fn a_folder_that_is_not_there_is_empty() {
+        let folder = folder_at(PathBuf::from("/no/such/folder"));
+        assert_eq!((folder.log_bytes(), folder.database_bytes()), (0, 0));
+    }
+}

@@ -1,0 +1,85 @@
+//! The room that is held after the ends of files to which changes are added, so that no other program takes it between a look at the
+//! disk and a write.
+use crate::database::sqlite::FILE_NAME;
+use crate::folder::log_end::last_file;
+use std::fs::{File, OpenOptions};
+use std::io;
+use std::os::unix::io::AsRawFd;
+use std::path::{Path, PathBuf};
+use std::sync::Mutex;
+
+/// What is held for a transaction of the database, in bytes.
+const TRANSACTION: u64 = 256 << 10;
+
+/// The number and the path of the last file of the log after whose end room is held.
+#[derive(Default)]
+pub struct Held(Mutex<Option<(u64, PathBuf)>>);
+
+/// Opens a file to change it. Returns its length too.
+fn open(path: &Path) -> io::Result<(File, u64)> {
+    let file = OpenOptions::new().write(true).open(path)?;
+    let length = file.metadata()?.len();
+    Ok((file, length))
+}
+
+/// Holds this number of bytes after the end of a file, whose length stays. Room that is held already counts.
+fn hold_after(path: &Path, bytes: u64) -> io::Result<()> {
+    let (file, length) = open(path)?;
+    let number = |bytes| libc::off_t::try_from(bytes).map_err(|_| io::Error::from(io::ErrorKind::InvalidInput));
+    // SAFETY: the call only takes numbers; the descriptor is open.
+    match unsafe { libc::fallocate(file.as_raw_fd(), libc::FALLOC_FL_KEEP_SIZE, number(length)?, number(bytes)?) } {
+        0 => Ok(()),
+        _ => Err(io::Error::last_os_error()),
+    }
+}
+
+/// Releases what is held after the end of a file that no longer grows.
+fn release(path: &Path) -> io::Result<()> {
+    let (file, length) = open(path)?;
+    file.set_len(length)
+}
+
+impl Held {
+    /// Holds this number of bytes for the log in a folder, and some for the database. Returns whether the disk has the room. A file
+    /// system that cannot hold room has it.
+    pub fn hold(&self, folder: &Path, bytes: u64) -> bool {
+        let mut held = self.0.lock().unwrap();
+        if let Some(last) = last_file(folder) {
+            // A look may miss the last name while others are made. Only a file with a later one does not grow.
+            match &*held {
+                Some((number, _)) if *number >= last.number => {}
+                before => {
+                    // It may have been replaced by a rewriting.
+                    let _ = before.as_ref().map(|(_, path)| release(path));
+                    *held = Some((last.number, last.path));
+                }
+            }
+        }
+        let of_database = folder.join(format!("{FILE_NAME}-wal"));
+        let has_room =
+            |path: &Path, bytes| !matches!(hold_after(path, bytes), Err(error) if error.raw_os_error() == Some(libc::ENOSPC));
+        held.as_ref().map_or(true, |(_, path)| has_room(path, bytes)) && has_room(&of_database, TRANSACTION)
+    }
+}
+
+#[cfg(test)]
+mod tests {
+    use super::*;
+    use std::os::unix::fs::MetadataExt;
+
+    #[test]
+    fn room_is_held_after_the_end_of_the_last_file_alone() {
+        let folder = std::env::temp_dir().join(format!("registryd-held-{}", uuid::Uuid::new_v4()));
+        std::fs::create_dir(&folder).unwrap();
+        let (first, second) = (folder.join("log.1"), folder.join("log.2"));
+        std::fs::write(&first, "abc").unwrap();
+        let held = Held::default();
+        let taken = |path: &Path| std::fs::metadata(path).unwrap().blocks() * 512;
+        assert!(held.hold(&folder, 1 << 20) && taken(&first) >= 1 << 20);
+        std::fs::write(&second, "abcd").unwrap();
+        assert!(held.hold(&folder, 1 << 20) && taken(&first) < 1 << 20 && taken(&second) >= 1 << 20);
+        assert_eq!((std::fs::read(&first).unwrap(), std::fs::read(&second).unwrap()), (b"abc".to_vec(), b"abcd".to_vec()));
+        assert!(Held::default().hold(Path::new("/no/such/folder"), 1));
+        std::fs::remove_dir_all(folder).unwrap();
+    }
+}

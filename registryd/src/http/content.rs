@@ -1,0 +1,230 @@
+//! The content of a request, read in pieces of bounded length.
+use bytes::Bytes;
+use hyper::body::HttpBody;
+use hyper::{Body, Response, StatusCode};
+use std::sync::Arc;
+use std::time::Duration;
+
+use crate::http::exchange::Exchange;
+use crate::http::fault::Fault;
+use crate::http::in_flight::{Holder, Memory, Reserved};
+use crate::operation::memory_reserve;
+use crate::operation::metrics::Metrics;
+use crate::store::connection::WHOLE_LEN;
+
+/// The maximum length of a piece. A request holds the pieces that are being sent, one that waits, and one that is being
+/// read.
+pub const PIECE_LEN: usize = WHOLE_LEN;
+
+/// The maximum number of bytes of a request that are held in memory.
+pub const HELD_LEN: u64 = 4 * PIECE_LEN as u64;
+
+/// The longest manifest, in bytes (the specification asks for at least 4 MiB).
+pub const MAX_MANIFEST: usize = 4_194_304;
+
+/// The time for which a client may send nothing, if its connection has no other limit.
+const IDLE_TIME: Duration = Duration::from_secs(60);
+
+/// The maximum number of bytes that are read and dropped after a request failed, so that the client can read the response.
+const DRAIN_LEN: usize = 64 << 20;
+
+/// The time limit for reading and dropping them.
+const DRAIN_TIME: Duration = Duration::from_secs(60);
+
+/// The event after a piece.
+#[derive(Clone, Copy, Debug, PartialEq, Eq)]
+pub enum Then {
+    /// Possibly another piece.
+    More,
+    /// The end of the content.
+    End,
+    /// A premature end: the client disconnected or stopped sending, or the system is out of memory.
+    CutOff,
+}
+
+/// A piece of the content, in parts.
+pub struct Piece {
+    pub parts: Vec<Bytes>,
+    pub then: Then,
+}
+
+/// The part of a request's content that was not read yet.
+pub struct RequestContent {
+    body: Body,
+    /// The length of the content, if the client sent it.
+    pub len: Option<u64>,
+    rest: Bytes,
+    is_awaited: bool,
+    is_begun: bool,
+    metrics: Metrics,
+    pub exchange: Option<Arc<Exchange>>,
+    reserved: Option<Reserved>,
+    /// Whether reading stopped because the system is out of memory.
+    pub is_short: bool,
+}
+
+impl RequestContent {
+    /// Makes the content of a request. If `is_awaited`, the client sends nothing before a 100 response (RFC 9110, 10.1.1).
+    pub fn new(body: Body, is_awaited: bool, metrics: Metrics) -> RequestContent {
+        let len = body.size_hint().exact();
+        let (rest, exchange, reserved) = (Bytes::new(), None, None);
+        RequestContent { body, len, rest, is_awaited, is_begun: false, metrics, exchange, reserved, is_short: false }
+    }
+
+    /// Adds the exchange, whose connection is notified of waits for the body.
+    pub fn of(self, exchange: Option<Arc<Exchange>>) -> RequestContent {
+        RequestContent { exchange, ..self }
+    }
+
+    /// Returns whether the content may have bytes.
+    pub fn is_any(&self) -> bool {
+        self.len != Some(0)
+    }
+
+    /// Reserves the memory for the pieces.
+    pub async fn reserve(&mut self, memory: &Arc<Memory>, holder: &Holder) -> Result<(), Fault> {
+        let bytes = self.len.unwrap_or(u64::MAX).min(HELD_LEN);
+        self.reserved = Some(memory.reserve(holder, bytes).await?);
+        Ok(())
+    }
+
+    fn await_body(&self, is_awaited: bool) {
+        if let Some(exchange) = &self.exchange {
+            exchange.await_body(is_awaited);
+        }
+    }
+
+    /// Reads the next bytes into `rest`. Returns the event if there are none.
+    async fn fill(&mut self) -> Option<Then> {
+        if memory_reserve::is_short() {
+            self.is_short = true;
+            return Some(Then::CutOff);
+        }
+        self.is_begun = true;
+        let idle = self.exchange.as_ref().map_or(IDLE_TIME, |exchange| exchange.idle());
+        self.await_body(true);
+        let came = tokio::time::timeout(idle, self.body.data()).await;
+        self.await_body(false);
+        match came {
+            Ok(Some(Ok(bytes))) => {
+                self.metrics.received(bytes.len());
+                if let Some(exchange) = &self.exchange {
+                    exchange.received(bytes.len());
+                }
+                self.rest = bytes;
+                None
+            }
+            Ok(None) => Some(Then::End),
+            Ok(Some(Err(_))) | Err(_) => Some(Then::CutOff),
+        }
+    }
+
+    /// Returns the next piece. Only the last is shorter than `PIECE_LEN`.
+    pub async fn next(&mut self) -> Piece {
+        let mut parts = Vec::new();
+        let mut room = PIECE_LEN;
+        loop {
+            let count = room.min(self.rest.len());
+            if count > 0 {
+                parts.push(self.rest.split_to(count));
+                room -= count;
+            }
+            if room == 0 {
+                let is_end = self.rest.is_empty() && self.body.is_end_stream();
+                return Piece { parts, then: if is_end { Then::End } else { Then::More } };
+            }
+            if let Some(then) = self.fill().await {
+                return Piece { parts, then };
+            }
+        }
+    }
+
+    /// Returns the content of a manifest. Fails if it is longer than `MAX_MANIFEST`.
+    pub async fn manifest(&mut self) -> Result<Vec<Bytes>, Fault> {
+        let too_long = || {
+            let message = format!("the manifest is longer than {MAX_MANIFEST} bytes");
+            Fault::new(StatusCode::PAYLOAD_TOO_LARGE, "SIZE_INVALID", message)
+        };
+        if self.len.map_or(false, |len| len > MAX_MANIFEST as u64) {
+            return Err(too_long());
+        }
+        let mut all_parts = Vec::new();
+        let mut len = 0;
+        loop {
+            let Piece { parts, then } = self.next().await;
+            len += parts.iter().map(Bytes::len).sum::<usize>();
+            all_parts.extend(parts);
+            match then {
+                _ if len > MAX_MANIFEST => return Err(too_long()),
+                Then::End => return Ok(all_parts),
+                Then::CutOff => return Err(Fault::cut_off()),
+                Then::More => {}
+            }
+        }
+    }
+
+    /// Reads and drops the rest of the content of a failed request, within bounds. If the client still waits for a 100
+    /// response, the content stays with the response instead: dropping it earlier would ask the client to send.
+    pub fn drain(mut self, answer: &mut Response<Body>) {
+        if self.body.is_end_stream() {
+            return;
+        }
+        if self.is_awaited && !self.is_begun {
+            answer.extensions_mut().insert(self.body);
+            return;
+        }
+        self.reserved = None;
+        tokio::spawn(tokio::time::timeout(DRAIN_TIME, async move {
+            let mut left = DRAIN_LEN;
+            while left > 0 && self.fill().await.is_none() {
+                left = left.saturating_sub(self.rest.len());
+            }
+        }));
+    }
+}
+
+#[cfg(test)]
+mod tests {
+    use super::*;
+
+    async fn lens(mut content: RequestContent) -> (Vec<usize>, Then) {
+        let mut lens = Vec::new();
+        loop {
+            let Piece { parts, then } = content.next().await;
+            lens.push(parts.iter().map(Bytes::len).sum());
+            if then != Then::More {
+                return (lens, then);
+            }
+        }
+    }
+
+    #[tokio::test]
+    async fn content_is_cut_into_pieces() {
+        let content_of = |len: usize| RequestContent::new(Body::from(vec![1; len]), false, Metrics::new());
+        assert_eq!(lens(content_of(0)).await, (vec![0], Then::End));
+        assert_eq!(lens(content_of(3)).await, (vec![3], Then::End));
+        assert_eq!(lens(content_of(PIECE_LEN)).await, (vec![PIECE_LEN], Then::End));
+        assert_eq!(lens(content_of(2 * PIECE_LEN + 1)).await, (vec![PIECE_LEN, PIECE_LEN, 1], Then::End));
+    }
+
+    #[tokio::test]
+    async fn a_client_that_breaks_off_leaves_what_came() {
+        let (mut sender, body) = Body::channel();
+        tokio::spawn(async move {
+            sender.send_data(Bytes::from_static(b"abc")).await.unwrap();
+            sender.abort();
+        });
+        let content = RequestContent::new(body, false, Metrics::new());
+        assert_eq!(lens(content).await, (vec![3], Then::CutOff));
+    }
+
+    #[tokio::test]
+    async fn a_manifest_has_a_limit() {
+        for (len, is_kept) in [(MAX_MANIFEST, true), (MAX_MANIFEST + 1, false)] {
+            let (mut sender, body) = Body::channel();
+            tokio::spawn(async move { sender.send_data(vec![1; len].into()).await });
+            let mut content = RequestContent::new(body, false, Metrics::new());
+            assert_eq!(content.manifest().await.is_ok(), is_kept);
+        }
+    }
+}

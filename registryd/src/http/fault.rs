@@ -1,0 +1,271 @@
+//! Failures of requests: a status, a code, and the details in the JSON body (OCI Distribution Specification 1.1, "Error
+//! Codes").
+use crate::database::writer::WriteFailure;
+use crate::metadata::bounds::Excess;
+use crate::metadata::repositories::{tenant_of, Limit, MAX_LASTING, MAX_MANIFESTS, MAX_REPOSITORIES, MAX_UPLOADS};
+use crate::store::client::StoreUnavailable;
+use crate::store::frames::{Reason, Refusal};
+use hyper::header::{HeaderValue, CONTENT_TYPE};
+use hyper::{Body, Response, StatusCode};
+use serde_json::{json, Value};
+
+/// The time after which a client may retry if its tenant has too many uploads, in seconds. `skopeo` retries four times.
+const UPLOADS_REST: &str = "5";
+
+/// A failure of a request.
+#[derive(Debug)]
+pub struct Fault {
+    status: StatusCode,
+    code: &'static str,
+    message: String,
+    detail: Value,
+    header: Option<(&'static str, String)>,
+}
+
+impl Fault {
+    pub fn new(status: StatusCode, code: &'static str, message: impl Into<String>) -> Fault {
+        Fault { status, code, message: message.into(), detail: Value::Null, header: None }
+    }
+
+    fn with_header(self, name: &'static str, value: impl Into<String>) -> Fault {
+        Fault { header: Some((name, value.into())), ..self }
+    }
+
+    fn with_detail(self, detail: Value) -> Fault {
+        Fault { detail, ..self }
+    }
+
+    /// The path does not support the method.
+    pub fn method(allowed: &'static str) -> Fault {
+        Fault::new(StatusCode::METHOD_NOT_ALLOWED, "UNSUPPORTED", "the path does not support the method")
+            .with_header("Allow", allowed)
+    }
+
+    /// The blob would exceed the maximum length.
+    pub fn too_long(most: u64) -> Fault {
+        Fault::new(StatusCode::PAYLOAD_TOO_LARGE, "SIZE_INVALID", format!("a blob may have at most {most} bytes"))
+    }
+
+    /// The path matches no endpoint of the specification.
+    pub fn path() -> Fault {
+        Fault::new(StatusCode::NOT_FOUND, "NAME_UNKNOWN", "the path matches no endpoint")
+    }
+
+    pub fn upload_unknown() -> Fault {
+        Fault::new(StatusCode::NOT_FOUND, "BLOB_UPLOAD_UNKNOWN", "there is no such upload")
+    }
+
+    /// The repository's tenant does not exist.
+    pub fn tenant_unknown(repo: &str) -> Fault {
+        let message = format!("there is no such tenant: {:.255}", tenant_of(repo));
+        Fault::new(StatusCode::NOT_FOUND, "NAME_UNKNOWN", message)
+    }
+
+    pub fn manifest_unknown() -> Fault {
+        Fault::new(StatusCode::NOT_FOUND, "MANIFEST_UNKNOWN", "the repository has no such manifest")
+    }
+
+    /// Each look-up of the tag found a manifest that was deleted before it was read.
+    pub fn tag_changing() -> Fault {
+        Fault::new(StatusCode::SERVICE_UNAVAILABLE, "MANIFEST_UNKNOWN", "the tag changed too often while it was read")
+            .with_header("Retry-After", "1")
+    }
+
+    /// An index of the repository lists the manifest.
+    pub fn listed(index: &str) -> Fault {
+        Fault::new(StatusCode::FORBIDDEN, "DENIED", "an index lists the manifest: delete the index first")
+            .with_detail(json!({ "manifest": index }))
+    }
+
+    /// The content is not a manifest, or differs from its description in the request.
+    pub fn manifest_invalid(message: impl Into<String>) -> Fault {
+        Fault::new(StatusCode::BAD_REQUEST, "MANIFEST_INVALID", message)
+    }
+
+    /// The range of a chunk differs from the range of its bytes.
+    pub fn content_range() -> Fault {
+        Fault::new(StatusCode::BAD_REQUEST, "SIZE_INVALID", "Content-Range is not `<start>-<end>` of the content")
+    }
+
+    /// A chunk does not begin at the end of the upload.
+    pub fn out_of_order(received: u64) -> Fault {
+        Fault::new(StatusCode::RANGE_NOT_SATISFIABLE, "BLOB_UPLOAD_INVALID", format!("{received} bytes were received"))
+            .with_header("Range", range_text(received))
+            .with_detail(json!({ "received": received }))
+    }
+
+    /// The client disconnected or stopped sending.
+    pub fn cut_off() -> Fault {
+        Fault::new(StatusCode::REQUEST_TIMEOUT, "SIZE_INVALID", "the content is incomplete")
+    }
+
+    /// A bug in this program stopped the request.
+    pub fn internal() -> Fault {
+        Fault::new(StatusCode::INTERNAL_SERVER_ERROR, "UNSUPPORTED", "the server failed while it served the request")
+    }
+
+    /// The server is overloaded; the client may retry soon.
+    pub fn unavailable(message: &str) -> Fault {
+        Fault::new(StatusCode::SERVICE_UNAVAILABLE, "TOOMANYREQUESTS", message).with_header("Retry-After", "1")
+    }
+
+    /// The disk of the folder has less free than its minimum.
+    pub fn disk_full(free: u64, min_free: u64) -> Fault {
+        let message = "the disk of the registry is almost full: only reads and deletes are served";
+        Fault::new(StatusCode::INSUFFICIENT_STORAGE, "UNSUPPORTED", message)
+            .with_header("Retry-After", "60")
+            .with_detail(json!({ "free": free, "minimum": min_free }))
+    }
+
+    /// The disk of the folder has no room for a change.
+    pub fn no_room() -> Fault {
+        let message = "the disk of the registry is full: only reads are served";
+        Fault::new(StatusCode::INSUFFICIENT_STORAGE, "UNSUPPORTED", message).with_header("Retry-After", "60")
+    }
+
+    /// The request has no credentials, or they are wrong.
+    pub fn unauthorized(challenge: impl Into<String>) -> Fault {
+        Fault::new(StatusCode::UNAUTHORIZED, "UNAUTHORIZED", "valid credentials are required")
+            .with_header("WWW-Authenticate", challenge)
+    }
+
+    /// The user does not have a right in the repository.
+    pub fn denied(user: &str, right: &str, repo: &str) -> Fault {
+        Fault::new(StatusCode::FORBIDDEN, "DENIED", format!("{user} does not have the right to {right} in {repo}"))
+    }
+
+    /// A call on a repository has reached a limit. The status is 403 because clients do not show the message of a 507. For uploads it
+    /// is 429, since they end without anybody's doing, and clients wait.
+    pub fn limit(limit: Limit, repo: &str) -> Fault {
+        let tenant = tenant_of(repo);
+        let (code, name, most) = match limit {
+            Limit::Uploads => ("TOOMANYREQUESTS", "uploads", MAX_UPLOADS),
+            Limit::LastingUploads => ("TOOMANYREQUESTS", "uploads", MAX_LASTING),
+            Limit::Repositories => ("DENIED", "repositories", MAX_REPOSITORIES),
+            Limit::Manifests => ("DENIED", "manifests", MAX_MANIFESTS),
+        };
+        let message = match limit {
+            Limit::Uploads | Limit::LastingUploads => {
+                format!("tenant {tenant} has {most} open uploads, which is the maximum: retry, or finish or delete one")
+            }
+            Limit::Repositories => {
+                format!("tenant {tenant} has {most} repositories, which is the maximum: delete all that one of them has")
+            }
+            Limit::Manifests => {
+                format!("repository {repo} has {most} manifests, which is the maximum: delete one")
+            }
+        };
+        let detail = json!({ "limit": name, "most": most });
+        match limit {
+            Limit::Uploads | Limit::LastingUploads => {
+                Fault::new(StatusCode::TOO_MANY_REQUESTS, code, message).with_header("Retry-After", UPLOADS_REST)
+            }
+            Limit::Repositories | Limit::Manifests => Fault::new(StatusCode::FORBIDDEN, code, message),
+        }
+        .with_detail(detail)
+    }
+
+    /// A blob is new to a tenant that has the maximum number of blobs. The status is 403 as for the other limits of a tenant.
+    pub fn full_share(tenant: &str, share: u64) -> Fault {
+        let message =
+            format!("tenant {tenant} has {share} different blobs, which is its share: delete one in all its repositories");
+        Fault::new(StatusCode::FORBIDDEN, "DENIED", message).with_detail(json!({ "limit": "blobs", "most": share }))
+    }
+
+    /// A push would exceed a bound on a tenant's manifests or tags. The status is 403 as for the quota.
+    pub fn bound(excess: Excess, tenant: &str) -> Fault {
+        let has_maximum = |most: u64, what: &str| format!("tenant {tenant} may have at most {most} {what}: delete one");
+        let (message, detail) = match excess {
+            Excess::Manifests { most } => (has_maximum(most, "manifests"), json!({ "limit": "tenant_manifests", "most": most })),
+            Excess::Tags { most } => (has_maximum(most, "tags"), json!({ "limit": "tenant_tags", "most": most })),
+            Excess::ManifestBytes { used, added, most } => {
+                let message = format!("tenant {tenant} has {used} bytes of manifests: {added} more exceed the maximum of {most}");
+                (message, json!({ "limit": "tenant_manifest_bytes", "most": most, "used": used }))
+            }
+        };
+        Fault::new(StatusCode::FORBIDDEN, "DENIED", message).with_detail(detail)
+    }
+
+    /// Returns the response, with the failure as JSON.
+    pub fn into_response(self) -> Response<Body> {
+        let Fault { status, code, message, detail, header } = self;
+        let text = json!({ "errors": [{ "code": code, "message": message, "detail": detail }] }).to_string();
+        let mut response = Response::new(Body::from(text + "\n"));
+        *response.status_mut() = status;
+        response.headers_mut().insert(CONTENT_TYPE, HeaderValue::from_static("application/json"));
+        if let Some((name, value)) = header {
+            if let Ok(value) = HeaderValue::from_str(&value) {
+                response.headers_mut().insert(name, value);
+            }
+        }
+        response
+    }
+}
+
+/// Returns the header value for the range of the bytes received. An empty upload has `0-0`, as in other registries, because
+/// the header has no form for an empty range.
+pub fn range_text(received: u64) -> String {
+    format!("0-{}", received.saturating_sub(1))
+}
+
+impl From<StoreUnavailable> for Fault {
+    fn from(_: StoreUnavailable) -> Fault {
+        Fault::new(StatusCode::SERVICE_UNAVAILABLE, "UNSUPPORTED", "the store has ended, or does not reply in time")
+            .with_header("Retry-After", "1")
+    }
+}
+
+impl From<WriteFailure> for Fault {
+    fn from(failure: WriteFailure) -> Fault {
+        match failure {
+            WriteFailure::NoRoom => Fault::no_room(),
+            WriteFailure::Unavailable => {
+                Fault::new(StatusCode::SERVICE_UNAVAILABLE, "UNSUPPORTED", "the database has ended, or does not reply in time")
+                    .with_header("Retry-After", "1")
+            }
+        }
+    }
+}
+
+impl From<Refusal> for Fault {
+    fn from(refusal: Refusal) -> Fault {
+        let Refusal { reason, first, second, digest } = refusal;
+        let soon = |code, message: &str| Fault::new(StatusCode::TOO_MANY_REQUESTS, code, message).with_header("Retry-After", "1");
+        match reason {
+            Reason::NameInvalid => Fault::new(StatusCode::BAD_REQUEST, "NAME_INVALID", "the repository name is invalid"),
+            Reason::DigestInvalid => {
+                Fault::new(StatusCode::BAD_REQUEST, "DIGEST_INVALID", "the digest is invalid, or differs from the content's")
+            }
+            Reason::NameUnknown => Fault::new(StatusCode::NOT_FOUND, "NAME_UNKNOWN", "there is no such tenant or repository"),
+            Reason::UploadUnknown => Fault::upload_unknown(),
+            Reason::SizeInvalid => {
+                Fault::new(StatusCode::PAYLOAD_TOO_LARGE, "SIZE_INVALID", "the content is longer than the maximum of a blob")
+            }
+            Reason::RangeInvalid => Fault::out_of_order(first),
+            Reason::BlobUnknown => Fault::new(StatusCode::NOT_FOUND, "BLOB_UNKNOWN", "the repository has no such blob"),
+            Reason::ManifestInvalid => Fault::manifest_invalid("the content is not a manifest"),
+            Reason::ManifestUnknown => Fault::manifest_unknown(),
+            Reason::ManifestBlobUnknown => {
+                Fault::new(StatusCode::NOT_FOUND, "MANIFEST_BLOB_UNKNOWN", "the repository lacks a blob of the manifest")
+                    .with_detail(json!({ "digest": digest }))
+            }
+            Reason::Quota => Fault::new(StatusCode::FORBIDDEN, "DENIED", "the tenant's quota is exceeded")
+                .with_detail(json!({ "used": first, "quota": second })),
+            Reason::Referenced => Fault::new(StatusCode::FORBIDDEN, "DENIED", "a manifest refers to the blob")
+                .with_detail(json!({ "manifest": digest })),
+            Reason::StoreFull => Fault::new(StatusCode::INSUFFICIENT_STORAGE, "UNSUPPORTED", "the store has no free slot")
+                .with_header("Retry-After", "1"),
+            Reason::TooManyReaders => soon("TOOMANYREQUESTS", "the blob has too many readers"),
+            // Limits are named by `Fault::limit` and `Fault::full_share`, except those of totals that no store reaches.
+            Reason::LimitReached => Fault::new(StatusCode::FORBIDDEN, "DENIED", "a limit of the store is reached"),
+            Reason::Memory => {
+                Fault::new(StatusCode::SERVICE_UNAVAILABLE, "UNSUPPORTED", "out of memory").with_header("Retry-After", "1")
+            }
+            Reason::Busy => soon("TOOMANYREQUESTS", "another request is appending to the upload"),
+            Reason::RepoInUse => Fault::new(StatusCode::CONFLICT, "DENIED", "the repository is in use"),
+            Reason::WeightSpent | Reason::Other(_) => {
+                Fault::new(StatusCode::INTERNAL_SERVER_ERROR, "UNSUPPORTED", "the store sent an unexpected reply")
+            }
+        }
+    }
+}

@@ -1,0 +1,15 @@
+//! HTTP: the connections of clients, what the head and the content of a request say, and the parts of responses.
+pub(crate) mod browser;
+pub(crate) mod conditions;
+pub(crate) mod connections;
+pub(crate) mod content;
+pub(crate) mod exchange;
+pub(crate) mod fault;
+pub(crate) mod framing;
+pub(crate) mod head_lines;
+pub(crate) mod in_flight;
+pub(crate) mod pages;
+pub(crate) mod paths;
+pub(crate) mod ranges;
+pub(crate) mod server;
+pub(crate) mod tls;

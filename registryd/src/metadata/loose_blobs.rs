@@ -1,0 +1,244 @@
+//! The blobs of which it is not known that a manifest refers to them, if such blobs are unlinked after some time.
+//!
+//! A blob is added when it is pushed or mounted, and when a manifest is deleted that refers to it. After the time the store is
+//! asked to unlink it, which it refuses if a manifest refers to it. A request for the blob begins the time anew, because the
+//! client may be about to push a manifest. So the blob that a reply named stays for the time.
+use crate::database::writer::{Change, Writer};
+use crate::endpoints::registry::Registry;
+use crate::http::content::MAX_MANIFEST;
+use crate::http::fault::Fault;
+use crate::http::in_flight::Holder;
+use crate::metadata::document;
+use crate::metadata::turns::{Turn, Turns};
+use crate::store::client::{Answer, StoreUnavailable};
+use crate::store::frames::{Reason, Refusal};
+use std::collections::HashMap;
+use std::sync::{Arc, Mutex};
+use std::time::{Duration, Instant};
+
+/// A repository and a blob's digest.
+pub type Key = (String, String);
+
+/// A blob that is to be unlinked after some time.
+struct Loose {
+    /// The time of the last request for it.
+    since: Instant,
+    /// Whether the store is being asked to unlink it.
+    is_leaving: bool,
+}
+
+/// The blobs that are to be unlinked after some time.
+#[derive(Default)]
+pub struct LooseBlobs {
+    /// Whether blobs are unlinked. Otherwise there are none here.
+    is_on: bool,
+    writer: Option<Arc<Writer>>,
+    by_key: Mutex<HashMap<Key, Loose>>,
+    /// Those who link a blob and those who unlink it take turns.
+    turns: Turns,
+}
+
+impl LooseBlobs {
+    /// Makes the table, with the blobs of a database. Their time begins now.
+    pub fn new(writer: Option<Arc<Writer>>, known: Vec<Key>) -> LooseBlobs {
+        let loose = || Loose { since: Instant::now(), is_leaving: false };
+        let by_key = known.into_iter().map(|key| (key, loose())).collect();
+        LooseBlobs { is_on: true, writer, by_key: Mutex::new(by_key), turns: Turns::default() }
+    }
+
+    /// Notes a request for a blob. Fails if it is being unlinked.
+    pub fn ask(&self, repo: &str, digest: &str) -> Result<(), Fault> {
+        if !self.is_on {
+            return Ok(());
+        }
+        match self.by_key.lock().unwrap().get_mut(&(repo.to_string(), digest.to_string())) {
+            Some(Loose { is_leaving: true, .. }) => Err(Refusal::of(Reason::BlobUnknown).into()),
+            Some(loose) => {
+                loose.since = Instant::now();
+                Ok(())
+            }
+            None => Ok(()),
+        }
+    }
+
+    /// Waits until nobody unlinks a blob, and prevents it until the turn ends.
+    pub async fn begin_link(&self, repo: &str, digest: &str) -> Option<Turn<'_>> {
+        match self.is_on {
+            true => Some(self.turns.take(repo, digest).await),
+            false => None,
+        }
+    }
+
+    /// Adds a blob that was linked, or begins its time anew, unless the store refused to link it.
+    pub fn end_link<T>(&self, repo: &str, digest: &str, answer: &Answer<T>) {
+        if !matches!(answer, Ok(Err(_))) {
+            self.add(repo, digest, |loose| loose.is_leaving = false);
+        }
+    }
+
+    /// Adds a blob, or begins its time anew and changes it.
+    fn add(&self, repo: &str, digest: &str, change: impl FnOnce(&mut Loose)) {
+        if !self.is_on {
+            return;
+        }
+        let mut by_key = self.by_key.lock().unwrap();
+        match by_key.get_mut(&(repo.to_string(), digest.to_string())) {
+            Some(loose) => {
+                loose.since = Instant::now();
+                change(loose);
+                return;
+            }
+            None => {
+                let loose = Loose { since: Instant::now(), is_leaving: false };
+                by_key.insert((repo.to_string(), digest.to_string()), loose);
+            }
+        }
+        drop(by_key);
+        if let Some(writer) = &self.writer {
+            writer.note(Change::AddLooseBlob { repo: repo.to_string(), digest: digest.to_string() });
+        }
+    }
+
+    /// Removes a blob that is unlinked.
+    fn remove(&self, repo: &str, digest: &str) {
+        let removed = self.by_key.lock().unwrap().remove(&(repo.to_string(), digest.to_string()));
+        if let (Some(_), Some(writer)) = (removed, &self.writer) {
+            writer.note(Change::RemoveLooseBlob { repo: repo.to_string(), digest: digest.to_string() });
+        }
+    }
+
+    /// Returns the blobs that nobody has asked for in this time.
+    fn unasked(&self, time: Duration) -> Vec<Key> {
+        let by_key = self.by_key.lock().unwrap();
+        by_key.iter().filter(|(_, loose)| loose.since.elapsed() >= time).map(|(key, _)| key.clone()).collect()
+    }
+
+    /// Marks a blob before the store is asked to unlink it, if nobody has asked for it in this time.
+    fn begin_unlink(&self, key: &Key, time: Duration) -> bool {
+        match self.by_key.lock().unwrap().get_mut(key) {
+            Some(loose) if loose.since.elapsed() >= time => {
+                loose.is_leaving = true;
+                true
+            }
+            _ => false,
+        }
+    }
+
+    /// Removes the mark of a blob that the store did not unlink.
+    fn undo_unlink(&self, key: &Key) {
+        if let Some(loose) = self.by_key.lock().unwrap().get_mut(key) {
+            loose.is_leaving = false;
+        }
+    }
+
+    /// Removes a blob to which a manifest refers, unless a manifest that refers to it was deleted in this time.
+    fn keep_linked(&self, key: &Key, time: Duration) {
+        self.undo_unlink(key);
+        if self.begin_unlink(key, time) {
+            self.remove(&key.0, &key.1);
+        }
+    }
+}
+
+impl Registry {
+    /// Returns the blobs of a manifest that is going to be deleted, if blobs are unlinked after some time.
+    pub async fn blobs_to_loosen(&self, repo: &str, digest: &str) -> Result<Vec<String>, Fault> {
+        if !self.loose.is_on {
+            return Ok(Vec::new());
+        }
+        let size = self.tags.any_facts(repo, digest).map_or(MAX_MANIFEST as u64, |(facts, _)| facts.size);
+        let holder = Holder { sharer: self.store.sharer(repo), connection: None };
+        let _reserved = self.memory.reserve(&holder, size).await?;
+        match self.store.get_manifest(repo, digest).await? {
+            Ok(content) => Ok(tokio::task::block_in_place(|| document::blobs(&content))),
+            Err(Refusal { reason: Reason::ManifestUnknown, .. }) => Ok(Vec::new()),
+            Err(refusal) => Err(refusal.into()),
+        }
+    }
+
+    /// Adds the blobs of a manifest that was deleted. One that is being unlinked stays marked.
+    pub fn loosen(&self, repo: &str, blobs: &[String]) {
+        blobs.iter().for_each(|digest| self.loose.add(repo, digest, |_| ()));
+    }
+
+    /// Unlinks the blobs that nobody has asked for in this time and to which no manifest refers.
+    pub async fn unlink_loose(&self, time: Duration) {
+        for key in self.loose.unasked(time) {
+            let (repo, digest) = (&key.0, &key.1);
+            let turn = self.loose.turns.take(repo, digest).await;
+            if !self.loose.begin_unlink(&key, time) {
+                continue;
+            }
+            let deleted = self.store.delete(repo, digest).await;
+            match &deleted {
+                Ok(Ok(())) => {
+                    tracing::info!(repo = %repo, digest = %digest, "deleted a blob that no manifest refers to");
+                    self.loose.remove(repo, digest);
+                }
+                Ok(Err(Refusal { reason: Reason::Memory, .. })) => self.loose.undo_unlink(&key),
+                Ok(Err(_)) => self.loose.keep_linked(&key, time),
+                // The store may still unlink it. It stays marked, and the store is asked again.
+                Err(StoreUnavailable) => {}
+            }
+            drop(turn);
+            self.end_delete(repo, &deleted).await;
+        }
+    }
+}
+
+#[cfg(test)]
+mod tests {
+    use super::*;
+
+    const ALWAYS: Duration = Duration::ZERO;
+    const NEVER: Duration = Duration::from_secs(3600);
+
+    #[test]
+    fn a_request_begins_the_time_anew() {
+        let key = ("acme/web".to_string(), "sha256:a".to_string());
+        let loose = LooseBlobs::new(None, vec![key.clone()]);
+        assert_eq!((loose.unasked(ALWAYS), loose.unasked(NEVER)), (vec![key.clone()], vec![]));
+        let time = Duration::from_millis(200);
+        std::thread::sleep(time);
+        assert_eq!(loose.unasked(time), vec![key.clone()]);
+        assert!(loose.ask(&key.0, &key.1).is_ok() && loose.ask("acme/web", "sha256:b").is_ok());
+        assert!(!loose.begin_unlink(&key, time) && loose.unasked(time).is_empty());
+    }
+
+    #[test]
+    fn a_blob_that_is_being_unlinked_is_unknown() {
+        let key = ("acme/web".to_string(), "sha256:a".to_string());
+        let loose = LooseBlobs::new(None, Vec::new());
+        loose.end_link(&key.0, &key.1, &Ok(Ok(())));
+        assert!(loose.begin_unlink(&key, ALWAYS));
+        assert!(loose.ask(&key.0, &key.1).is_err());
+        loose.undo_unlink(&key);
+        assert!(loose.ask(&key.0, &key.1).is_ok());
+        loose.remove(&key.0, &key.1);
+        loose.end_link(&key.0, "sha256:b", &Ok::<Result<(), _>, _>(Err(Refusal::of(Reason::DigestInvalid))));
+        assert!(!loose.begin_unlink(&key, ALWAYS) && loose.unasked(ALWAYS).is_empty());
+    }
+
+    #[test]
+    fn a_blob_whose_manifest_is_deleted_during_its_unlink_stays_here() {
+        let key = ("acme/web".to_string(), "sha256:a".to_string());
+        let loose = LooseBlobs::new(None, vec![key.clone()]);
+        let time = Duration::from_millis(200);
+        std::thread::sleep(time);
+        assert!(loose.begin_unlink(&key, time));
+        loose.add(&key.0, &key.1, |_| ());
+        assert!(loose.ask(&key.0, &key.1).is_err());
+        loose.keep_linked(&key, time);
+        assert!(loose.ask(&key.0, &key.1).is_ok());
+        assert_eq!(loose.unasked(ALWAYS), vec![key.clone()]);
+        loose.keep_linked(&key, ALWAYS);
+        assert!(loose.unasked(ALWAYS).is_empty());
+    }
+
+    #[test]
+    fn nothing_is_unlinked_by_default() {
+        let loose = LooseBlobs::default();
+        loose.end_link("acme/web", "sha256:a", &Ok(Ok(())));
+        assert!(loose.unasked(ALWAYS).is_empty());
+    }
+}

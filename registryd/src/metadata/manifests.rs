@@ -1,0 +1,112 @@
+//! The tags and facts of the manifests that the store has. They are in this process, and in the database if there is one. A
+//! change is durable before it is visible.
+use crate::database::writer::{Change, Done, WriteFailure, Writer};
+use crate::metadata::clock::now;
+use crate::metadata::document::Facts;
+use crate::metadata::manifest_table::{Kept, Removal, Tags};
+use std::ops::Deref;
+use std::sync::Arc;
+
+/// The tags, and the writer of the database if there is one. What is read is in this process.
+pub struct Catalog {
+    tags: Arc<Tags>,
+    writer: Option<Arc<Writer>>,
+}
+
+/// The tags of a manifest that is being deleted.
+pub struct RemovedTags(Vec<String>);
+
+impl Deref for Catalog {
+    type Target = Tags;
+
+    fn deref(&self) -> &Tags {
+        &self.tags
+    }
+}
+
+impl Catalog {
+    pub fn new(tags: Arc<Tags>, writer: Option<Arc<Writer>>) -> Catalog {
+        Catalog { tags, writer }
+    }
+
+    /// Returns whether the catalog survives the end of this program.
+    pub fn is_kept(&self) -> bool {
+        self.writer.is_some()
+    }
+
+    /// Adds a manifest that the store accepted, and its tag if it was put under one.
+    pub async fn put(&self, repo: &str, digest: &str, facts: Facts, tag: Option<&str>) -> Result<(), WriteFailure> {
+        let writer = match &self.writer {
+            Some(writer) => writer,
+            None => {
+                self.tags.put(repo, digest, facts, tag, now());
+                return Ok(());
+            }
+        };
+        let (repo, digest) = (repo.to_string(), digest.to_string());
+        writer.write(Change::PutManifest { repo, digest, facts, tag: tag.map(str::to_string) }).await?;
+        Ok(())
+    }
+
+    /// Notes that a client asked for a manifest by its digest.
+    pub fn touch(&self, repo: &str, digest: &str) {
+        if let (true, Some(writer)) = (self.tags.touch(repo, digest, now()), &self.writer) {
+            writer.note(Change::TouchManifest { repo: repo.to_string(), digest: digest.to_string() });
+        }
+    }
+
+    /// Records the time, by which the ages of manifests count.
+    pub fn record_time(&self) {
+        if let Some(writer) = &self.writer {
+            writer.note(Change::KeepTime);
+        }
+    }
+
+    /// Removes a tag. Returns whether it was there.
+    pub async fn remove_tag(&self, repo: &str, tag: &str) -> Result<bool, WriteFailure> {
+        let writer = match &self.writer {
+            Some(writer) if self.tags.by_tag(repo, tag).is_some() => writer,
+            _ => return Ok(self.tags.remove_tag(repo, tag, now())),
+        };
+        let removed = writer.write(Change::RemoveTag { repo: repo.to_string(), tag: tag.to_string() }).await?;
+        Ok(removed != Done::Removed(Vec::new()))
+    }
+
+    /// Marks a manifest that the store is going to be asked to delete. With a database, it and its tags are removed there
+    /// before the store deletes it, so that no tag names a missing manifest after a crash. Fails if it is not to be deleted
+    /// on this condition.
+    pub async fn begin_removal(
+        &self,
+        repo: &str,
+        digest: &str,
+        removal: Removal,
+    ) -> Result<Result<RemovedTags, Kept>, WriteFailure> {
+        if let Err(kept) = self.tags.begin_removal(repo, digest, removal) {
+            return Ok(Err(kept));
+        }
+        let writer = match &self.writer {
+            Some(writer) if self.tags.is_known(repo, digest) => writer,
+            _ => return Ok(Ok(RemovedTags(Vec::new()))),
+        };
+        match writer.write(Change::RemoveManifest { repo: repo.to_string(), digest: digest.to_string() }).await {
+            Ok(Done::Removed(tags)) => Ok(Ok(RemovedTags(tags))),
+            Ok(Done::Nothing) => Ok(Ok(RemovedTags(Vec::new()))),
+            Err(failure) => {
+                if failure == WriteFailure::NoRoom {
+                    self.tags.end_removal(repo, digest);
+                }
+                Err(failure)
+            }
+        }
+    }
+
+    /// Shows a manifest and its tags again that the store did not delete. A tag that names another manifest by now stays.
+    pub async fn undo_removal(&self, repo: &str, digest: &str, tags: RemovedTags) -> Result<(), WriteFailure> {
+        if let (Some(writer), Some((facts, since))) = (&self.writer, self.tags.any_facts(repo, digest)) {
+            let (repo, digest) = (repo.to_string(), digest.to_string());
+            writer.write(Change::RestoreManifest { repo, digest, facts, since, tags: tags.0 }).await?;
+        }
+        self.tags.end_removal(repo, digest);
+        Ok(())
+    }
+}

@@ -1,0 +1,14 @@
+//! What this process knows of repositories, manifests, tags and uploads, which the store does not have.
+pub(crate) mod bounds;
+pub(crate) mod clock;
+pub(crate) mod document;
+pub(crate) mod loose_blobs;
+pub(crate) mod manifest_table;
+pub(crate) mod manifests;
+pub(crate) mod media_type;
+pub(crate) mod open_uploads;
+pub(crate) mod pushes;
+pub(crate) mod repositories;
+pub(crate) mod reverse_references;
+pub(crate) mod turns;
+pub(crate) mod upload_names;

@@ -1,0 +1,347 @@
+//! The options and arguments of the command line.
+use crate::endpoints::registry::MetricsAccess;
+use crate::folder::scrub::DEFAULT_PACE;
+use crate::metadata::bounds::Bounds;
+use crate::metadata::manifest_table::Removal;
+use crate::metadata::open_uploads::UploadTimeouts;
+use crate::operation::retention::hours;
+use crate::start::tenants::{self, tenant_word, Tenant};
+use clap::{Parser, ValueEnum};
+use std::ffi::OsString;
+use std::net::SocketAddr;
+use std::path::PathBuf;
+use std::time::Duration;
+
+/// The minimum of free bytes if the option is missing.
+const MIN_FREE: u64 = 64 << 20;
+
+/// The length of the reserve if the option is missing, in bytes.
+const RESERVE: u64 = 64 << 20;
+
+/// When changes are on the disk.
+#[derive(Clone, Copy, Debug, PartialEq, Eq, ValueEnum)]
+pub enum SyncPolicy {
+    /// Each change but a chunk is on the disk before its reply
+    Closes,
+    /// Chunks too
+    Each,
+    /// The system writes changes when it likes
+    Never,
+}
+
+/// Container registry (OCI Distribution Specification 1.1). Without --data, all data is lost when the program exits.
+#[derive(Clone, Debug, Parser)]
+#[command(name = "registryd", version)]
+pub struct Options {
+    /// Listen on this address
+    #[arg(long, value_name = "ADDR:PORT", default_value = "127.0.0.1:5000")]
+    pub listen: SocketAddr,
+    /// Set the maximum number of different blobs
+    #[arg(long, value_name = "N", default_value_t = 4096, value_parser = clap::value_parser!(u32).range(1..=65536))]
+    pub slots: u32,
+    /// Limit the length of a blob
+    #[arg(long, value_name = "BYTES", default_value_t = 1 << 32)]
+    pub max_blob: u64,
+    /// Limit manifest bytes [default: a tenth of the quota]
+    #[arg(long, value_name = "BYTES")]
+    pub manifest_bytes: Option<u64>,
+    /// Limit the number of each tenant's manifests
+    #[arg(long, value_name = "N")]
+    pub manifests: Option<u64>,
+    /// Limit the number of each tenant's tags
+    #[arg(long, value_name = "N")]
+    pub tags: Option<u64>,
+    /// Open N connections to the store; a large read takes two
+    #[arg(long, value_name = "N", default_value_t = 32, value_parser = clap::value_parser!(u16).range(1..=1024))]
+    pub lines: u16,
+    /// Limit the time of a call to the store
+    #[arg(long, value_name = "S", default_value_t = 60, value_parser = clap::value_parser!(u64).range(1..=86400))]
+    pub call_s: u64,
+    /// Limit the memory of requests and responses in progress
+    #[arg(long, value_name = "BYTES", default_value_t = 1 << 29, value_parser = clap::value_parser!(u64).range(8 << 20..))]
+    pub memory_in_flight: u64,
+    /// Limit the number of client connections
+    #[arg(long, value_name = "N", default_value_t = 2048, value_parser = clap::value_parser!(u32).range(1..=1 << 20))]
+    pub connections: u32,
+    /// Close a connection if a request head takes longer
+    #[arg(long, value_name = "S", default_value_t = 30, value_parser = clap::value_parser!(u64).range(1..=86400))]
+    pub head_s: u64,
+    /// Close a connection after this time without a byte
+    #[arg(long, value_name = "S", default_value_t = 120, value_parser = clap::value_parser!(u64).range(1..=86400))]
+    pub idle_s: u64,
+    /// Pause between garbage-collection sweeps
+    #[arg(long, value_name = "MS", default_value_t = 1000)]
+    pub sweep_ms: u64,
+    /// Abandon an upload after this time without a request
+    #[arg(long, value_name = "S", default_value_t = 3600)]
+    pub session_s: u64,
+    /// Abandon an upload without bytes after this time
+    #[arg(long, value_name = "S", default_value_t = 60)]
+    pub empty_session_s: u64,
+    /// Delete manifests that nothing has held for this time
+    #[arg(long, value_name = "HOURS", value_parser = hours)]
+    pub keep_untagged: Option<Duration>,
+    /// Let clients delete manifests that an index lists
+    #[arg(long)]
+    pub delete_listed: bool,
+    /// Keep all data in this folder
+    #[arg(long, value_name = "DIR")]
+    pub data: Option<PathBuf>,
+    /// Decide what is on the disk before a reply [default: closes]
+    #[arg(long, value_name = "POLICY", requires = "data")]
+    pub sync: Option<SyncPolicy>,
+    /// Cut a damaged log at this byte and start
+    #[arg(long, value_name = "BYTE", requires = "data")]
+    pub accept_loss_after: Option<u64>,
+    /// Drop what a log or database has lost and start
+    #[arg(long, requires = "data")]
+    pub accept_loss: bool,
+    /// Read the log again at this pace [default: 4]; 0: never
+    #[arg(long, value_name = "N", requires = "data", value_parser = clap::value_parser!(u64).range(..=1 << 20))]
+    pub scrub_mib_s: Option<u64>,
+    /// Accept no content if less is free [default: 67108864]
+    #[arg(long, value_name = "BYTES", requires = "data")]
+    pub min_free: Option<u64>,
+    /// Keep a reserve for deletes on a full disk [default: 67108864]
+    #[arg(long, value_name = "BYTES", requires = "data")]
+    pub reserve: Option<u64>,
+    /// Serve HTTPS with this certificate and its chain in PEM
+    #[arg(long, value_name = "FILE", requires = "tls_key")]
+    pub tls_cert: Option<PathBuf>,
+    /// Use this private key in PEM for HTTPS
+    #[arg(long, value_name = "FILE", requires = "tls_cert")]
+    pub tls_key: Option<PathBuf>,
+    /// Require a user and password of this htpasswd file
+    #[arg(long, value_name = "FILE")]
+    pub htpasswd: Option<PathBuf>,
+    /// Give users the rights of this file
+    #[arg(long, value_name = "FILE", requires = "htpasswd")]
+    pub rights: Option<PathBuf>,
+    /// Accept tokens that are signed with these public keys
+    #[arg(long, value_name = "FILE", requires_all = ["token_realm", "token_service", "token_issuer"])]
+    pub token_key: Option<PathBuf>,
+    /// Let clients ask for tokens at this URL
+    #[arg(long, value_name = "URL", requires = "token_key", value_parser = quotable)]
+    pub token_realm: Option<String>,
+    /// Accept tokens for a service with this name
+    #[arg(long, value_name = "NAME", requires = "token_key", value_parser = quotable)]
+    pub token_service: Option<String>,
+    /// Accept tokens of an issuer with this name
+    #[arg(long, value_name = "NAME", requires = "token_key", value_parser = quotable)]
+    pub token_issuer: Option<String>,
+    /// Serve without passwords on non-loopback addresses
+    #[arg(long)]
+    pub let_anybody_in: bool,
+    /// Serve the metrics only to this user
+    #[arg(long, value_name = "USER", requires = "htpasswd")]
+    pub metrics_user: Option<String>,
+    /// Serve the metrics only on this address, to everybody
+    #[arg(long, value_name = "ADDR:PORT", conflicts_with = "metrics_user")]
+    pub metrics_listen: Option<SocketAddr>,
+    /// Run this program as the store
+    #[arg(long, value_name = "PATH", default_value = "blobd")]
+    pub blobd: PathBuf,
+    /// Serve this tenant with a quota in bytes and a number of blobs
+    #[arg(value_name = "TENANT=QUOTA[,BLOBS]", required = true, value_parser = tenant_word)]
+    pub tenants: Vec<String>,
+}
+
+/// Checks a text that is quoted in the header of a challenge, and returns it.
+fn quotable(text: &str) -> Result<String, String> {
+    let is_plain = |byte: u8| byte.is_ascii_graphic() && byte != b'"' && byte != b'\\';
+    match !text.is_empty() && text.bytes().all(is_plain) {
+        true => Ok(text.to_string()),
+        false => Err("write ASCII letters without spaces, quotes and backslashes".to_string()),
+    }
+}
+
+impl Options {
+    /// Returns why the options contradict each other, if they do.
+    pub fn conflict(&self) -> Option<String> {
+        let open = !self.has_users() && !self.listen.ip().is_loopback() && !self.let_anybody_in;
+        let text = format!("cannot listen: {}: give --htpasswd, --token-key or --let-anybody-in", self.listen);
+        open.then_some(text).or_else(|| tenants::conflict(&self.tenants))
+    }
+
+    /// Returns whether requests need credentials.
+    fn has_users(&self) -> bool {
+        self.htpasswd.is_some() || self.token_key.is_some()
+    }
+
+    /// Returns the times after which unused uploads are abandoned.
+    pub fn patience(&self) -> UploadTimeouts {
+        let (begun, empty) = (Duration::from_secs(self.session_s), Duration::from_secs(self.empty_session_s));
+        UploadTimeouts { begun, empty }
+    }
+
+    /// Returns the bounds on the manifests and tags of each tenant, as far as they are given.
+    pub fn bounds(&self) -> Bounds {
+        let Options { manifests, manifest_bytes, tags, .. } = *self;
+        Bounds { manifests, manifest_bytes, tags }
+    }
+
+    /// Returns the condition on which a client's delete of a manifest is made.
+    pub fn asked_removal(&self) -> Removal {
+        match self.delete_listed {
+            true => Removal::AskedEvenIfListed,
+            false => Removal::Asked,
+        }
+    }
+
+    /// Returns when changes are on the disk.
+    pub fn sync_policy(&self) -> SyncPolicy {
+        self.sync.unwrap_or(SyncPolicy::Closes)
+    }
+
+    /// Returns the number of bytes that stay free on the disk of the folder.
+    pub fn min_free(&self) -> u64 {
+        self.min_free.unwrap_or(MIN_FREE)
+    }
+
+    /// Returns the pace at which closed files of the log are read again, in MiB a second, or `None` if they are not.
+    pub fn scrub_pace(&self) -> Option<u64> {
+        Some(self.scrub_mib_s.unwrap_or(DEFAULT_PACE)).filter(|pace| self.data.is_some() && *pace > 0)
+    }
+
+    /// Returns the length of the reserve, in bytes.
+    pub fn reserve(&self) -> u64 {
+        self.reserve.unwrap_or(RESERVE)
+    }
+
+    /// Returns whether changes are on the disk before their replies.
+    pub fn is_durable(&self) -> bool {
+        self.data.is_some() && self.sync_policy() != SyncPolicy::Never
+    }
+
+    /// Returns the options of `blobd`.
+    pub fn store_options(&self) -> Vec<OsString> {
+        let data = match &self.data {
+            Some(data) => data,
+            None => return Vec::new(),
+        };
+        let policy = match self.sync_policy() {
+            SyncPolicy::Closes => "closes",
+            SyncPolicy::Each => "each",
+            SyncPolicy::Never => "never",
+        };
+        let mut words: Vec<OsString> = vec!["--data".into(), data.into(), "--sync".into(), policy.into()];
+        if let Some(byte) = self.accept_loss_after {
+            words.extend(["--accept-loss-after".into(), byte.to_string().into()]);
+        }
+        words
+    }
+
+    /// Returns the rule that decides who may read the metrics.
+    pub fn metrics_access(&self) -> MetricsAccess {
+        match (&self.metrics_listen, &self.metrics_user) {
+            (Some(_), _) => MetricsAccess::Elsewhere,
+            (None, Some(user)) => MetricsAccess::User(user.clone()),
+            (None, None) if self.has_users() => MetricsAccess::Nobody,
+            (None, None) => MetricsAccess::Anybody,
+        }
+    }
+
+    /// Returns the tenants.
+    pub fn tenants(&self) -> Vec<Tenant> {
+        self.tenants.iter().filter_map(|word| Tenant::of(word)).collect()
+    }
+
+    /// Returns the names of the tenants.
+    pub fn tenant_names(&self) -> Vec<String> {
+        self.tenants().into_iter().map(|tenant| tenant.name).collect()
+    }
+}
+
+#[cfg(test)]
+mod tests {
+    use super::*;
+
+    fn parsed(words: &[&str]) -> Options {
+        let words = [&["registryd"], words].concat();
+        Options::parse_from(words)
+    }
+
+    #[test]
+    fn the_defaults_are_for_this_machine_alone() {
+        let options = parsed(&["acme=1000"]);
+        assert_eq!(options.listen.to_string(), "127.0.0.1:5000");
+        assert_eq!(options.tenant_names(), ["acme"]);
+        assert!(options.conflict().is_none());
+    }
+
+    #[test]
+    fn other_addresses_want_users_or_a_word() {
+        assert!(parsed(&["--listen", "0.0.0.0:80", "a=1"]).conflict().is_some());
+        assert!(parsed(&["--listen", "0.0.0.0:80", "--htpasswd", "users", "a=1"]).conflict().is_none());
+        assert!(parsed(&["--listen", "0.0.0.0:80", "--let-anybody-in", "a=1"]).conflict().is_none());
+        let tls = ["--tls-cert", "c", "--tls-key", "k"];
+        assert!(parsed(&[&["--listen", "0.0.0.0:443", "a=1"], &tls[..]].concat()).conflict().is_some());
+        assert!(Options::try_parse_from([&["registryd", "a=1"], &tls[..2]].concat()).is_err());
+    }
+
+    #[test]
+    fn the_metrics_have_one_place() {
+        assert_eq!(parsed(&["a=1"]).metrics_access(), MetricsAccess::Anybody);
+        assert_eq!(parsed(&["--htpasswd", "users", "a=1"]).metrics_access(), MetricsAccess::Nobody);
+        let named = parsed(&["--htpasswd", "users", "--metrics-user", "prometheus", "a=1"]);
+        assert_eq!(named.metrics_access(), MetricsAccess::User("prometheus".to_string()));
+        assert_eq!(parsed(&["--metrics-listen", "127.0.0.1:1", "a=1"]).metrics_access(), MetricsAccess::Elsewhere);
+        assert!(Options::try_parse_from(["registryd", "--metrics-user", "prometheus", "a=1"]).is_err());
+    }
+
+    #[test]
+    fn an_issuer_has_three_names() {
+        let words =
+            ["a=1", "--token-key", "k", "--token-realm", "https://a/token", "--token-service", "r", "--token-issuer", "i"];
+        let options = parsed(&[&words[..], &["--listen", "0.0.0.0:80"]].concat());
+        assert!(options.conflict().is_none());
+        assert_eq!(options.metrics_access(), MetricsAccess::Nobody);
+        for count in [3, 5, 7] {
+            assert!(Options::try_parse_from([&["registryd"], &words[..count]].concat()).is_err(), "{count}");
+        }
+        assert!(Options::try_parse_from(["registryd", "a=1", "--token-realm", "https://a"]).is_err());
+        for text in ["", "a b", "a\"", "a\\", "a\n", "ä"] {
+            assert!(quotable(text).is_err(), "{text}");
+        }
+    }
+
+    #[test]
+    fn a_folder_has_a_policy() {
+        let memory = parsed(&["a=1"]);
+        assert!(memory.store_options().is_empty() && !memory.is_durable());
+        let kept = parsed(&["--data", "/srv/registry", "a=1"]);
+        assert_eq!(kept.store_options(), ["--data", "/srv/registry", "--sync", "closes"]);
+        assert_eq!((kept.is_durable(), kept.min_free(), kept.reserve()), (true, 64 << 20, 64 << 20));
+        let never = parsed(&["--data", "d", "--sync", "never", "--accept-loss-after", "7", "--min-free", "0", "a=1"]);
+        assert_eq!(never.store_options(), ["--data", "d", "--sync", "never", "--accept-loss-after", "7"]);
+        assert_eq!((never.is_durable(), never.min_free()), (false, 0));
+        assert_eq!((memory.scrub_pace(), kept.scrub_pace()), (None, Some(DEFAULT_PACE)));
+        assert_eq!(parsed(&["--data", "d", "--scrub-mib-s", "0", "a=1"]).scrub_pace(), None);
+        let words: [&[&str]; 6] = [
+            &["--sync", "each"],
+            &["--accept-loss-after", "1"],
+            &["--accept-loss"],
+            &["--min-free", "1"],
+            &["--reserve", "1"],
+            &["--scrub-mib-s", "1"],
+        ];
+        for words in words {
+            assert!(Options::try_parse_from([&["registryd"], words, &["a=1"]].concat()).is_err(), "{words:?}");
+        }
+    }
+
+    #[test]
+    fn manifests_and_tags_are_not_limited_unless_it_is_asked_for() {
+        assert_eq!(parsed(&["a=1"]).bounds(), Bounds::default());
+        let words = ["--manifests", "5", "--manifest-bytes", "1000", "--tags", "0", "a=1"];
+        assert_eq!(parsed(&words).bounds(), Bounds { manifests: Some(5), manifest_bytes: Some(1000), tags: Some(0) });
+    }
+
+    #[test]
+    fn words_that_are_no_tenants_are_refused() {
+        for word in ["acme", "acme=", "=1", "acme=-1", "acme=x"] {
+            assert!(Options::try_parse_from(["registryd", word]).is_err(), "{word}");
+        }
+        assert!(Options::try_parse_from(["registryd"]).is_err());
+    }
+}

@@ -1,0 +1,351 @@
+//! The start of a registry with a folder: reads the database, and compares it with the store.
+//!
+//! The store is asked about each manifest and each open upload. So after any crash no tag and no list of referrers names a
+//! missing manifest, and each open upload has a name and is abandoned if nobody continues it. Empty repositories are
+//! removed.
+use crate::database::sqlite::{Committed, Database, ManifestRow, Rows, UploadRow};
+use crate::database::writer::Change;
+use crate::folder::log_end::LogEnd;
+use crate::folder::unsynced;
+use crate::metadata::clock::{self, now};
+use crate::metadata::document::{self, Facts};
+use crate::metadata::manifest_table::Tags;
+use crate::metadata::repositories::{tenant_of, MAX_UPLOADS};
+use crate::metadata::upload_names::Secret;
+use crate::operation::exit::Failure;
+use crate::start::losses::Loss;
+use crate::start::opening::Opened;
+use crate::store::client::{Store, StoreUnavailable};
+use crate::store::frames::{Command, Reason, Refusal, Request};
+use crate::store::undo::Undo;
+use std::collections::{BTreeMap, HashMap, HashSet};
+use std::path::PathBuf;
+
+/// The number of calls that are sent at once. Their replies fit into the shortest pipe, so `blobd` reads all of them.
+const BATCH: usize = 64;
+
+/// The first and the greatest number of session numbers that are searched at once.
+const SEARCHED: (u32, u32) = (128, 4096);
+
+/// The number of session numbers that are searched if the tenant's next one cannot be found.
+const MOST_SEARCHED: u32 = 65_536;
+
+/// An upload that was opened before the start.
+pub struct FoundUpload {
+    pub repo: String,
+    pub number: u32,
+    pub received: u64,
+}
+
+/// What the database and the store have of the time before the start.
+pub struct Kept {
+    pub database: Database,
+    pub secret: Secret,
+    pub tags: Tags,
+    pub repositories: Vec<String>,
+    pub uploads: Vec<FoundUpload>,
+    /// The repositories and digests of blobs that are to be unlinked after some time.
+    pub loose_blobs: Vec<(String, String)>,
+    /// For each tenant, a number up to which all uploads are recorded.
+    pub recorded: HashMap<String, u32>,
+}
+
+/// What a start finds and changes.
+#[derive(Default)]
+struct Findings {
+    changes: Vec<Change>,
+    uploads: Vec<FoundUpload>,
+    recorded: Vec<(String, u32)>,
+    /// Whether numbers are used again, because the store has lost some.
+    have_numbers_returned: bool,
+}
+
+/// Compares the database of a folder with the store, and corrects it. Ends the start if the store has lost something that was on
+/// the disk.
+pub async fn recover(store: &Store, opened: Opened) -> Result<Kept, Failure> {
+    let on_loss = opened.on_loss();
+    let Opened { folder, mut database, is_synced, is_full, .. } = opened;
+    let (database, mut rows) = blocking(move || {
+        let rows = database.read()?;
+        Ok((database, rows))
+    })
+    .await?;
+    clock::begin(database.marks().time.or_else(|| rows.manifests.iter().map(|row| row.since).max()));
+    let unavailable = |StoreUnavailable| Failure::new("the store did not reply while the registry started");
+    let mut findings = Findings::default();
+    let missing = missing_manifests(store, &rows.manifests).await.map_err(unavailable)?;
+    if !missing.is_empty() {
+        on_loss.meet(&Loss::of_manifests(&missing, &rows.tags))?;
+    }
+    findings.changes.extend(missing.iter().map(ManifestRow::removal));
+    drop_missing(&mut rows, &missing);
+    findings.changes.extend(complete(store, &mut rows.manifests).await.map_err(unavailable)?);
+    if !is_full {
+        rows.add_probes(store);
+    }
+    for (tenant, repos) in by_tenant(store, &rows.repositories) {
+        find_uploads(store, tenant, &repos, &rows, is_full, &mut findings).await.map_err(unavailable)?;
+    }
+    if findings.have_numbers_returned {
+        on_loss.meet(&Loss::Uploads)?;
+    }
+    if !is_full {
+        findings.changes.extend(remove_unused(store, &mut rows.repositories).await.map_err(unavailable)?);
+    }
+    if !missing.is_empty() {
+        tracing::warn!(count = missing.len(), "dropped manifests that the store does not have, with their tags");
+    }
+    let mut recorded = rows.recorded.clone();
+    recorded.extend(findings.recorded.iter().cloned());
+    let Findings { changes, uploads, recorded: found, have_numbers_returned } = findings;
+    let correction = Correction { changes, recorded: found, have_numbers_returned, folder: is_synced.then_some(folder) };
+    let known = rows.secret;
+    let (database, secret) = match is_full {
+        true => (database, known),
+        false => blocking(move || correction.make(database, known)).await?,
+    };
+    let tags = tags_of(&rows);
+    let Rows { repositories, loose_blobs, .. } = rows;
+    Ok(Kept { database, secret, tags, repositories, uploads, loose_blobs, recorded })
+}
+
+/// The changes of the database that a start makes.
+struct Correction {
+    changes: Vec<Change>,
+    recorded: Vec<(String, u32)>,
+    have_numbers_returned: bool,
+    /// The folder, if each change is on the disk before its reply.
+    folder: Option<PathBuf>,
+}
+
+impl Correction {
+    /// Makes the changes, and returns the secret, which is another one if numbers are used again.
+    fn make(mut self, mut database: Database, mut secret: Secret) -> Result<(Database, Secret), Failure> {
+        let failed = |error: rusqlite::Error| Failure::of_database(&error.to_string());
+        // The number is recorded after the secret is another one. If a crash comes between, the next start makes one again.
+        if self.have_numbers_returned {
+            secret = database.renew_secret().map_err(failed)?;
+        }
+        if let Some(folder) = &self.folder {
+            let end = LogEnd::synced(folder).map_err(|error| Failure::of_folder("cannot sync the log", folder, &error))?;
+            self.changes.extend(end.map(|end| Change::KeepLogEnd { end }));
+        }
+        match database.commit(self.changes.iter(), &self.recorded, now()).map_err(failed)? {
+            Committed::Made => {}
+            Committed::NoRoom => return Err(Failure::of_database("the disk is full")),
+        }
+        // All changes up to now are on the disk.
+        if let Some(folder) = &self.folder {
+            unsynced::clear(folder)
+                .map_err(|error| Failure::of_folder("cannot remove the mark of --sync never", folder, &error))?;
+        }
+        Ok((database, secret))
+    }
+}
+
+/// Runs work that waits for the disk in a thread of its own.
+pub async fn blocking<T: Send + 'static>(work: impl FnOnce() -> Result<T, Failure> + Send + 'static) -> Result<T, Failure> {
+    let done = tokio::task::spawn_blocking(work).await;
+    done.unwrap_or_else(|_| Err(Failure::new("a bug in this program stopped the start")))
+}
+
+impl ManifestRow {
+    fn removal(&self) -> Change {
+        Change::RemoveManifest { repo: self.repo.clone(), digest: self.digest.clone() }
+    }
+}
+
+impl Rows {
+    /// Adds a repository of each tenant that has a recorded number and no repository: without one the tenant's next
+    /// number cannot be found. It is empty, so it is removed again.
+    fn add_probes(&mut self, store: &Store) {
+        let with_repos: HashSet<&str> = self.repositories.iter().map(|repo| tenant_of(repo)).collect();
+        let bare = self.recorded.keys().filter(|tenant| store.has_tenant(tenant) && !with_repos.contains(&***tenant));
+        let probes: Vec<String> = bare.cloned().collect();
+        self.repositories.extend(probes);
+    }
+}
+
+/// Removes the rows of manifests that are missing, and of their tags.
+fn drop_missing(rows: &mut Rows, missing: &[ManifestRow]) {
+    let missing: HashSet<(&str, &str)> = missing.iter().map(|row| (&*row.repo, &*row.digest)).collect();
+    rows.manifests.retain(|row| !missing.contains(&(&*row.repo, &*row.digest)));
+    rows.tags.retain(|row| !missing.contains(&(&*row.repo, &*row.digest)));
+}
+
+/// Finds the facts of manifests that were put by a program which did not keep them, and returns the changes that record them.
+async fn complete(store: &Store, rows: &mut [ManifestRow]) -> Result<Vec<Change>, StoreUnavailable> {
+    let mut changes = Vec::new();
+    for row in rows.iter_mut().filter(|row| !row.is_complete) {
+        if let Ok(content) = store.get_manifest(&row.repo, &row.digest).await? {
+            let (media_type, size) = (row.facts.media_type.clone(), content.len() as u64);
+            row.facts = match document::read(&[content]) {
+                Ok(document) => document.facts_of_stored(media_type, size),
+                Err(_) => Facts { media_type, size, ..Facts::default() },
+            };
+            row.since = now();
+            let (repo, digest, facts) = (row.repo.clone(), row.digest.clone(), row.facts.clone());
+            changes.push(Change::PutManifest { repo, digest, facts, tag: None });
+        }
+    }
+    if !changes.is_empty() {
+        tracing::info!(count = changes.len(), "read manifests of a database of an earlier version");
+    }
+    Ok(changes)
+}
+
+/// Returns the tags and facts of the rows.
+fn tags_of(rows: &Rows) -> Tags {
+    let tags = Tags::default();
+    for ManifestRow { repo, digest, facts, since, .. } in &rows.manifests {
+        tags.put(repo, digest, facts.clone(), None, *since);
+    }
+    for row in &rows.tags {
+        tags.add_tag(&row.repo, &row.tag, &row.digest);
+    }
+    tags
+}
+
+/// Returns the manifests of the database that the store does not have.
+async fn missing_manifests(store: &Store, rows: &[ManifestRow]) -> Result<Vec<ManifestRow>, StoreUnavailable> {
+    let command = Request::new(Command::StatManifest);
+    let requests: Vec<Request<'_>> =
+        rows.iter().map(|row| Request { repo: &row.repo, digest: &row.digest, ..command.clone() }).collect();
+    let answers = store.ask_each(&requests).await?;
+    let is_missing = |answer: &Result<u64, Refusal>| {
+        matches!(answer, Err(Refusal { reason: Reason::ManifestUnknown | Reason::NameUnknown, .. }))
+    };
+    Ok(rows.iter().zip(&answers).filter(|(_, answer)| is_missing(answer)).map(|(row, _)| row.clone()).collect())
+}
+
+/// Returns the repositories of each tenant of the store.
+fn by_tenant<'r>(store: &Store, repos: &'r [String]) -> BTreeMap<&'r str, Vec<&'r str>> {
+    let mut by_tenant: BTreeMap<&str, Vec<&str>> = BTreeMap::new();
+    for repo in repos.iter().filter(|repo| store.has_tenant(repo)) {
+        by_tenant.entry(tenant_of(repo)).or_default().push(repo);
+    }
+    by_tenant
+}
+
+/// Finds the open uploads of a tenant: those of the database, and those that were opened after its last transaction. The
+/// numbers of these are greater than the recorded one and less than the tenant's next one. They are left to a later start if the disk
+/// is full, because the next number is found by opening an upload.
+async fn find_uploads(
+    store: &Store,
+    tenant: &str,
+    repos: &[&str],
+    rows: &Rows,
+    is_full: bool,
+    findings: &mut Findings,
+) -> Result<(), StoreUnavailable> {
+    let known: Vec<&UploadRow> = rows.uploads.iter().filter(|row| tenant_of(&row.repo) == tenant).collect();
+    let mut open = 0;
+    let requests: Vec<Request<'_>> = known.iter().map(|row| status_request(&row.repo, row.number)).collect();
+    for (row, answer) in known.iter().zip(store.ask_each(&requests).await?) {
+        match answer {
+            Ok(received) => {
+                open += 1;
+                findings.uploads.push(FoundUpload { repo: row.repo.clone(), number: row.number, received });
+            }
+            Err(Refusal { reason: Reason::UploadUnknown, .. }) => {
+                findings.changes.push(Change::EndUpload { repo: row.repo.clone(), number: row.number });
+            }
+            // It stays recorded, and the next start asks again.
+            Err(refusal) => tracing::warn!(repo = %row.repo, reason = ?refusal.reason, "cannot find an upload"),
+        }
+    }
+    let recorded = rows.recorded.get(tenant).copied().unwrap_or(0);
+    if is_full {
+        return Ok(());
+    }
+    let next = next_number(store, repos).await?;
+    findings.have_numbers_returned |= next.map_or(false, |next| next <= recorded);
+    let known: HashSet<u32> = known.iter().map(|row| row.number).collect();
+    let end = next.unwrap_or_else(|| recorded.saturating_add(MOST_SEARCHED));
+    let (mut at, mut last, mut step) = (recorded.saturating_add(1), recorded, SEARCHED.0);
+    while at < end && open < MAX_UPLOADS {
+        let stop = at.saturating_add(step).min(end);
+        let numbers: Vec<u32> = (at..stop).filter(|number| !known.contains(number)).collect();
+        for upload in search(store, repos, &numbers).await? {
+            open += 1;
+            last = last.max(upload.number);
+            findings.changes.push(Change::OpenUpload { repo: upload.repo.clone(), number: upload.number });
+            findings.uploads.push(upload);
+        }
+        at = stop;
+        step = (2 * step).min(SEARCHED.1);
+    }
+    if next.is_none() && open < MAX_UPLOADS {
+        tracing::warn!(tenant, "the store opens no upload: open ones may be unknown until the next start");
+        return Ok(());
+    }
+    findings.recorded.push((tenant.to_string(), next.unwrap_or(last)));
+    Ok(())
+}
+
+/// Removes the repositories that are empty, or that the store does not have. A crash may leave them, and so does the
+/// search for uploads. Returns the changes that remove their records. Those of other tenants stay.
+async fn remove_unused(store: &Store, repos: &mut Vec<String>) -> Result<Vec<Change>, StoreUnavailable> {
+    let (own, other): (Vec<String>, Vec<String>) = repos.drain(..).partition(|repo| store.has_tenant(repo));
+    let requests: Vec<Request<'_>> = own.iter().map(|repo| Request { repo, ..Request::new(Command::RemoveRepo) }).collect();
+    let answers = store.ask_each(&requests).await?;
+    *repos = other;
+    let mut changes = Vec::new();
+    for (repo, answer) in own.into_iter().zip(answers) {
+        match answer {
+            Ok(_) | Err(Refusal { reason: Reason::NameUnknown, .. }) => changes.push(Change::RemoveRepository { repo }),
+            Err(_) => repos.push(repo),
+        }
+    }
+    if !changes.is_empty() {
+        tracing::info!(count = changes.len(), "removed empty repositories");
+    }
+    Ok(changes)
+}
+
+fn status_request(repo: &str, number: u32) -> Request<'_> {
+    Request { repo, number, ..Request::new(Command::Status) }
+}
+
+/// Returns the uploads with these numbers that are open in one of the repositories.
+async fn search(store: &Store, repos: &[&str], numbers: &[u32]) -> Result<Vec<FoundUpload>, StoreUnavailable> {
+    let mut found = Vec::new();
+    for repo in repos {
+        let requests: Vec<Request<'_>> = numbers.iter().map(|number| status_request(repo, *number)).collect();
+        for (number, answer) in numbers.iter().zip(store.ask_each(&requests).await?) {
+            if let Ok(received) = answer {
+                found.push(FoundUpload { repo: repo.to_string(), number: *number, received });
+            }
+        }
+    }
+    Ok(found)
+}
+
+/// Returns a tenant's next session number, by opening a session and abandoning it. Returns `None` if the store opens none,
+/// because the maximum number is open.
+async fn next_number(store: &Store, repos: &[&str]) -> Result<Option<u32>, StoreUnavailable> {
+    for repo in repos {
+        if let Ok(number) = store.start_upload(repo).await? {
+            return match store.abandon(repo, number).await? {
+                Ok(()) => Ok(Some(number)),
+                Err(refusal) => {
+                    tracing::error!(repo, reason = ?refusal.reason, "cannot abandon an upload");
+                    Err(StoreUnavailable)
+                }
+            };
+        }
+    }
+    Ok(None)
+}
+
+impl Store {
+    /// Makes many short calls for the program itself, and returns the first number of each reply.
+    async fn ask_each(&self, requests: &[Request<'_>]) -> Result<Vec<Result<u64, Refusal>>, StoreUnavailable> {
+        let mut firsts = Vec::with_capacity(requests.len());
+        for batch in requests.chunks(BATCH) {
+            let answers = self.ask_many(self.own(), self.limit, batch, Undo::Nothing).await?;
+            firsts.extend(answers.into_iter().map(|answer| answer.map(|reply| reply.first)));
+        }
+        Ok(firsts)
+    }
+}

@@ -1,0 +1,8 @@
+//! The store: a `blobd` process and the connections to it.
+pub(crate) mod appending;
+pub(crate) mod client;
+pub(crate) mod connection;
+pub(crate) mod frames;
+pub(crate) mod pool;
+pub(crate) mod process;
+pub(crate) mod undo;

@@ -1,0 +1,230 @@
+//! The pool of connections to the store. Sharers (tenants, for example) share it, so that none of them takes all
+//! connections.
+use crate::store::connection::{Frame, ReplyResult, StoreConnection};
+use std::collections::VecDeque;
+use std::io;
+use std::sync::{Arc, Mutex, MutexGuard};
+use tokio::sync::oneshot;
+
+/// The maximum number of calls of one sharer that wait for a connection.
+const MOST_WAITING: usize = 1024;
+
+/// The reason why no connection is returned.
+#[derive(Debug, PartialEq, Eq)]
+pub enum PoolError {
+    /// The pool is closed.
+    Closed,
+    /// The maximum number of calls of the sharer already waits.
+    TooManyWait,
+}
+
+/// One of those that share the connections, such as a tenant.
+#[derive(Default)]
+struct Sharer {
+    /// The number of connections that it has.
+    held: usize,
+    waiting: VecDeque<oneshot::Sender<PooledConnection>>,
+}
+
+struct State {
+    idle: Vec<StoreConnection>,
+    /// The number of connections that are idle or in use.
+    count: usize,
+    sharers: Vec<Sharer>,
+    /// The sharer that got a connection last.
+    last: usize,
+    is_closed: bool,
+}
+
+impl State {
+    /// Returns whether a sharer may get one more connection: it has fewer than are idle. So one sharer alone gets at most
+    /// half of them, `n` sharers leave one share as large as theirs, and the last connection goes to a sharer that has none.
+    fn may_take(&self, sharer: usize) -> bool {
+        self.sharers[sharer].held < self.idle.len()
+    }
+
+    /// Returns the waiting sharer that may get a connection and has the fewest. Sharers with equally many take turns.
+    fn next(&mut self) -> Option<usize> {
+        let count = self.sharers.len();
+        let turns = (1..=count).map(|turn| (self.last + turn) % count);
+        let waiting = turns.filter(|&sharer| !self.sharers[sharer].waiting.is_empty() && self.may_take(sharer));
+        waiting.min_by_key(|&sharer| self.sharers[sharer].held)
+    }
+}
+
+/// The pool of connections to the store.
+pub struct ConnectionPool(Mutex<State>);
+
+/// A connection in use by a sharer. Dropping it returns the connection, unless its last exchange is incomplete.
+pub struct PooledConnection {
+    connection: Option<StoreConnection>,
+    is_clean: bool,
+    sharer: usize,
+    pool: Arc<ConnectionPool>,
+}
+
+impl ConnectionPool {
+    /// Makes a pool for a number of sharers.
+    pub fn new(connections: Vec<StoreConnection>, sharers: usize) -> Arc<ConnectionPool> {
+        let count = connections.len();
+        let sharers = (0..sharers).map(|_| Sharer::default()).collect();
+        Arc::new(ConnectionPool(Mutex::new(State { idle: connections, count, sharers, last: 0, is_closed: false })))
+    }
+
+    fn state(&self) -> MutexGuard<'_, State> {
+        self.0.lock().unwrap_or_else(|poisoned| poisoned.into_inner())
+    }
+
+    /// Takes a connection for a sharer after it may get one. Waiting calls of a sharer are served in order.
+    pub async fn take(self: &Arc<Self>, sharer: usize) -> Result<PooledConnection, PoolError> {
+        let receiver = {
+            let mut state = self.state();
+            if state.is_closed {
+                return Err(PoolError::Closed);
+            }
+            // A sharer that waits and may get a connection got one when the last was returned, so this call overtakes none.
+            if state.sharers[sharer].waiting.is_empty() && state.may_take(sharer) {
+                if let Some(connection) = state.idle.pop() {
+                    state.sharers[sharer].held += 1;
+                    return Ok(PooledConnection { connection: Some(connection), is_clean: true, sharer, pool: self.clone() });
+                }
+            }
+            let waiting = &mut state.sharers[sharer].waiting;
+            if waiting.len() >= MOST_WAITING {
+                waiting.retain(|sender| !sender.is_closed());
+            }
+            if waiting.len() >= MOST_WAITING {
+                return Err(PoolError::TooManyWait);
+            }
+            let (sender, receiver) = oneshot::channel();
+            waiting.push_back(sender);
+            receiver
+        };
+        receiver.await.map_err(|_| PoolError::Closed)
+    }
+
+    /// Gives idle connections to waiting sharers that may get one.
+    fn hand_out(self: &Arc<Self>, state: &mut State) {
+        while let Some(sharer) = state.next() {
+            let (connection, sender) = match (state.idle.pop(), state.sharers[sharer].waiting.pop_front()) {
+                (Some(connection), Some(sender)) => (connection, sender),
+                _ => return,
+            };
+            let pooled = PooledConnection { connection: Some(connection), is_clean: true, sharer, pool: self.clone() };
+            match sender.send(pooled) {
+                Ok(()) => {
+                    state.sharers[sharer].held += 1;
+                    state.last = sharer;
+                }
+                // The call no longer waits.
+                Err(mut pooled) => state.idle.extend(pooled.connection.take()),
+            }
+        }
+    }
+
+    /// Closes the idle connections, and each other one when it is returned. Waiting calls fail.
+    pub fn close(&self) {
+        let mut state = self.state();
+        state.is_closed = true;
+        state.idle.clear();
+        for sharer in &mut state.sharers {
+            sharer.waiting.clear();
+        }
+    }
+}
+
+impl PooledConnection {
+    /// Returns the connection for an exchange. `done` ends the exchange.
+    pub fn begin(&mut self) -> io::Result<&StoreConnection> {
+        self.is_clean = false;
+        self.connection.as_ref().ok_or_else(|| io::ErrorKind::NotConnected.into())
+    }
+
+    /// Ends an exchange in which each request got its reply.
+    pub fn done(&mut self) {
+        self.is_clean = true;
+    }
+
+    /// Sends requests, and reads their replies.
+    pub async fn exchange(&mut self, frames: &[Frame]) -> io::Result<Vec<ReplyResult>> {
+        let answers = self.begin()?.exchange(frames).await?;
+        self.done();
+        Ok(answers)
+    }
+}
+
+impl Drop for PooledConnection {
+    fn drop(&mut self) {
+        let connection = match self.connection.take() {
+            Some(connection) => connection,
+            None => return,
+        };
+        let mut state = self.pool.state();
+        state.sharers[self.sharer].held -= 1;
+        if self.is_clean && !state.is_closed {
+            state.idle.push(connection);
+            self.pool.hand_out(&mut state);
+            return;
+        }
+        state.count -= 1;
+        if state.count == 0 {
+            drop(state);
+            self.pool.close();
+        }
+    }
+}
+
+#[cfg(test)]
+mod tests {
+    use super::*;
+    use std::time::Duration;
+
+    fn pool_of(connections: usize, sharers: usize) -> Arc<ConnectionPool> {
+        ConnectionPool::new((0..connections).map(|_| StoreConnection::new().unwrap().0).collect(), sharers)
+    }
+
+    async fn soon(pool: &Arc<ConnectionPool>, sharer: usize) -> Option<PooledConnection> {
+        tokio::time::timeout(Duration::from_millis(50), pool.take(sharer)).await.ok()?.ok()
+    }
+
+    #[tokio::test]
+    async fn one_sharer_leaves_lines_for_the_others() {
+        let pool = pool_of(4, 3);
+        let mine = [soon(&pool, 0).await.unwrap(), soon(&pool, 0).await.unwrap()];
+        assert!(soon(&pool, 0).await.is_none());
+        let other = soon(&pool, 1).await.unwrap();
+        let third = soon(&pool, 2).await.unwrap();
+        assert!(soon(&pool, 1).await.is_none());
+        drop((mine, other, third));
+        assert!(soon(&pool, 0).await.is_some());
+    }
+
+    #[tokio::test]
+    async fn a_line_that_comes_back_goes_to_who_holds_the_fewest() {
+        let pool = pool_of(3, 2);
+        let (mine, second) = (soon(&pool, 0).await.unwrap(), soon(&pool, 1).await.unwrap());
+        let last = soon(&pool, 0).await;
+        assert!(last.is_none());
+        let (greedy, modest) = (pool.clone(), pool.clone());
+        let greedy = tokio::spawn(async move { greedy.take(0).await });
+        tokio::task::yield_now().await;
+        drop(second);
+        let modest = soon(&modest, 1).await;
+        assert!(modest.is_some());
+        drop((mine, modest));
+        assert!(greedy.await.unwrap().is_ok());
+    }
+
+    #[tokio::test]
+    async fn a_line_whose_exchange_is_broken_off_does_not_come_back() {
+        let pool = pool_of(1, 1);
+        let mut pooled = soon(&pool, 0).await.unwrap();
+        pooled.begin().unwrap();
+        pooled.done();
+        drop(pooled);
+        let mut pooled = soon(&pool, 0).await.unwrap();
+        pooled.begin().unwrap();
+        drop(pooled);
+        assert_eq!(pool.take(0).await.err(), Some(PoolError::Closed));
+    }
+}
