@@ -3,3 +3,4 @@ pub(crate) mod access;
 pub(crate) mod password_queue;
 pub(crate) mod rights;
 pub(crate) mod tokens;
+pub(crate) mod users;

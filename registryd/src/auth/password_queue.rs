@@ -37,10 +37,10 @@ struct State {
 }
 
 /// The queue of password checks.
-pub struct Checks(Mutex<State>);
+pub struct PasswordQueue(Mutex<State>);
 
 /// The right to make one check. Dropping it lets the next one begin.
-pub struct Permit(Arc<Checks>);
+pub struct Permit(Arc<PasswordQueue>);
 
 impl Sender {
     /// Makes a sender. The addresses of an IPv6 network of 64 bits count as one.
@@ -90,10 +90,10 @@ impl State {
     }
 }
 
-impl Checks {
+impl PasswordQueue {
     /// Makes a queue of which `most` checks run at once.
-    pub fn new(most: usize) -> Arc<Checks> {
-        Arc::new(Checks(Mutex::new(State { free: most, waiting: Vec::new() })))
+    pub fn new(most: usize) -> Arc<PasswordQueue> {
+        Arc::new(PasswordQueue(Mutex::new(State { free: most, waiting: Vec::new() })))
     }
 
     fn state(&self) -> MutexGuard<'_, State> {
@@ -157,7 +157,7 @@ mod tests {
 
     /// Fills the queue by a flood, adds another check, and returns whether that is the first to begin.
     fn is_first_after(flood: impl Fn(usize) -> Sender, other: Sender) -> bool {
-        let checks = Checks::new(1);
+        let checks = PasswordQueue::new(1);
         let mut running = checks.enter(from(0, ""));
         let permit = running.try_recv().unwrap();
         let mut waiting: Vec<_> = (0..MOST_WAITING + 9).map(|number| checks.enter(flood(number))).collect();
@@ -180,7 +180,7 @@ mod tests {
 
     #[test]
     fn checks_with_equally_many_places_begin_in_order() {
-        let checks = Checks::new(1);
+        let checks = PasswordQueue::new(1);
         let mut receivers: Vec<_> = (0..3).map(|number| checks.enter(from(number, &format!("u{number}")))).collect();
         let mut order = Vec::new();
         while let Some(at) = receivers.iter_mut().position(|receiver| receiver.try_recv().map(drop).is_ok()) {
@@ -191,7 +191,7 @@ mod tests {
 
     #[test]
     fn a_check_that_nobody_waits_for_takes_no_turn() {
-        let checks = Checks::new(1);
+        let checks = PasswordQueue::new(1);
         let mut running = checks.enter(from(1, "a"));
         let permit = running.try_recv().unwrap();
         drop(checks.enter(from(2, "b")));

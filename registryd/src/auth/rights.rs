@@ -1,7 +1,7 @@
 //! Rights of users in repositories, and the file that lists them.
 use crate::http::paths::Target;
+use crate::metadata::names::is_repository;
 use crate::operation::reload::read_text;
-use crate::start::tenants::is_repository;
 use hyper::Method;
 use std::collections::HashMap;
 use std::path::Path;

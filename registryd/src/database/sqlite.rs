@@ -1,74 +1,24 @@
 //! The database of a registry with a folder, `registry.db` (SQLite): tags, facts of manifests, the secret of the names of
 //! uploads, and what is needed to find open uploads after a restart.
-use crate::database::marks::{self, Marks};
+use crate::database::change::Change;
+use crate::database::marks::Marks;
+use crate::database::rows::{Rows, TagRow, UploadRow};
+use crate::database::statements::UploadChanges;
 use crate::database::witness::Witness;
-use crate::database::writer::Change;
+use crate::database::{marks, rows, schema, statements};
 use crate::folder::unsynced;
-use crate::metadata::document::Facts;
-use crate::metadata::repositories::tenant_of;
 use crate::metadata::upload_names::{Secret, SECRET_LEN};
-use rusqlite::{params, Connection, ErrorCode, OpenFlags, Transaction, TransactionBehavior};
-use std::collections::{BTreeMap, HashMap};
-use std::fmt;
+use rusqlite::{params, Connection, ErrorCode, OpenFlags, TransactionBehavior};
 use std::fs::{File, OpenOptions};
-use std::io;
 use std::os::unix::fs::OpenOptionsExt;
 use std::path::{Path, PathBuf};
-use std::time::Duration;
+use std::{fmt, io};
 
 /// The name of the database's file in the folder.
 pub const FILE_NAME: &str = "registry.db";
 
 /// The flags with which the file is opened. It exists, and one thread uses a connection.
 const FLAGS: OpenFlags = OpenFlags::SQLITE_OPEN_READ_WRITE.union(OpenFlags::SQLITE_OPEN_NO_MUTEX);
-
-/// The time that the program before has to release the database.
-const WAIT: Duration = Duration::from_secs(5);
-
-/// The number in the file's head that marks it as a database of this program (`regd` in ASCII).
-const APPLICATION: i64 = 0x7265_6764;
-
-/// The version of the tables.
-const VERSION: i64 = 2;
-
-/// The tables of version 1.
-const TABLES: &str = "
-    CREATE TABLE settings (name TEXT PRIMARY KEY, value BLOB NOT NULL) WITHOUT ROWID;
-    CREATE TABLE repositories (name TEXT PRIMARY KEY) WITHOUT ROWID;
-    CREATE TABLE manifests (
-        repository TEXT NOT NULL, digest TEXT NOT NULL, media_type TEXT NOT NULL,
-        PRIMARY KEY (repository, digest)
-    ) WITHOUT ROWID;
-    CREATE TABLE tags (
-        repository TEXT NOT NULL, tag TEXT NOT NULL, digest TEXT NOT NULL,
-        PRIMARY KEY (repository, tag),
-        FOREIGN KEY (repository, digest) REFERENCES manifests ON DELETE CASCADE
-    ) WITHOUT ROWID;
-    CREATE INDEX tags_by_digest ON tags (repository, digest);
-    CREATE TABLE uploads (
-        tenant TEXT NOT NULL, number INTEGER NOT NULL, repository TEXT NOT NULL,
-        PRIMARY KEY (tenant, number)
-    ) WITHOUT ROWID;
-    CREATE TABLE tenants (name TEXT PRIMARY KEY, recorded INTEGER NOT NULL) WITHOUT ROWID;
-";
-
-/// What version 2 adds. `size` is missing for a manifest whose other facts are not known yet.
-const ADDITIONS: &str = "
-    ALTER TABLE manifests ADD COLUMN size INTEGER;
-    ALTER TABLE manifests ADD COLUMN artifact_type TEXT;
-    ALTER TABLE manifests ADD COLUMN subject TEXT;
-    ALTER TABLE manifests ADD COLUMN since INTEGER NOT NULL DEFAULT 0;
-    CREATE INDEX manifests_by_subject ON manifests (repository, subject);
-    CREATE TABLE listed (
-        repository TEXT NOT NULL, digest TEXT NOT NULL, listed TEXT NOT NULL,
-        PRIMARY KEY (repository, digest, listed),
-        FOREIGN KEY (repository, digest) REFERENCES manifests ON DELETE CASCADE
-    ) WITHOUT ROWID;
-    CREATE TABLE loose_blobs (
-        repository TEXT NOT NULL, digest TEXT NOT NULL,
-        PRIMARY KEY (repository, digest)
-    ) WITHOUT ROWID;
-";
 
 /// The reason why a database cannot be opened.
 #[derive(Debug)]
@@ -107,46 +57,6 @@ impl OpenError {
         };
         OpenError::new(problem, path, error)
     }
-}
-
-/// A manifest.
-#[derive(Clone, Debug, PartialEq, Eq)]
-pub struct ManifestRow {
-    pub repo: String,
-    pub digest: String,
-    pub facts: Facts,
-    /// Whether all facts are known, and not its media type alone.
-    pub is_complete: bool,
-    /// The last time at which it was pushed or something ceased to hold it, in seconds since 1970.
-    pub since: u64,
-}
-
-/// A tag with the digest of its manifest.
-#[derive(Clone, Debug, PartialEq, Eq)]
-pub struct TagRow {
-    pub repo: String,
-    pub tag: String,
-    pub digest: String,
-}
-
-/// An open upload.
-#[derive(Clone, Debug, PartialEq, Eq)]
-pub struct UploadRow {
-    pub repo: String,
-    pub number: u32,
-}
-
-/// The content of the database at a start.
-pub struct Rows {
-    pub secret: Secret,
-    pub repositories: Vec<String>,
-    pub manifests: Vec<ManifestRow>,
-    pub tags: Vec<TagRow>,
-    pub uploads: Vec<UploadRow>,
-    /// The repositories and digests of blobs that are to be unlinked after some time.
-    pub loose_blobs: Vec<(String, String)>,
-    /// For each tenant, a number up to which all its sessions that may be open are rows of `uploads`.
-    pub recorded: HashMap<String, u32>,
 }
 
 /// The outcome of a transaction that did not fail.
@@ -197,8 +107,8 @@ impl Database {
         let witnessed = witness.read();
         let of_sqlite = |error| OpenError::of_sqlite(&path, error);
         let mut connection = Connection::open_with_flags(&path, FLAGS).map_err(of_sqlite)?;
-        set_up(&connection).map_err(of_sqlite)?;
-        if let Some(fault) = check_or_make(&mut connection).map_err(of_sqlite)? {
+        schema::set_up(&connection).map_err(of_sqlite)?;
+        if let Some(fault) = schema::check_or_make(&mut connection).map_err(of_sqlite)? {
             return Err(OpenError::new(Problem::Damaged, &path, fault));
         }
         let marks = marks::read(&connection).map_err(of_sqlite)?;
@@ -225,8 +135,8 @@ impl Database {
         let witnessed = witness.read();
         let of_sqlite = |error| OpenError::of_sqlite(&path, error);
         let connection = Connection::open_with_flags(&path, FLAGS).map_err(of_sqlite)?;
-        set_up_without_room(&connection).map_err(of_sqlite)?;
-        if let Some(fault) = check(&connection).map_err(of_sqlite)? {
+        schema::set_up_without_room(&connection).map_err(of_sqlite)?;
+        if let Some(fault) = schema::check(&connection).map_err(of_sqlite)? {
             return Err(OpenError::new(Problem::Damaged, &path, fault));
         }
         let marks = marks::read(&connection).map_err(of_sqlite)?;
@@ -242,7 +152,7 @@ impl Database {
         let other = std::mem::replace(&mut self.connection, Connection::open_in_memory()?);
         other.close().map_err(|(_, error)| error)?;
         self.connection = Connection::open_with_flags(&self.path, FLAGS)?;
-        set_up(&self.connection)?;
+        schema::set_up(&self.connection)?;
         if !self.is_synced {
             let folder = self.path.parent().unwrap_or_else(|| Path::new("."));
             unsynced::mark(folder).map_err(|error| rusqlite::Error::ToSqlConversionFailure(error.into()))?;
@@ -277,24 +187,25 @@ impl Database {
     fn read_rows(&mut self) -> rusqlite::Result<Rows> {
         let secret = self.secret()?;
         let connection = &self.connection;
-        let repositories = all(connection, "SELECT name FROM repositories", |row| row.get(0))?;
-        let manifests = manifest_rows(connection)?;
-        let tags = all(connection, "SELECT repository, tag, digest FROM tags", |row| {
+        let repositories = rows::all(connection, "SELECT name FROM repositories", |row| row.get(0))?;
+        let manifests = rows::manifest_rows(connection)?;
+        let tags = rows::all(connection, "SELECT repository, tag, digest FROM tags", |row| {
             Ok(TagRow { repo: row.get(0)?, tag: row.get(1)?, digest: row.get(2)? })
         })?;
-        let uploads = all(connection, "SELECT repository, number FROM uploads", |row| {
+        let uploads = rows::all(connection, "SELECT repository, number FROM uploads", |row| {
             Ok(UploadRow { repo: row.get(0)?, number: row.get(1)? })
         })?;
         let query = "SELECT repository, digest FROM loose_blobs";
-        let loose_blobs = all(connection, query, |row| Ok((row.get(0)?, row.get(1)?)))?;
-        let recorded = all(connection, "SELECT name, recorded FROM tenants", |row| Ok((row.get(0)?, row.get(1)?)))?;
+        let loose_blobs = rows::all(connection, query, |row| Ok((row.get(0)?, row.get(1)?)))?;
+        let recorded = rows::all(connection, "SELECT name, recorded FROM tenants", |row| Ok((row.get(0)?, row.get(1)?)))?;
         let recorded = recorded.into_iter().collect();
         Ok(Rows { secret, repositories, manifests, tags, uploads, loose_blobs, recorded })
     }
 
     /// Returns the secret of the names of uploads, and makes it if there is none.
     fn secret(&mut self) -> rusqlite::Result<Secret> {
-        let found: Vec<Vec<u8>> = all(&self.connection, "SELECT value FROM settings WHERE name = 'secret'", |row| row.get(0))?;
+        let found: Vec<Vec<u8>> =
+            rows::all(&self.connection, "SELECT value FROM settings WHERE name = 'secret'", |row| row.get(0))?;
         if let Some(Ok(bytes)) = found.first().map(|bytes| <[u8; SECRET_LEN]>::try_from(&bytes[..])) {
             return Ok(Secret(bytes));
         }
@@ -333,7 +244,7 @@ impl Database {
         let transaction = self.connection.transaction_with_behavior(TransactionBehavior::Immediate)?;
         let mut uploads = UploadChanges::default();
         for change in changes {
-            make(&transaction, change, now, &mut uploads)?;
+            statements::make(&transaction, change, now, &mut uploads)?;
         }
         uploads.make(&transaction)?;
         for (tenant, number) in recorded {
@@ -356,224 +267,13 @@ impl Database {
     }
 }
 
-/// Returns all rows of a query.
-fn all<T>(
-    connection: &Connection,
-    query: &str,
-    read: impl FnMut(&rusqlite::Row<'_>) -> rusqlite::Result<T>,
-) -> rusqlite::Result<Vec<T>> {
-    connection.prepare(query)?.query_map([], read)?.collect()
-}
-
-/// Returns all manifests.
-fn manifest_rows(connection: &Connection) -> rusqlite::Result<Vec<ManifestRow>> {
-    let mut lists: HashMap<(String, String), Vec<String>> = HashMap::new();
-    let query = "SELECT repository, digest, listed FROM listed ORDER BY repository, digest, listed";
-    for (key, listed) in all(connection, query, |row| Ok(((row.get(0)?, row.get(1)?), row.get(2)?)))? {
-        lists.entry(key).or_default().push(listed);
-    }
-    let query = "SELECT repository, digest, media_type, size, artifact_type, subject, since FROM manifests";
-    all(connection, query, |row| {
-        let (repo, digest): (String, String) = (row.get(0)?, row.get(1)?);
-        let size: Option<i64> = row.get(3)?;
-        let lists = lists.remove(&(repo.clone(), digest.clone())).unwrap_or_default();
-        let facts = Facts {
-            media_type: row.get(2)?,
-            size: size.unwrap_or(0) as u64,
-            artifact_type: row.get(4)?,
-            subject: row.get(5)?,
-            lists,
-        };
-        Ok(ManifestRow { repo, digest, facts, is_complete: size.is_some(), since: row.get::<_, i64>(6)? as u64 })
-    })
-}
-
-/// Sets how the database writes and checks. Other programs can read it meanwhile, for a backup. The store's lock on the folder
-/// keeps a second registry from writing it.
-fn set_up(connection: &Connection) -> rusqlite::Result<()> {
-    connection.busy_timeout(WAIT)?;
-    let word = |query: &str| connection.query_row(query, [], |row| row.get::<_, rusqlite::types::Value>(0));
-    word("PRAGMA journal_mode = WAL")?;
-    connection.execute_batch("PRAGMA synchronous = FULL; PRAGMA foreign_keys = ON")
-}
-
-/// Lets this connection alone read the database, so that SQLite needs no file with an index of what is in its log.
-fn set_up_without_room(connection: &Connection) -> rusqlite::Result<()> {
-    connection.busy_timeout(WAIT)?;
-    connection.query_row("PRAGMA locking_mode = EXCLUSIVE", [], |_| Ok(()))
-}
-
-/// Checks the database, or makes its tables if it is empty, or adds to those of version 1. Returns what is wrong, if anything is.
-fn check_or_make(connection: &mut Connection) -> rusqlite::Result<Option<String>> {
-    let transaction = connection.transaction_with_behavior(TransactionBehavior::Exclusive)?;
-    let number = |query: &str| transaction.query_row(query, [], |row| row.get::<_, i64>(0));
-    let found = (number("PRAGMA application_id")?, number("PRAGMA user_version")?);
-    let is_empty = found == (0, 0) && number("SELECT count(*) FROM sqlite_schema")? == 0;
-    if is_empty {
-        transaction.execute_batch(TABLES)?;
-    }
-    if is_empty || found == (APPLICATION, 1) {
-        transaction.execute_batch(ADDITIONS)?;
-        transaction.execute_batch(&format!("PRAGMA application_id = {APPLICATION}; PRAGMA user_version = {VERSION}"))?;
-    }
-    let fault = check(&transaction)?;
-    if fault.is_none() {
-        transaction.commit()?;
-    }
-    Ok(fault)
-}
-
-/// Returns what is wrong with a database, if anything is.
-fn check(connection: &Connection) -> rusqlite::Result<Option<String>> {
-    let number = |query: &str| connection.query_row(query, [], |row| row.get::<_, i64>(0));
-    if (number("PRAGMA application_id")?, number("PRAGMA user_version")?) != (APPLICATION, VERSION) {
-        return Ok(Some("not a database of this version of registryd".to_string()));
-    }
-    let checked: String = connection.query_row("PRAGMA quick_check(1)", [], |row| row.get(0))?;
-    Ok((checked != "ok").then(|| format!("damaged: {checked}")))
-}
-
-/// Runs a statement.
-fn run(transaction: &Transaction<'_>, query: &str, values: &[&dyn rusqlite::ToSql]) -> rusqlite::Result<()> {
-    transaction.prepare_cached(query)?.execute(values).map(|_| ())
-}
-
-/// Writes a manifest. One that is there keeps the time since when it is held as it is, unless `is_put`.
-fn put_manifest(
-    transaction: &Transaction<'_>,
-    (repo, digest): (&str, &str),
-    facts: &Facts,
-    since: u64,
-    is_put: bool,
-) -> rusqlite::Result<()> {
-    let query = "INSERT INTO manifests (repository, digest, media_type, size, artifact_type, subject, since)
-                 VALUES (?1, ?2, ?3, ?4, ?5, ?6, ?7)
-                 ON CONFLICT DO UPDATE SET media_type = excluded.media_type, size = excluded.size,
-                     artifact_type = excluded.artifact_type, subject = excluded.subject, since = excluded.since
-                 WHERE ?8";
-    let Facts { media_type, size, artifact_type, subject, lists } = facts;
-    let (size, since) = (*size as i64, since as i64);
-    run(transaction, query, params![repo, digest, media_type, size, artifact_type, subject, since, is_put])?;
-    for listed in lists {
-        let query = "INSERT OR IGNORE INTO listed (repository, digest, listed) VALUES (?1, ?2, ?3)";
-        run(transaction, query, params![repo, digest, listed])?;
-    }
-    Ok(())
-}
-
-/// Notes that a tag ceases to name its manifest.
-fn release_tagged(transaction: &Transaction<'_>, repo: &str, tag: &str, now: u64) -> rusqlite::Result<()> {
-    let query = "UPDATE manifests SET since = ?3 WHERE repository = ?1
-                 AND digest = (SELECT digest FROM tags WHERE repository = ?1 AND tag = ?2)";
-    run(transaction, query, params![repo, tag, now as i64])
-}
-
-/// Removes a manifest with its tags. It ceases to hold what it lists, and what has it as subject.
-fn remove_manifest(transaction: &Transaction<'_>, repo: &str, digest: &str, now: u64) -> rusqlite::Result<()> {
-    for query in [
-        "UPDATE manifests SET since = ?3 WHERE repository = ?1
-         AND digest IN (SELECT listed FROM listed WHERE repository = ?1 AND digest = ?2)",
-        "UPDATE manifests SET since = ?3 WHERE repository = ?1 AND subject = ?2",
-    ] {
-        run(transaction, query, params![repo, digest, now as i64])?;
-    }
-    run(transaction, "DELETE FROM manifests WHERE repository = ?1 AND digest = ?2", params![repo, digest])
-}
-
-/// Makes a change, except that of an upload, which it notes. `now` is the time.
-fn make<'c>(
-    transaction: &Transaction<'_>,
-    change: &'c Change,
-    now: u64,
-    uploads: &mut UploadChanges<'c>,
-) -> rusqlite::Result<()> {
-    let run = |query: &str, values: &[&dyn rusqlite::ToSql]| run(transaction, query, values);
-    let add_repository = |repo: &String| run("INSERT OR IGNORE INTO repositories (name) VALUES (?1)", params![repo]);
-    match change {
-        Change::AddRepository { repo } => add_repository(repo),
-        Change::RemoveRepository { repo } => run("DELETE FROM repositories WHERE name = ?1", params![repo]),
-        Change::PutManifest { repo, digest, facts, tag } => {
-            add_repository(repo)?;
-            put_manifest(transaction, (repo, digest), facts, now, true)?;
-            match tag {
-                Some(tag) => {
-                    release_tagged(transaction, repo, tag, now)?;
-                    let query = "INSERT OR REPLACE INTO tags (repository, tag, digest) VALUES (?1, ?2, ?3)";
-                    run(query, params![repo, tag, digest])
-                }
-                None => Ok(()),
-            }
-        }
-        Change::RestoreManifest { repo, digest, facts, since, tags } => {
-            put_manifest(transaction, (repo, digest), facts, *since, false)?;
-            for tag in tags {
-                let query = "INSERT OR IGNORE INTO tags (repository, tag, digest) VALUES (?1, ?2, ?3)";
-                run(query, params![repo, tag, digest])?;
-            }
-            Ok(())
-        }
-        Change::TouchManifest { repo, digest } => {
-            let query = "UPDATE manifests SET since = ?3 WHERE repository = ?1 AND digest = ?2";
-            run(query, params![repo, digest, now as i64])
-        }
-        Change::RemoveTag { repo, tag } => {
-            release_tagged(transaction, repo, tag, now)?;
-            run("DELETE FROM tags WHERE repository = ?1 AND tag = ?2", params![repo, tag])
-        }
-        Change::RemoveManifest { repo, digest } => remove_manifest(transaction, repo, digest, now),
-        Change::AddLooseBlob { repo, digest } => {
-            run("INSERT OR IGNORE INTO loose_blobs (repository, digest) VALUES (?1, ?2)", params![repo, digest])
-        }
-        Change::RemoveLooseBlob { repo, digest } => {
-            run("DELETE FROM loose_blobs WHERE repository = ?1 AND digest = ?2", params![repo, digest])
-        }
-        Change::OpenUpload { repo, number } => {
-            uploads.open(repo, *number);
-            Ok(())
-        }
-        Change::EndUpload { repo, number } => {
-            uploads.end(repo, *number);
-            Ok(())
-        }
-        Change::KeepLogEnd { end } => marks::put_log_end(transaction, *end),
-        Change::PassUpload { .. } | Change::BeginUploads { .. } | Change::KeepTime => Ok(()),
-    }
-}
-
-/// The uploads that a transaction opens and ends. One that it opens and ends gets no row.
-#[derive(Default)]
-struct UploadChanges<'c> {
-    /// For each tenant and number, the repository of an upload that is open at the end, or nothing if it has ended.
-    by_number: BTreeMap<(&'c str, u32), Option<&'c str>>,
-}
-
-impl<'c> UploadChanges<'c> {
-    fn open(&mut self, repo: &'c str, number: u32) {
-        self.by_number.insert((tenant_of(repo), number), Some(repo));
-    }
-
-    fn end(&mut self, repo: &'c str, number: u32) {
-        self.by_number.insert((tenant_of(repo), number), None);
-    }
-
-    fn make(&self, transaction: &Transaction<'_>) -> rusqlite::Result<()> {
-        for (&(tenant, number), repo) in &self.by_number {
-            match repo {
-                Some(repo) => transaction
-                    .prepare_cached("INSERT OR REPLACE INTO uploads (tenant, number, repository) VALUES (?1, ?2, ?3)")?
-                    .execute(params![tenant, number, repo])?,
-                None => transaction
-                    .prepare_cached("DELETE FROM uploads WHERE tenant = ?1 AND number = ?2")?
-                    .execute(params![tenant, number])?,
-            };
-        }
-        Ok(())
-    }
-}
-
 #[cfg(test)]
 mod tests {
     use super::*;
+    use crate::database::rows::ManifestRow;
+    use crate::database::schema::{APPLICATION, TABLES, VERSION};
+    use crate::metadata::document::Facts;
+    use std::os::unix::fs::PermissionsExt;
 
     /// A folder that is removed after the test.
     struct TestFolder(PathBuf);
@@ -749,7 +449,6 @@ mod tests {
 
     #[test]
     fn others_cannot_read_the_file() {
-        use std::os::unix::fs::PermissionsExt;
         let folder = TestFolder::new();
         drop(folder.open());
         assert_eq!(std::fs::metadata(folder.0.join(FILE_NAME)).unwrap().permissions().mode() & 0o777, 0o600);

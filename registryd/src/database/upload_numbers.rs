@@ -3,17 +3,17 @@ use std::collections::BTreeSet;
 
 /// The numbers that were seen. A tenant's numbers count up, but their replies may arrive in another order.
 #[derive(Debug, Default, PartialEq, Eq)]
-pub struct Numbers {
+pub struct UploadNumbers {
     /// All numbers up to this one were seen.
     upto: u32,
     /// The greater numbers that were seen.
     later: BTreeSet<u32>,
 }
 
-impl Numbers {
+impl UploadNumbers {
     /// Begins after a number.
-    pub fn after(upto: u32) -> Numbers {
-        Numbers { upto, later: BTreeSet::new() }
+    pub fn after(upto: u32) -> UploadNumbers {
+        UploadNumbers { upto, later: BTreeSet::new() }
     }
 
     /// Notes that all numbers up to this one were seen.
@@ -47,17 +47,17 @@ mod tests {
 
     #[test]
     fn numbers_are_seen_in_any_order() {
-        let mut numbers = Numbers::after(4);
+        let mut numbers = UploadNumbers::after(4);
         assert!(!numbers.see(7) && !numbers.see(6) && !numbers.see(3));
         assert_eq!(numbers.upto(), 4);
         assert!(numbers.see(5));
-        assert_eq!(numbers, Numbers::after(7));
+        assert_eq!(numbers, UploadNumbers::after(7));
         assert!(!numbers.see(7));
-        let mut begun = Numbers::default();
+        let mut begun = UploadNumbers::default();
         assert!(!begun.see(7) && !begun.see(9));
         begun.see_all(6);
         assert_eq!((begun.upto(), begun.see(8), begun.upto()), (7, true, 9));
-        let mut last = Numbers::after(u32::MAX - 1);
+        let mut last = UploadNumbers::after(u32::MAX - 1);
         assert!(last.see(u32::MAX) && !last.see(u32::MAX));
     }
 }

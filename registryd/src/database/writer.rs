@@ -1,13 +1,11 @@
 //! The thread that writes the database. It puts all changes that wait into one transaction, so that one sync serves many
 //! requests, and then makes them in the tables of this process, in the same order. So what a request reads is durable.
+use crate::database::change::{Change, Done};
 use crate::database::sqlite::{Committed, Database};
-use crate::database::upload_numbers::Numbers;
-use crate::folder::disk_room::Room;
-use crate::folder::log_end::LogEnd;
+use crate::database::upload_numbers::UploadNumbers;
+use crate::folder::disk_room::DiskRoom;
 use crate::metadata::clock::now;
-use crate::metadata::document::Facts;
-use crate::metadata::manifest_table::Tags;
-use crate::metadata::repositories::tenant_of;
+use crate::metadata::manifest_table::ManifestTable;
 use crate::operation::metrics::Commits;
 use std::collections::{BTreeSet, HashMap};
 use std::sync::{Arc, Condvar, Mutex, MutexGuard};
@@ -21,90 +19,6 @@ const REST: Duration = Duration::from_secs(1);
 /// The time that the thread has to write the last changes.
 const END_TIME: Duration = Duration::from_secs(8);
 
-/// A change of the database.
-#[derive(Clone, Debug, PartialEq, Eq)]
-pub enum Change {
-    /// An upload may be opened in a repository.
-    AddRepository {
-        repo: String,
-    },
-    /// No upload was opened in a repository, because the store refused it.
-    RemoveRepository {
-        repo: String,
-    },
-    /// The store has a manifest, and a tag names it from now on.
-    PutManifest {
-        repo: String,
-        digest: String,
-        facts: Facts,
-        tag: Option<String>,
-    },
-    /// The store has a manifest that was to be deleted.
-    RestoreManifest {
-        repo: String,
-        digest: String,
-        facts: Facts,
-        since: u64,
-        tags: Vec<String>,
-    },
-    /// A client has asked for a manifest by its digest.
-    TouchManifest {
-        repo: String,
-        digest: String,
-    },
-    RemoveTag {
-        repo: String,
-        tag: String,
-    },
-    /// A manifest is going to be deleted. Its tags are removed too.
-    RemoveManifest {
-        repo: String,
-        digest: String,
-    },
-    /// A blob is to be unlinked after some time.
-    AddLooseBlob {
-        repo: String,
-        digest: String,
-    },
-    /// A blob is unlinked, or a manifest refers to it.
-    RemoveLooseBlob {
-        repo: String,
-        digest: String,
-    },
-    OpenUpload {
-        repo: String,
-        number: u32,
-    },
-    EndUpload {
-        repo: String,
-        number: u32,
-    },
-    /// The store used this number for an upload that is not open.
-    PassUpload {
-        repo: String,
-        number: u32,
-    },
-    /// The store used all numbers of a tenant up to this one before, or for an upload that is not open.
-    BeginUploads {
-        repo: String,
-        number: u32,
-    },
-    /// The log is on the disk up to this end.
-    KeepLogEnd {
-        end: LogEnd,
-    },
-    /// Only the time of the transaction is recorded.
-    KeepTime,
-}
-
-/// What a change did to the tables of this process.
-#[derive(Debug, PartialEq, Eq)]
-pub enum Done {
-    Nothing,
-    /// Tags were removed.
-    Removed(Vec<String>),
-}
-
 /// The reason why a change was not made.
 #[derive(Debug, PartialEq, Eq)]
 pub enum WriteFailure {
@@ -112,43 +26,6 @@ pub enum WriteFailure {
     Unavailable,
     /// The disk has no room. Nothing was changed.
     NoRoom,
-}
-
-impl Change {
-    /// Makes a change in the tables of this process that became durable at this time.
-    fn apply(self, tags: &Tags, now: u64) -> Done {
-        match self {
-            Change::PutManifest { repo, digest, facts, tag } => tags.put(&repo, &digest, facts, tag.as_deref(), now),
-            Change::RestoreManifest { repo, digest, facts, since, tags: names } => {
-                tags.restore(&repo, &digest, facts, since, names)
-            }
-            Change::RemoveTag { repo, tag } => return Done::Removed(tags.take_tag(&repo, tag, now).into_iter().collect()),
-            Change::RemoveManifest { repo, digest } => return Done::Removed(tags.take_tags_of(&repo, &digest)),
-            _ => {}
-        }
-        Done::Nothing
-    }
-
-    /// Returns whether the change is made later if the disk has no room now, although a request waits for it: it restores what an
-    /// earlier change took away.
-    fn stays(&self) -> bool {
-        matches!(self, Change::RestoreManifest { .. })
-    }
-
-    /// Notes the number of an upload. Returns the tenant if the number changed up to which all are recorded.
-    fn see_number(&self, numbers: &mut HashMap<String, Numbers>) -> Option<&str> {
-        match self {
-            Change::OpenUpload { repo, number } | Change::PassUpload { repo, number } => {
-                let tenant = tenant_of(repo);
-                numbers.entry(tenant.to_string()).or_default().see(*number).then_some(tenant)
-            }
-            Change::BeginUploads { repo, number } => {
-                numbers.entry(tenant_of(repo).to_string()).or_default().see_all(*number);
-                Some(tenant_of(repo))
-            }
-            _ => None,
-        }
-    }
 }
 
 /// A change, and the request that waits for it, if one does.
@@ -178,7 +55,7 @@ pub struct Writer {
     /// The time limit of a change.
     limit: Duration,
     /// The room on the disk.
-    room: Arc<Room>,
+    room: Arc<DiskRoom>,
 }
 
 /// The thread, and the database that it has opened.
@@ -186,7 +63,7 @@ pub struct WriterThread(JoinHandle<rusqlite::Result<()>>);
 
 impl Writer {
     /// Makes a writer that counts its transactions. Its thread is not running yet.
-    pub fn new(commits: Commits, limit: Duration, room: Arc<Room>) -> Arc<Writer> {
+    pub fn new(commits: Commits, limit: Duration, room: Arc<DiskRoom>) -> Arc<Writer> {
         Arc::new(Writer { state: Mutex::default(), ready: Condvar::new(), failed: Notify::new(), commits, limit, room })
     }
 
@@ -194,13 +71,13 @@ impl Writer {
     pub fn start(
         self: &Arc<Writer>,
         database: Database,
-        tags: Arc<Tags>,
+        table: Arc<ManifestTable>,
         recorded: HashMap<String, u32>,
     ) -> std::io::Result<WriterThread> {
         let writer = self.clone();
-        let numbers = recorded.into_iter().map(|(tenant, upto)| (tenant, Numbers::after(upto))).collect();
+        let numbers = recorded.into_iter().map(|(tenant, upto)| (tenant, UploadNumbers::after(upto))).collect();
         let thread = std::thread::Builder::new().name("database".to_string());
-        thread.spawn(move || writer.run(database, &tags, numbers)).map(WriterThread)
+        thread.spawn(move || writer.run(database, &table, numbers)).map(WriterThread)
     }
 
     fn state(&self) -> MutexGuard<'_, State> {
@@ -330,7 +207,12 @@ impl Writer {
     /// Writes changes until the writer is closed, or until one transaction fails: after a failed write or sync the system may
     /// have dropped what it could not write, so nothing is tried again. A transaction for which the disk has no room is undone
     /// instead.
-    fn run(&self, mut database: Database, tags: &Tags, mut numbers: HashMap<String, Numbers>) -> rusqlite::Result<()> {
+    fn run(
+        &self,
+        mut database: Database,
+        table: &ManifestTable,
+        mut numbers: HashMap<String, UploadNumbers>,
+    ) -> rusqlite::Result<()> {
         let _guard = FailOnPanic(self);
         let mut unrecorded = BTreeSet::new();
         while let Some(batch) = self.next() {
@@ -356,7 +238,7 @@ impl Writer {
             unrecorded.clear();
             self.commits.count();
             for Waiting { change, reply } in batch {
-                let done = change.apply(tags, now);
+                let done = change.apply(table, now);
                 if let Some(reply) = reply {
                     let _ = reply.send(Ok(done));
                 }
@@ -378,13 +260,14 @@ impl Drop for FailOnPanic<'_> {
 }
 
 /// Notes the numbers of uploads in changes. Returns the tenants whose number changed up to which all are recorded.
-fn see_numbers(numbers: &mut HashMap<String, Numbers>, batch: &[Waiting]) -> Vec<String> {
+fn see_numbers(numbers: &mut HashMap<String, UploadNumbers>, batch: &[Waiting]) -> Vec<String> {
     batch.iter().filter_map(|waiting| waiting.change.see_number(numbers).map(str::to_string)).collect()
 }
 
 #[cfg(test)]
 mod tests {
     use super::*;
+    use crate::metadata::document::Facts;
     use std::path::PathBuf;
 
     fn folder() -> PathBuf {
@@ -393,10 +276,10 @@ mod tests {
         path
     }
 
-    fn started(folder: &std::path::Path) -> (Arc<Writer>, WriterThread, Arc<Tags>) {
-        let room = Arc::new(Room::new(folder.to_path_buf(), 0, 0));
+    fn started(folder: &std::path::Path) -> (Arc<Writer>, WriterThread, Arc<ManifestTable>) {
+        let room = Arc::new(DiskRoom::new(folder.to_path_buf(), 0, 0));
         let writer = Writer::new(Commits::new(), Duration::from_secs(60), room);
-        let tags = Arc::new(Tags::default());
+        let tags = Arc::new(ManifestTable::default());
         let database = Database::open(folder, true).unwrap();
         let thread = writer.start(database, tags.clone(), HashMap::new()).unwrap();
         (writer, thread, tags)

@@ -1,12 +1,13 @@
 //! Reading and deleting blobs.
-use crate::endpoints::registry::{empty, with_body, Call, HandlerResult};
+use crate::endpoints::call::Call;
 use crate::endpoints::transfer::{Pace, Span, Transfer, LEAST_HELD, PIECE_LEN};
 use crate::http::conditions::{check_match, entity_tag, has_content, is_range_wanted, not_modified};
 use crate::http::content::HELD_LEN;
 use crate::http::fault::Fault;
 use crate::http::in_flight::Reserved;
 use crate::http::ranges::{parts, requested_ranges, Part, RequestedRange, MAX_PLACE};
-use crate::store::client::{FetchResult, LeasedBlob, MAX_FETCHED};
+use crate::http::responses::{empty, with_body, HandlerResult};
+use crate::store::calls::{FetchResult, LeasedBlob, MAX_FETCHED};
 use hyper::{Body, StatusCode};
 use std::collections::VecDeque;
 use uuid::Uuid;

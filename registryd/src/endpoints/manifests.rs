@@ -1,22 +1,24 @@
-//! Manifests and tags.
+//! Manifests: reads, pushes and deletes.
 use crate::database::writer::WriteFailure;
-use crate::endpoints::registry::{empty, with_body, Call, HandlerResult, Registry};
+use crate::endpoints::call::Call;
+use crate::endpoints::registry::Registry;
 use crate::http::conditions::{check_match, entity_tag, has_content, not_modified};
 use crate::http::content::RequestContent;
 use crate::http::fault::Fault;
-use crate::http::pages::{page_response, WantedPage};
+use crate::http::responses::{empty, with_body, HandlerResult};
 use crate::metadata::clock::now;
-use crate::metadata::document::{self, Document, Facts};
-use crate::metadata::manifest_table::{is_tag, Kept, NamedManifest, Removal};
+use crate::metadata::document;
+use crate::metadata::document::{Document, Facts};
+use crate::metadata::limits::Limit;
 use crate::metadata::media_type::{check_inert, media_type_of, MediaType};
-use crate::metadata::repositories::{tenant_of, Limit};
+use crate::metadata::names::{is_tag, tenant_of};
+use crate::metadata::repository::{Kept, NamedManifest, Removal};
 use crate::metadata::turns::Turn;
 use crate::store::client::StoreUnavailable;
 use crate::store::frames::{Reason, Refusal};
 use bytes::Bytes;
 use hyper::header::IF_MATCH;
 use hyper::{Body, StatusCode};
-use serde_json::json;
 use sha2::{Digest, Sha256};
 use std::future::Future;
 
@@ -30,19 +32,19 @@ pub fn is_digest(reference: &str) -> bool {
 
 /// Finds the manifest of a reference.
 async fn look_up(call: &Call, reference: &str) -> Result<NamedManifest, Fault> {
-    let tags = &call.registry.tags;
+    let manifests = &call.registry.manifests;
     if !is_digest(reference) {
         let unknown = || if call.has_tenant() { Fault::manifest_unknown() } else { Fault::tenant_unknown(&call.repo) };
-        return tags.by_tag(&call.repo, reference).ok_or_else(unknown);
+        return manifests.by_tag(&call.repo, reference).ok_or_else(unknown);
     }
-    if let Some(named) = tags.by_digest(&call.repo, reference) {
-        tags.touch(&call.repo, reference);
+    if let Some(named) = manifests.by_digest(&call.repo, reference) {
+        manifests.touch(&call.repo, reference);
         return Ok(named);
     }
     // The store checks the name and the digest. A manifest that it has is being put or deleted at this moment, or it was put
     // when the program or the machine stopped.
     let size = call.registry.store.stat_manifest(&call.repo, reference).await??;
-    if !tags.is_kept() || tags.is_known(&call.repo, reference) {
+    if !manifests.is_kept() || manifests.is_known(&call.repo, reference) {
         return Err(Fault::manifest_unknown());
     }
     adopt(call, reference, size).await
@@ -51,13 +53,13 @@ async fn look_up(call: &Call, reference: &str) -> Result<NamedManifest, Fault> {
 /// Adds a manifest of `size` bytes that the store has and the catalog has not: the program stopped before it was added. Its
 /// media type is that of its content.
 async fn adopt(call: &Call, digest: &str, size: u64) -> Result<NamedManifest, Fault> {
-    let tags = &call.registry.tags;
+    let manifests = &call.registry.manifests;
     let _reserved = call.reserve(size).await?;
     let _turn = call.registry.turns.take(&call.repo, digest).await;
-    if !tags.is_known(&call.repo, digest) {
+    if !manifests.is_known(&call.repo, digest) {
         let content = [call.registry.store.get_manifest(&call.repo, digest).await??];
         let facts = tokio::task::block_in_place(|| facts_of_stored(&content)).ok_or_else(Fault::manifest_unknown)?;
-        match tags.put(&call.repo, digest, facts.clone(), None).await {
+        match manifests.put(&call.repo, digest, facts.clone(), None).await {
             // It is added by a later request.
             Err(WriteFailure::NoRoom) => {
                 return Ok(NamedManifest { digest: digest.to_string(), media_type: facts.media_type, size });
@@ -67,7 +69,7 @@ async fn adopt(call: &Call, digest: &str, size: u64) -> Result<NamedManifest, Fa
         call.registry.repositories.add(&call.repo);
         tracing::info!(repo = %call.repo, digest, "found a manifest whose push was interrupted");
     }
-    tags.by_digest(&call.repo, digest).ok_or_else(Fault::manifest_unknown)
+    manifests.by_digest(&call.repo, digest).ok_or_else(Fault::manifest_unknown)
 }
 
 /// Returns the facts of a manifest that the store has, by its content alone.
@@ -130,9 +132,9 @@ pub async fn put(call: &Call, reference: &str, content: &mut RequestContent) -> 
     if !is_digest(reference) && !is_tag(reference) {
         return Err(Fault::manifest_invalid("the reference is neither a tag nor a digest"));
     }
-    let (tags, bounds) = (&call.registry.tags, &call.registry.bounds_of(&call.repo));
+    let (manifests, bounds) = (&call.registry.manifests, &call.registry.bounds_of(&call.repo));
     let exceeds = |excess| Fault::bound(excess, tenant_of(&call.repo));
-    tags.check_push(&call.repo, reference, content.len, bounds).map_err(exceeds)?;
+    manifests.check_push(&call.repo, reference, content.len, bounds).map_err(exceeds)?;
     let bytes = content.manifest().await?;
     // Parsing a long manifest takes long, so it runs in a blocking thread.
     let (digest, document) = tokio::task::block_in_place(|| (digest_of(&bytes), document::read(&bytes)));
@@ -146,11 +148,11 @@ pub async fn put(call: &Call, reference: &str, content: &mut RequestContent) -> 
     let condition = turn_by_condition(call, reference).await?;
     let turn = call.registry.turns.take(&call.repo, &digest).await;
     let facts = facts_to_store(call, &digest, document, given, size_of(&bytes))?;
-    let room = tags.reserve(&call.repo, (&digest, facts.size), tag, bounds).map_err(exceeds)?;
+    let room = manifests.reserve(&call.repo, (&digest, facts.size), tag, bounds).map_err(exceeds)?;
     let changing = call.registry.repositories.begin_change(&call.repo);
     call.check_limit(call.registry.store.put_manifest(&call.repo, &bytes).await?, Limit::Manifests)?;
-    let (subject, missing) = (facts.subject.clone(), tags.count_missing(&call.repo, &facts.lists));
-    tags.put(&call.repo, &digest, facts, tag).await?;
+    let (subject, missing) = (facts.subject.clone(), manifests.count_missing(&call.repo, &facts.lists));
+    manifests.put(&call.repo, &digest, facts, tag).await?;
     drop(room);
     // With a database, the repository is recorded there from now on.
     call.registry.repositories.add(&call.repo);
@@ -160,8 +162,9 @@ pub async fn put(call: &Call, reference: &str, content: &mut RequestContent) -> 
 
 /// Returns the digest of the manifest that a reference names now.
 fn current(call: &Call, reference: &str) -> Option<String> {
-    let tags = &call.registry.tags;
-    let named = if is_digest(reference) { tags.by_digest(&call.repo, reference) } else { tags.by_tag(&call.repo, reference) };
+    let manifests = &call.registry.manifests;
+    let named =
+        if is_digest(reference) { manifests.by_digest(&call.repo, reference) } else { manifests.by_tag(&call.repo, reference) };
     named.map(|named| named.digest)
 }
 
@@ -184,7 +187,7 @@ fn accepted(call: &Call, digest: &str, subject: Option<&str>, missing: usize) ->
         headers.push(("Warning", &sparse));
     }
     let volatile = warning("the registry keeps this in memory: it is lost when the registry ends");
-    if !call.registry.tags.is_kept() {
+    if !call.registry.manifests.is_kept() {
         headers.push(("Warning", &volatile));
     }
     empty(StatusCode::CREATED, &headers)
@@ -224,7 +227,7 @@ fn check_digest(digest: &str, reference: &str) -> Result<(), Fault> {
 /// Returns the facts of a manifest. Its media type is the stored one if the repository already has the manifest, and else the
 /// given one. Fails if they differ.
 fn facts_to_store(call: &Call, digest: &str, document: Document, given: MediaType, size: u64) -> Result<Facts, Fault> {
-    let media_type = match call.registry.tags.by_digest(&call.repo, digest) {
+    let media_type = match call.registry.manifests.by_digest(&call.repo, digest) {
         Some(stored) if given.is_given && !stored.media_type.eq_ignore_ascii_case(&given.text) => {
             let message = format!("the repository has the manifest with media type {}, not {}", stored.media_type, given.text);
             return Err(Fault::manifest_invalid(message));
@@ -246,7 +249,7 @@ pub async fn delete(call: &Call, reference: &str) -> HandlerResult {
             call.registry.store.stat_manifest(&call.repo, reference).await??;
             return Err(Fault::listed(&index));
         }
-    } else if !call.registry.tags.remove_tag(&call.repo, reference).await? {
+    } else if !call.registry.manifests.remove_tag(&call.repo, reference).await? {
         return Err(Fault::manifest_unknown());
     }
     empty(StatusCode::ACCEPTED, &[])
@@ -255,35 +258,24 @@ pub async fn delete(call: &Call, reference: &str) -> HandlerResult {
 /// Deletes a manifest and its tags. They are hidden from now on, and are shown again if the store does not delete it. Nothing
 /// is deleted if the manifest is to be kept. The repository is removed if it is empty then.
 pub async fn delete_manifest(registry: &Registry, repo: &str, digest: &str, removal: Removal) -> Result<Result<(), Kept>, Fault> {
-    let Registry { store, tags, turns, .. } = registry;
+    let Registry { store, manifests, turns, .. } = registry;
     let turn = turns.take(repo, digest).await;
     let blobs = registry.blobs_to_loosen(repo, digest).await?;
-    let removed = match tags.begin_removal(repo, digest, removal).await? {
+    let removed = match manifests.begin_removal(repo, digest, removal).await? {
         Ok(removed) => removed,
         Err(kept) => return Ok(Err(kept)),
     };
     let deleted = store.delete_manifest(repo, digest).await;
     match &deleted {
         Ok(Ok(())) => {
-            tags.remove_manifest(repo, digest, now());
+            manifests.remove_manifest(repo, digest, now());
             registry.loosen(repo, &blobs);
         }
-        Ok(Err(Refusal { reason: Reason::ManifestUnknown, .. })) => tags.remove_manifest(repo, digest, now()),
-        Ok(Err(_)) => tags.undo_removal(repo, digest, removed).await?,
+        Ok(Err(Refusal { reason: Reason::ManifestUnknown, .. })) => manifests.remove_manifest(repo, digest, now()),
+        Ok(Err(_)) => manifests.undo_removal(repo, digest, removed).await?,
         Err(StoreUnavailable) => {}
     }
     drop(turn);
     registry.end_delete(repo, &deleted).await;
     Ok(Ok(deleted??))
-}
-
-/// end-8: returns a page of the tags.
-pub async fn tags(call: &Call) -> HandlerResult {
-    let wanted = WantedPage::of(call.head.uri.query())?;
-    let page = call.registry.tags.page(&call.repo, &wanted.last, wanted.most);
-    let unknown = || Fault::new(StatusCode::NOT_FOUND, "NAME_UNKNOWN", "the repository has no manifests");
-    let page = page.ok_or_else(|| if call.has_tenant() { unknown() } else { Fault::tenant_unknown(&call.repo) })?;
-    let last = page.items.last().filter(|_| page.more);
-    let link = last.map(|last| wanted.next(&format!("/v2/{}/tags/list", call.repo), last, &[]));
-    page_response(&json!({ "name": call.repo, "tags": page.items }), link)
 }

@@ -1,12 +1,13 @@
 //! The manifests that have a subject (OCI Distribution Specification 1.1, "Listing Referrers").
-use crate::endpoints::registry::{with_body, Call, HandlerResult};
+use crate::endpoints::call::Call;
 use crate::http::content::MAX_MANIFEST;
 use crate::http::fault::Fault;
 use crate::http::pages::WantedPage;
+use crate::http::responses::{with_body, HandlerResult};
 use crate::metadata::document::{annotations, is_digest};
-use crate::metadata::manifest_table::Referrer;
+use crate::metadata::manifest_lists::Referrer;
 use crate::metadata::media_type::INDEX_TYPE;
-use crate::start::tenants::is_repository;
+use crate::metadata::names::is_repository;
 use crate::store::frames::{Reason, Refusal};
 use hyper::body::HttpBody;
 use hyper::{Body, StatusCode};
@@ -31,9 +32,9 @@ pub async fn list(call: &Call, subject: &str) -> HandlerResult {
     let wanted = WantedPage::of(call.head.uri.query())?;
     // A `+` that is not encoded is read as a space, which no media type has.
     let artifact_type = call.query("artifactType").filter(|text| !text.is_empty()).map(|text| text.replace(' ', "+"));
-    let tags = &call.registry.tags;
+    let manifests = &call.registry.manifests;
     let most = (wanted.most, PAGE_BYTES);
-    let page = tags.referrers(&call.repo, subject, artifact_type.as_deref(), &wanted.last, most);
+    let page = manifests.referrers(&call.repo, subject, artifact_type.as_deref(), &wanted.last, most);
     let mut reserved = call.reserve(page_room(&page.items)).await?;
     let body = Body::from(index_of(call, &page.items).await?);
     let path = format!("/v2/{}/referrers/{subject}", call.repo);

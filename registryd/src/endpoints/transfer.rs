@@ -1,6 +1,7 @@
 //! The transfer of a leased blob to a client, in pieces.
 use crate::endpoints::registry::Registry;
-use crate::store::client::{Answer, LeasedBlob, StoreUnavailable};
+use crate::store::calls::LeasedBlob;
+use crate::store::client::{Answer, StoreUnavailable};
 use crate::store::connection::WHOLE_LEN;
 use crate::store::frames::Refusal;
 use bytes::Bytes;

@@ -1,12 +1,15 @@
 //! Uploads: opens, appends to, closes and abandons them.
-use crate::endpoints::registry::{empty, Call, HandlerResult, Registry};
+use crate::endpoints::call::Call;
+use crate::endpoints::registry::Registry;
 use crate::http::content::{Piece, RequestContent, Then};
 use crate::http::fault::{range_text, Fault};
 use crate::http::ranges::content_range;
+use crate::http::responses::{empty, HandlerResult};
+use crate::metadata::limits::Limit;
+use crate::metadata::names::{is_repository, tenant_of};
 use crate::metadata::open_uploads::{AppendingRequest, UploadInUse};
-use crate::metadata::repositories::{tenant_of, Limit};
-use crate::start::tenants::is_repository;
-use crate::store::client::{Answer, MountResult, SlotUse, StoreUnavailable};
+use crate::store::calls::{MountResult, SlotUse};
+use crate::store::client::{Answer, StoreUnavailable};
 use crate::store::frames::{Reason, Refusal};
 use bytes::Bytes;
 use hyper::StatusCode;

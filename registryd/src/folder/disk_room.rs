@@ -3,7 +3,7 @@
 //!
 //! The file `reserve` takes room while the disk has enough. A change that finds too little free cuts a part off it, so that deletes and
 //! a rewriting of the log are possible on a disk that another program has filled.
-use crate::folder::held_room::Held;
+use crate::folder::held_room::HeldRoom;
 use crate::http::fault::Fault;
 use std::ffi::CString;
 use std::fs::OpenOptions;
@@ -61,14 +61,14 @@ impl Level {
 }
 
 /// The room on the disk of a folder.
-pub struct Room {
+pub struct DiskRoom {
     path: PathBuf,
     min_free: u64,
     /// The length of a whole reserve, in bytes.
     reserve: u64,
     /// The time of the last look, and the number of bytes that were free.
     last: Mutex<Option<(Instant, u64)>>,
-    held: Held,
+    held: HeldRoom,
     /// What was logged last, and the last number in the file for a rewriting. This lock is held while the reserve changes.
     shown: Mutex<(Level, Option<u64>)>,
 }
@@ -96,10 +96,17 @@ fn allocate(path: &Path, bytes: u64) -> io::Result<()> {
     }
 }
 
-impl Room {
+impl DiskRoom {
     /// Makes the room of a folder on whose disk `min_free` bytes stay free of content, and whose reserve has `reserve` bytes.
-    pub fn new(path: PathBuf, min_free: u64, reserve: u64) -> Room {
-        Room { path, min_free, reserve, last: Mutex::default(), held: Held::default(), shown: Mutex::new((Level::All, None)) }
+    pub fn new(path: PathBuf, min_free: u64, reserve: u64) -> DiskRoom {
+        DiskRoom {
+            path,
+            min_free,
+            reserve,
+            last: Mutex::default(),
+            held: HeldRoom::default(),
+            shown: Mutex::new((Level::All, None)),
+        }
     }
 
     /// Returns the number of bytes that stay free of content.
@@ -301,8 +308,8 @@ mod tests {
             TestFolder(path)
         }
 
-        fn room(&self, min_free: u64, reserve: u64) -> Room {
-            Room::new(self.0.clone(), min_free, reserve)
+        fn room(&self, min_free: u64, reserve: u64) -> DiskRoom {
+            DiskRoom::new(self.0.clone(), min_free, reserve)
         }
     }
 
@@ -331,7 +338,7 @@ mod tests {
 
     #[test]
     fn a_folder_that_is_not_there_has_room() {
-        let room = Room::new(PathBuf::from("/no/such/folder"), u64::MAX, 1);
+        let room = DiskRoom::new(PathBuf::from("/no/such/folder"), u64::MAX, 1);
         assert_eq!((room.free(), room.reserved()), (None, 0));
         assert!(room.check_content().is_ok() && room.check_change().is_ok());
     }

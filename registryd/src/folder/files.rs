@@ -1,6 +1,6 @@
 //! The folder of a registry that survives restarts: its files.
 use crate::database::sqlite::FILE_NAME;
-use crate::folder::disk_room::Room;
+use crate::folder::disk_room::DiskRoom;
 use crate::folder::log_end::is_of_log;
 use std::io;
 use std::path::{Path, PathBuf};
@@ -10,7 +10,7 @@ use std::sync::Arc;
 pub struct Folder {
     path: PathBuf,
     /// The room on its disk.
-    pub room: Arc<Room>,
+    pub room: Arc<DiskRoom>,
 }
 
 /// The file by which the store is asked to rewrite its log.
@@ -40,7 +40,7 @@ pub fn log_length(path: &Path) -> Option<u64> {
 }
 
 impl Folder {
-    pub fn new(path: PathBuf, room: Arc<Room>) -> Folder {
+    pub fn new(path: PathBuf, room: Arc<DiskRoom>) -> Folder {
         Folder { path, room }
     }
 
@@ -80,7 +80,7 @@ mod tests {
     use super::*;
 
     fn folder_at(path: PathBuf) -> Folder {
-        Folder::new(path.clone(), Arc::new(Room::new(path, 0, 0)))
+        Folder::new(path.clone(), Arc::new(DiskRoom::new(path, 0, 0)))
     }
 
     #[test]

@@ -13,7 +13,7 @@ const TRANSACTION: u64 = 256 << 10;
 
 /// The number and the path of the last file of the log after whose end room is held.
 #[derive(Default)]
-pub struct Held(Mutex<Option<(u64, PathBuf)>>);
+pub struct HeldRoom(Mutex<Option<(u64, PathBuf)>>);
 
 /// Opens a file to change it. Returns its length too.
 fn open(path: &Path) -> io::Result<(File, u64)> {
@@ -39,7 +39,7 @@ fn release(path: &Path) -> io::Result<()> {
     file.set_len(length)
 }
 
-impl Held {
+impl HeldRoom {
     /// Holds this number of bytes for the log in a folder, and some for the database. Returns whether the disk has the room. A file
     /// system that cannot hold room has it.
     pub fn hold(&self, folder: &Path, bytes: u64) -> bool {
@@ -73,13 +73,13 @@ mod tests {
         std::fs::create_dir(&folder).unwrap();
         let (first, second) = (folder.join("log.1"), folder.join("log.2"));
         std::fs::write(&first, "abc").unwrap();
-        let held = Held::default();
+        let held = HeldRoom::default();
         let taken = |path: &Path| std::fs::metadata(path).unwrap().blocks() * 512;
         assert!(held.hold(&folder, 1 << 20) && taken(&first) >= 1 << 20);
         std::fs::write(&second, "abcd").unwrap();
         assert!(held.hold(&folder, 1 << 20) && taken(&first) < 1 << 20 && taken(&second) >= 1 << 20);
         assert_eq!((std::fs::read(&first).unwrap(), std::fs::read(&second).unwrap()), (b"abc".to_vec(), b"abcd".to_vec()));
-        assert!(Held::default().hold(Path::new("/no/such/folder"), 1));
+        assert!(HeldRoom::default().hold(Path::new("/no/such/folder"), 1));
         std::fs::remove_dir_all(folder).unwrap();
     }
 }

@@ -1,7 +1,6 @@
 //! The cached pages of a folder's files. After a write to the disk has failed, Linux keeps the pages and calls them clean: they
 //! are read as if they were on the disk, and no later sync writes them. So a start drops them and reads from the disk.
-use crate::database::sqlite;
-use crate::database::witness;
+use crate::database::{sqlite, witness};
 use crate::folder::log_end;
 use std::fs::File;
 use std::io;

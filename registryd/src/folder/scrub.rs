@@ -3,8 +3,8 @@
 use crate::folder::frame_check::{check, Damage};
 use crate::folder::log_end::{is_of_log, number_of};
 use crate::folder::page_cache;
+use crate::metadata::clock;
 use crate::operation::metrics::Metrics;
-use crate::operation::status::now;
 use prometheus::{IntCounter, IntGauge};
 use serde_json::{json, Value};
 use std::fs::File;
@@ -137,7 +137,7 @@ impl Scrub {
         let mut state = self.state.lock().unwrap();
         self.damaged.set(found.len() as i64);
         state.found = found;
-        state.ended = Some(now());
+        state.ended = Some(clock::time_of_day());
         self.rounds.inc();
     }
 
@@ -147,7 +147,7 @@ impl Scrub {
         let known = state.found.iter().find(|known| known.file == file && known.damage == damage).cloned();
         let one = known.unwrap_or_else(|| {
             tracing::error!(file, byte = damage.byte, what = %damage.what, "the log is damaged: make a backup of what is served");
-            let one = Found { file: file.to_string(), damage, time: now() };
+            let one = Found { file: file.to_string(), damage, time: clock::time_of_day() };
             state.found.push(one.clone());
             self.damaged.set(state.found.len() as i64);
             one

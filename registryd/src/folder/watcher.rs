@@ -1,9 +1,11 @@
 //! The look at the folder that happens once a second while clients are served. It finds out if a file that the programs have
 //! open was removed, moved or replaced, looks at the room on the disk, and records in the database how far the log is on the disk.
+use crate::database::change::Change;
 use crate::database::sqlite;
-use crate::database::writer::{Change, Writer};
-use crate::folder::disk_room::Room;
-use crate::folder::log_end::{self, LogEnd};
+use crate::database::writer::Writer;
+use crate::folder::disk_room::DiskRoom;
+use crate::folder::log_end;
+use crate::folder::log_end::LogEnd;
 use crate::operation::exit::Failure;
 use crate::start::recovery::blocking;
 use std::io;
@@ -75,10 +77,10 @@ fn last_of(folder: &Path) -> Option<(u64, PathBuf, Identity)> {
 }
 
 /// The looks at a folder.
-pub struct Watch {
+pub struct Watcher {
     folder: PathBuf,
     /// The room on its disk.
-    room: Arc<Room>,
+    room: Arc<DiskRoom>,
     /// The writer of the database, if each change is on the disk before its reply.
     writer: Option<Arc<Writer>>,
     files: Files,
@@ -89,11 +91,11 @@ pub struct Watch {
     looks: u32,
 }
 
-impl Watch {
+impl Watcher {
     /// Makes a watch of a folder whose programs have started. With a writer it records the end of the log.
-    pub fn new(folder: PathBuf, room: Arc<Room>, writer: Option<Arc<Writer>>) -> Watch {
+    pub fn new(folder: PathBuf, room: Arc<DiskRoom>, writer: Option<Arc<Writer>>) -> Watcher {
         let files = Files::of(&folder);
-        Watch { folder, room, writer, files, seen: None, kept: None, looks: 0 }
+        Watcher { folder, room, writer, files, seen: None, kept: None, looks: 0 }
     }
 
     /// Looks at the folder until something is wrong, and returns what.

@@ -1,6 +1,7 @@
 //! Conditional requests (RFC 9110, 13). The digest of the content is its entity tag.
-use crate::endpoints::registry::{empty, Call, HandlerResult};
+use crate::endpoints::call::Call;
 use crate::http::fault::Fault;
+use crate::http::responses::{empty, HandlerResult};
 use hyper::header::{HeaderMap, IF_MATCH, IF_NONE_MATCH, IF_RANGE};
 use hyper::StatusCode;
 

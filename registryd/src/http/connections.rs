@@ -1,4 +1,5 @@
 //! The connections of clients: their number, and the event that each waits for.
+
 use std::collections::HashMap;
 use std::io::{self, IoSlice};
 use std::net::SocketAddr;

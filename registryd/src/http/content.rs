@@ -1,16 +1,15 @@
 //! The content of a request, read in pieces of bounded length.
-use bytes::Bytes;
-use hyper::body::HttpBody;
-use hyper::{Body, Response, StatusCode};
-use std::sync::Arc;
-use std::time::Duration;
-
 use crate::http::exchange::Exchange;
 use crate::http::fault::Fault;
 use crate::http::in_flight::{Holder, Memory, Reserved};
 use crate::operation::memory_reserve;
 use crate::operation::metrics::Metrics;
 use crate::store::connection::WHOLE_LEN;
+use bytes::Bytes;
+use hyper::body::HttpBody;
+use hyper::{Body, Response, StatusCode};
+use std::sync::Arc;
+use std::time::Duration;
 
 /// The maximum length of a piece. A request holds the pieces that are being sent, one that waits, and one that is being
 /// read.

@@ -2,7 +2,8 @@
 //! Codes").
 use crate::database::writer::WriteFailure;
 use crate::metadata::bounds::Excess;
-use crate::metadata::repositories::{tenant_of, Limit, MAX_LASTING, MAX_MANIFESTS, MAX_REPOSITORIES, MAX_UPLOADS};
+use crate::metadata::limits::{Limit, MAX_LASTING, MAX_MANIFESTS, MAX_REPOSITORIES, MAX_UPLOADS};
+use crate::metadata::names::tenant_of;
 use crate::store::client::StoreUnavailable;
 use crate::store::frames::{Reason, Refusal};
 use hyper::header::{HeaderValue, CONTENT_TYPE};

@@ -11,5 +11,6 @@ pub(crate) mod in_flight;
 pub(crate) mod pages;
 pub(crate) mod paths;
 pub(crate) mod ranges;
+pub(crate) mod responses;
 pub(crate) mod server;
 pub(crate) mod tls;

@@ -1,8 +1,8 @@
 //! Pages of lists: which page a request asks for, and the link to the next one (OCI Distribution Specification 1.1, "Listing
 //! Tags"; RFC 8288).
-use crate::endpoints::registry::{with_body, HandlerResult};
 use crate::http::fault::Fault;
 use crate::http::paths::query_value;
+use crate::http::responses::{with_body, HandlerResult};
 use hyper::{Body, StatusCode};
 use serde_json::Value;
 

@@ -1,4 +1,5 @@
 //! Paths and queries of the API (OCI Distribution Specification 1.1, "Endpoints").
+
 use std::borrow::Cow;
 
 /// The resource that a path names.

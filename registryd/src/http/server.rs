@@ -6,6 +6,7 @@ use crate::http::tls::Tls;
 use hyper::server::conn::Http;
 use hyper::service::service_fn;
 use hyper::{Body, Request, Response};
+use io::ErrorKind::{ConnectionAborted, ConnectionRefused, ConnectionReset, Interrupted};
 use std::convert::Infallible;
 use std::future::Future;
 use std::io;
@@ -38,7 +39,6 @@ pub fn raise_file_limit() -> io::Result<u64> {
 
 /// Returns whether an error of `accept` concerns one client only, so that the next can be accepted at once.
 fn is_of_one_client(error: &io::Error) -> bool {
-    use io::ErrorKind::{ConnectionAborted, ConnectionRefused, ConnectionReset, Interrupted};
     matches!(error.kind(), ConnectionAborted | ConnectionRefused | ConnectionReset | Interrupted)
 }
 

@@ -1,4 +1,5 @@
 //! The bounds on the manifests and tags of a tenant. The store does not charge them to the quota.
+
 use std::ops::{Add, Sub};
 
 /// The manifests of a tenant or of a repository, their bytes, and its tags.

@@ -3,14 +3,11 @@
 //! A blob is added when it is pushed or mounted, and when a manifest is deleted that refers to it. After the time the store is
 //! asked to unlink it, which it refuses if a manifest refers to it. A request for the blob begins the time anew, because the
 //! client may be about to push a manifest. So the blob that a reply named stays for the time.
-use crate::database::writer::{Change, Writer};
-use crate::endpoints::registry::Registry;
-use crate::http::content::MAX_MANIFEST;
+use crate::database::change::Change;
+use crate::database::writer::Writer;
 use crate::http::fault::Fault;
-use crate::http::in_flight::Holder;
-use crate::metadata::document;
 use crate::metadata::turns::{Turn, Turns};
-use crate::store::client::{Answer, StoreUnavailable};
+use crate::store::client::Answer;
 use crate::store::frames::{Reason, Refusal};
 use std::collections::HashMap;
 use std::sync::{Arc, Mutex};
@@ -31,11 +28,11 @@ struct Loose {
 #[derive(Default)]
 pub struct LooseBlobs {
     /// Whether blobs are unlinked. Otherwise there are none here.
-    is_on: bool,
+    pub is_on: bool,
     writer: Option<Arc<Writer>>,
     by_key: Mutex<HashMap<Key, Loose>>,
     /// Those who link a blob and those who unlink it take turns.
-    turns: Turns,
+    pub turns: Turns,
 }
 
 impl LooseBlobs {
@@ -76,6 +73,11 @@ impl LooseBlobs {
         }
     }
 
+    /// Adds a blob of a manifest that was deleted, or begins its time anew. One that is being unlinked stays marked.
+    pub fn loosen(&self, repo: &str, digest: &str) {
+        self.add(repo, digest, |_| ());
+    }
+
     /// Adds a blob, or begins its time anew and changes it.
     fn add(&self, repo: &str, digest: &str, change: impl FnOnce(&mut Loose)) {
         if !self.is_on {
@@ -100,7 +102,7 @@ impl LooseBlobs {
     }
 
     /// Removes a blob that is unlinked.
-    fn remove(&self, repo: &str, digest: &str) {
+    pub fn remove(&self, repo: &str, digest: &str) {
         let removed = self.by_key.lock().unwrap().remove(&(repo.to_string(), digest.to_string()));
         if let (Some(_), Some(writer)) = (removed, &self.writer) {
             writer.note(Change::RemoveLooseBlob { repo: repo.to_string(), digest: digest.to_string() });
@@ -108,13 +110,13 @@ impl LooseBlobs {
     }
 
     /// Returns the blobs that nobody has asked for in this time.
-    fn unasked(&self, time: Duration) -> Vec<Key> {
+    pub fn unasked(&self, time: Duration) -> Vec<Key> {
         let by_key = self.by_key.lock().unwrap();
         by_key.iter().filter(|(_, loose)| loose.since.elapsed() >= time).map(|(key, _)| key.clone()).collect()
     }
 
     /// Marks a blob before the store is asked to unlink it, if nobody has asked for it in this time.
-    fn begin_unlink(&self, key: &Key, time: Duration) -> bool {
+    pub fn begin_unlink(&self, key: &Key, time: Duration) -> bool {
         match self.by_key.lock().unwrap().get_mut(key) {
             Some(loose) if loose.since.elapsed() >= time => {
                 loose.is_leaving = true;
@@ -125,63 +127,17 @@ impl LooseBlobs {
     }
 
     /// Removes the mark of a blob that the store did not unlink.
-    fn undo_unlink(&self, key: &Key) {
+    pub fn undo_unlink(&self, key: &Key) {
         if let Some(loose) = self.by_key.lock().unwrap().get_mut(key) {
             loose.is_leaving = false;
         }
     }
 
     /// Removes a blob to which a manifest refers, unless a manifest that refers to it was deleted in this time.
-    fn keep_linked(&self, key: &Key, time: Duration) {
+    pub fn keep_linked(&self, key: &Key, time: Duration) {
         self.undo_unlink(key);
         if self.begin_unlink(key, time) {
             self.remove(&key.0, &key.1);
-        }
-    }
-}
-
-impl Registry {
-    /// Returns the blobs of a manifest that is going to be deleted, if blobs are unlinked after some time.
-    pub async fn blobs_to_loosen(&self, repo: &str, digest: &str) -> Result<Vec<String>, Fault> {
-        if !self.loose.is_on {
-            return Ok(Vec::new());
-        }
-        let size = self.tags.any_facts(repo, digest).map_or(MAX_MANIFEST as u64, |(facts, _)| facts.size);
-        let holder = Holder { sharer: self.store.sharer(repo), connection: None };
-        let _reserved = self.memory.reserve(&holder, size).await?;
-        match self.store.get_manifest(repo, digest).await? {
-            Ok(content) => Ok(tokio::task::block_in_place(|| document::blobs(&content))),
-            Err(Refusal { reason: Reason::ManifestUnknown, .. }) => Ok(Vec::new()),
-            Err(refusal) => Err(refusal.into()),
-        }
-    }
-
-    /// Adds the blobs of a manifest that was deleted. One that is being unlinked stays marked.
-    pub fn loosen(&self, repo: &str, blobs: &[String]) {
-        blobs.iter().for_each(|digest| self.loose.add(repo, digest, |_| ()));
-    }
-
-    /// Unlinks the blobs that nobody has asked for in this time and to which no manifest refers.
-    pub async fn unlink_loose(&self, time: Duration) {
-        for key in self.loose.unasked(time) {
-            let (repo, digest) = (&key.0, &key.1);
-            let turn = self.loose.turns.take(repo, digest).await;
-            if !self.loose.begin_unlink(&key, time) {
-                continue;
-            }
-            let deleted = self.store.delete(repo, digest).await;
-            match &deleted {
-                Ok(Ok(())) => {
-                    tracing::info!(repo = %repo, digest = %digest, "deleted a blob that no manifest refers to");
-                    self.loose.remove(repo, digest);
-                }
-                Ok(Err(Refusal { reason: Reason::Memory, .. })) => self.loose.undo_unlink(&key),
-                Ok(Err(_)) => self.loose.keep_linked(&key, time),
-                // The store may still unlink it. It stays marked, and the store is asked again.
-                Err(StoreUnavailable) => {}
-            }
-            drop(turn);
-            self.end_delete(repo, &deleted).await;
         }
     }
 }

@@ -1,32 +1,34 @@
 //! The tags and facts of the manifests that the store has. They are in this process, and in the database if there is one. A
 //! change is durable before it is visible.
-use crate::database::writer::{Change, Done, WriteFailure, Writer};
+use crate::database::change::{Change, Done};
+use crate::database::writer::{WriteFailure, Writer};
 use crate::metadata::clock::now;
 use crate::metadata::document::Facts;
-use crate::metadata::manifest_table::{Kept, Removal, Tags};
+use crate::metadata::manifest_table::ManifestTable;
+use crate::metadata::repository::{Kept, Removal};
 use std::ops::Deref;
 use std::sync::Arc;
 
 /// The tags, and the writer of the database if there is one. What is read is in this process.
-pub struct Catalog {
-    tags: Arc<Tags>,
+pub struct Manifests {
+    table: Arc<ManifestTable>,
     writer: Option<Arc<Writer>>,
 }
 
 /// The tags of a manifest that is being deleted.
 pub struct RemovedTags(Vec<String>);
 
-impl Deref for Catalog {
-    type Target = Tags;
+impl Deref for Manifests {
+    type Target = ManifestTable;
 
-    fn deref(&self) -> &Tags {
-        &self.tags
+    fn deref(&self) -> &ManifestTable {
+        &self.table
     }
 }
 
-impl Catalog {
-    pub fn new(tags: Arc<Tags>, writer: Option<Arc<Writer>>) -> Catalog {
-        Catalog { tags, writer }
+impl Manifests {
+    pub fn new(table: Arc<ManifestTable>, writer: Option<Arc<Writer>>) -> Manifests {
+        Manifests { table, writer }
     }
 
     /// Returns whether the catalog survives the end of this program.
@@ -39,7 +41,7 @@ impl Catalog {
         let writer = match &self.writer {
             Some(writer) => writer,
             None => {
-                self.tags.put(repo, digest, facts, tag, now());
+                self.table.put(repo, digest, facts, tag, now());
                 return Ok(());
             }
         };
@@ -50,7 +52,7 @@ impl Catalog {
 
     /// Notes that a client asked for a manifest by its digest.
     pub fn touch(&self, repo: &str, digest: &str) {
-        if let (true, Some(writer)) = (self.tags.touch(repo, digest, now()), &self.writer) {
+        if let (true, Some(writer)) = (self.table.touch(repo, digest, now()), &self.writer) {
             writer.note(Change::TouchManifest { repo: repo.to_string(), digest: digest.to_string() });
         }
     }
@@ -65,8 +67,8 @@ impl Catalog {
     /// Removes a tag. Returns whether it was there.
     pub async fn remove_tag(&self, repo: &str, tag: &str) -> Result<bool, WriteFailure> {
         let writer = match &self.writer {
-            Some(writer) if self.tags.by_tag(repo, tag).is_some() => writer,
-            _ => return Ok(self.tags.remove_tag(repo, tag, now())),
+            Some(writer) if self.table.by_tag(repo, tag).is_some() => writer,
+            _ => return Ok(self.table.remove_tag(repo, tag, now())),
         };
         let removed = writer.write(Change::RemoveTag { repo: repo.to_string(), tag: tag.to_string() }).await?;
         Ok(removed != Done::Removed(Vec::new()))
@@ -81,11 +83,11 @@ impl Catalog {
         digest: &str,
         removal: Removal,
     ) -> Result<Result<RemovedTags, Kept>, WriteFailure> {
-        if let Err(kept) = self.tags.begin_removal(repo, digest, removal) {
+        if let Err(kept) = self.table.begin_removal(repo, digest, removal) {
             return Ok(Err(kept));
         }
         let writer = match &self.writer {
-            Some(writer) if self.tags.is_known(repo, digest) => writer,
+            Some(writer) if self.table.is_known(repo, digest) => writer,
             _ => return Ok(Ok(RemovedTags(Vec::new()))),
         };
         match writer.write(Change::RemoveManifest { repo: repo.to_string(), digest: digest.to_string() }).await {
@@ -93,7 +95,7 @@ impl Catalog {
             Ok(Done::Nothing) => Ok(Ok(RemovedTags(Vec::new()))),
             Err(failure) => {
                 if failure == WriteFailure::NoRoom {
-                    self.tags.end_removal(repo, digest);
+                    self.table.end_removal(repo, digest);
                 }
                 Err(failure)
             }
@@ -102,11 +104,11 @@ impl Catalog {
 
     /// Shows a manifest and its tags again that the store did not delete. A tag that names another manifest by now stays.
     pub async fn undo_removal(&self, repo: &str, digest: &str, tags: RemovedTags) -> Result<(), WriteFailure> {
-        if let (Some(writer), Some((facts, since))) = (&self.writer, self.tags.any_facts(repo, digest)) {
+        if let (Some(writer), Some((facts, since))) = (&self.writer, self.table.any_facts(repo, digest)) {
             let (repo, digest) = (repo.to_string(), digest.to_string());
             writer.write(Change::RestoreManifest { repo, digest, facts, since, tags: tags.0 }).await?;
         }
-        self.tags.end_removal(repo, digest);
+        self.table.end_removal(repo, digest);
         Ok(())
     }
 }

@@ -2,13 +2,17 @@
 pub(crate) mod bounds;
 pub(crate) mod clock;
 pub(crate) mod document;
+pub(crate) mod limits;
 pub(crate) mod loose_blobs;
+pub(crate) mod manifest_lists;
 pub(crate) mod manifest_table;
 pub(crate) mod manifests;
 pub(crate) mod media_type;
+pub(crate) mod names;
 pub(crate) mod open_uploads;
 pub(crate) mod pushes;
 pub(crate) mod repositories;
+pub(crate) mod repository;
 pub(crate) mod reverse_references;
 pub(crate) mod turns;
 pub(crate) mod upload_names;

@@ -1,8 +1,10 @@
 //! The open uploads. Clients know an upload by a name that cannot be guessed. Each upload has a session in the store. With a
 //! database, each has a row there, so that it is abandoned some time after a restart if nobody continues it.
-use crate::database::writer::{Change, Writer};
+use crate::database::change::Change;
+use crate::database::writer::Writer;
 use crate::http::fault::Fault;
-use crate::metadata::repositories::{tenant_of, MAX_LASTING};
+use crate::metadata::limits::MAX_LASTING;
+use crate::metadata::names::tenant_of;
 use crate::metadata::upload_names::Secret;
 use std::collections::HashMap;
 use std::sync::{Arc, Mutex};
@@ -53,7 +55,7 @@ impl UploadTimeouts {
 }
 
 /// The open uploads.
-pub struct Uploads {
+pub struct OpenUploads {
     secret: Secret,
     writer: Option<Arc<Writer>>,
     by_name: Mutex<HashMap<Uuid, Upload>>,
@@ -61,7 +63,7 @@ pub struct Uploads {
 
 /// An upload that a request is using. It is not abandoned before this is dropped.
 pub struct UploadInUse<'u> {
-    uploads: &'u Uploads,
+    uploads: &'u OpenUploads,
     pub name: Uuid,
     pub session: u32,
 }
@@ -108,10 +110,10 @@ impl Upload {
     }
 }
 
-impl Uploads {
+impl OpenUploads {
     /// Makes a table whose names are made with a secret.
-    pub fn new(secret: Secret, writer: Option<Arc<Writer>>) -> Uploads {
-        Uploads { secret, writer, by_name: Mutex::default() }
+    pub fn new(secret: Secret, writer: Option<Arc<Writer>>) -> OpenUploads {
+        OpenUploads { secret, writer, by_name: Mutex::default() }
     }
 
     /// Adds an upload that was opened, and returns its name. It does not count as one that stays open.
@@ -264,8 +266,8 @@ impl Drop for UploadInUse<'_> {
 mod tests {
     use super::*;
 
-    fn uploads() -> Uploads {
-        Uploads::new(Secret([7; 32]), None)
+    fn uploads() -> OpenUploads {
+        OpenUploads::new(Secret([7; 32]), None)
     }
 
     const NOW: UploadTimeouts = UploadTimeouts { begun: Duration::ZERO, empty: Duration::ZERO };
@@ -376,7 +378,7 @@ mod tests {
     #[test]
     fn an_upload_of_before_a_restart_has_its_name_and_length() {
         let name = uploads().add("acme/web", 7);
-        let (begun, other) = (uploads(), Uploads::new(Secret([8; 32]), None));
+        let (begun, other) = (uploads(), OpenUploads::new(Secret([8; 32]), None));
         assert_eq!(begun.add_known("acme/web", 7, 10), name);
         assert_eq!(begun.enter("acme/web", name).unwrap().add().length(), Some(10));
         let hour = Duration::from_secs(3600);

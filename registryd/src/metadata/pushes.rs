@@ -1,4 +1,5 @@
 //! The pushes of manifests to a repository that are in progress.
+
 use std::collections::HashMap;
 
 /// The manifests that are being pushed, and the tags under which they are pushed.

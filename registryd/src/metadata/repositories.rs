@@ -1,31 +1,10 @@
-//! The limits of a tenant. The store reports all of them with one status; this module finds the one that a call has reached.
-use crate::database::writer::{Change, WriteFailure, Writer};
+//! The repositories of the store, and the requests in progress that may create or remove one.
+use crate::database::change::Change;
+use crate::database::writer::{WriteFailure, Writer};
+use crate::metadata::limits::{Limit, MAX_REPOSITORIES};
+use crate::metadata::names::tenant_of;
 use std::collections::{HashMap, HashSet};
 use std::sync::{Arc, Mutex};
-
-/// The maximum number of open uploads of a tenant in the store.
-pub const MAX_UPLOADS: usize = 64;
-
-/// The maximum number of a tenant's uploads that stay open for a later request. The others of the store are for requests that open
-/// an upload and end it.
-pub const MAX_LASTING: usize = 60;
-
-/// The maximum number of repositories of a tenant.
-pub const MAX_REPOSITORIES: usize = 1024;
-
-/// The maximum number of manifests of a repository.
-pub const MAX_MANIFESTS: usize = 1024;
-
-/// A limit that a call has reached.
-#[derive(Clone, Copy, Debug, PartialEq, Eq)]
-pub enum Limit {
-    /// The uploads of the store.
-    Uploads,
-    /// The uploads that stay open for a later request.
-    LastingUploads,
-    Repositories,
-    Manifests,
-}
 
 /// The repositories of the store, by tenant. The store bounds their number.
 ///
@@ -80,11 +59,6 @@ pub struct Removing<'r> {
     request: ChangingRequest<'r>,
     /// The number of the repository's last addition before the store is asked.
     addition: Option<u64>,
-}
-
-/// Returns the tenant of a repository.
-pub fn tenant_of(repo: &str) -> &str {
-    repo.split('/').next().unwrap_or(repo)
 }
 
 impl Repositories {

@@ -1,14 +1,15 @@
 //! The manifests of a repository that name others: indexes name those that they list, and manifests their subjects.
+
 use std::collections::{BTreeSet, HashMap};
 use std::ops::Bound;
 
 /// For each digest, the manifests that name it.
 #[derive(Default)]
-pub struct Namers {
+pub struct ReverseReferences {
     by_digest: HashMap<String, BTreeSet<String>>,
 }
 
-impl Namers {
+impl ReverseReferences {
     /// Notes that a manifest names a digest.
     pub fn add(&mut self, named: &str, namer: &str) {
         self.by_digest.entry(named.to_string()).or_default().insert(namer.to_string());
@@ -42,11 +43,11 @@ mod tests {
 
     #[test]
     fn a_digest_has_the_namers_that_were_added() {
-        let mut namers = Namers::default();
+        let mut namers = ReverseReferences::default();
         for (named, namer) in [("a", "2"), ("a", "1"), ("b", "1"), ("a", "3"), ("a", "1")] {
             namers.add(named, namer);
         }
-        let after = |namers: &Namers, last| namers.after("a", last).cloned().collect::<Vec<_>>();
+        let after = |namers: &ReverseReferences, last| namers.after("a", last).cloned().collect::<Vec<_>>();
         assert_eq!(
             (after(&namers, ""), after(&namers, "1"), after(&namers, "3")),
             (vec!["1".to_string(), "2".to_string(), "3".to_string()], vec!["2".to_string(), "3".to_string()], vec![],)

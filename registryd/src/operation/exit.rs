@@ -1,11 +1,10 @@
 //! The ways in which the program ends, and its exit statuses.
 use crate::database::sqlite::{OpenError, Problem};
 use crate::start::losses::Loss;
-use std::fmt;
-use std::io;
 use std::os::unix::process::ExitStatusExt;
 use std::path::Path;
 use std::process::ExitStatus;
+use std::{fmt, io};
 
 /// The exit status for a folder that cannot be used.
 const UNUSABLE: u8 = 6;

@@ -1,4 +1,8 @@
 //! The metrics for Prometheus.
+use crate::folder::files::Folder;
+use crate::metadata::clock;
+use crate::store::calls::SweepResult;
+use crate::store::client::{Store, StoreUnavailable};
 use hyper::{Method, StatusCode};
 use prometheus::{
     Encoder, HistogramOpts, HistogramVec, IntCounter, IntCounterVec, IntGauge, IntGaugeVec, Opts, Registry, TextEncoder,
@@ -6,10 +10,6 @@ use prometheus::{
 use std::sync::atomic::{AtomicU64, Ordering};
 use std::sync::Arc;
 use std::time::Duration;
-
-use crate::folder::files::Folder;
-use crate::operation::status::now;
-use crate::store::client::{Store, StoreUnavailable, SweepResult};
 
 /// The media type of the text that Prometheus reads.
 pub const CONTENT_TYPE: &str = "text/plain; version=0.0.4";
@@ -37,7 +37,7 @@ impl Commits {
     /// Counts a transaction.
     pub fn count(&self) {
         self.total.inc();
-        self.last.set(now() as i64);
+        self.last.set(clock::time_of_day() as i64);
     }
 }
 
@@ -62,7 +62,7 @@ impl Syncs {
         let before = self.told.fetch_max(count, Ordering::SeqCst);
         if count > before {
             self.total.inc_by(count - before);
-            self.last.set(now() as i64);
+            self.last.set(clock::time_of_day() as i64);
         }
     }
 }

@@ -1,16 +1,18 @@
 //! The state of the registry for its administrator: the JSON of `/status`, and a page that shows it in a browser.
-use crate::endpoints::registry::{with_body, HandlerResult, Registry};
+use crate::endpoints::registry::Registry;
 use crate::http::fault::Fault;
 use crate::http::paths::query_value;
-use crate::metadata::manifest_table::{Referrer, TagOverview};
+use crate::http::responses::{with_body, HandlerResult};
+use crate::metadata::clock;
+use crate::metadata::manifest_lists::{Referrer, TagOverview};
 use crate::operation::metrics::CONTENT_TYPE as METRICS_TYPE;
-use crate::store::client::{StoreUnavailable, SweepResult};
+use crate::store::calls::SweepResult;
+use crate::store::client::StoreUnavailable;
 use hyper::{Method, StatusCode};
 use serde_json::{json, Value};
 use sha2::{Digest, Sha256};
 use std::collections::VecDeque;
 use std::sync::Mutex;
-use std::time::{SystemTime, UNIX_EPOCH};
 
 /// The page. It has all styles and scripts, and loads nothing but `/status`.
 const PAGE: &str = include_str!("status.html");
@@ -68,7 +70,7 @@ impl SweepHistory {
         if swept.freed > 0 {
             let mut sweeps = self.0.lock().unwrap();
             sweeps.truncate(MAX_SWEEPS - 1);
-            sweeps.push_front(Sweep { time: now(), freed: swept.freed, held: swept.held });
+            sweeps.push_front(Sweep { time: clock::time_of_day(), freed: swept.freed, held: swept.held });
         }
     }
 
@@ -76,11 +78,6 @@ impl SweepHistory {
         let of = |sweep: &Sweep| json!({ "time": sweep.time, "freed": sweep.freed, "held": sweep.held });
         self.0.lock().unwrap().iter().map(of).collect()
     }
-}
-
-/// Returns the seconds since 1970.
-pub fn now() -> u64 {
-    SystemTime::now().duration_since(UNIX_EPOCH).map_or(0, |time| time.as_secs())
 }
 
 /// Returns the source expression of a policy that permits the text of the page's element (Content Security Policy Level 3,
@@ -133,7 +130,7 @@ impl Registry {
         for tenant in &self.tenants {
             let (used, quota) = self.store.usage(tenant).await?.unwrap_or_default();
             let held = self.store.slot_use(tenant).await?.ok();
-            let totals = self.tags.totals(tenant);
+            let totals = self.manifests.totals(tenant);
             tenants.push(json!({
                 "name": tenant,
                 "used": used,
@@ -151,7 +148,7 @@ impl Registry {
         let (sweeps, freed, held) = self.metrics.swept();
         Ok(json!({
             "version": env!("CARGO_PKG_VERSION"),
-            "time": now(),
+            "time": clock::time_of_day(),
             "started": self.started,
             "store": self.provenance.json(),
             "durable": self.metrics.is_durable(),
@@ -201,9 +198,28 @@ impl Registry {
     }
 
     fn repository_json(&self, name: &str) -> Value {
-        let overview = self.tags.overview(name, MAX_TAGS, MAX_REFERRERS);
+        let overview = self.manifests.overview(name, MAX_TAGS, MAX_REFERRERS);
         let tags: Vec<Value> = overview.tags.iter().map(tag_json).collect();
         json!({ "name": name, "manifests": overview.manifests, "tags": tags, "more_tags": overview.more })
+    }
+
+    /// Asks the store how often its log was synced, if it has one, and notes the number.
+    pub async fn note_syncs(&self) -> Result<(), StoreUnavailable> {
+        if self.folder.is_some() {
+            if let Ok(count) = self.store.sync_count().await? {
+                self.metrics.note_syncs(count);
+            }
+        }
+        Ok(())
+    }
+
+    /// Returns the metrics of all tenants.
+    pub async fn metrics_text(&self) -> Result<String, StoreUnavailable> {
+        if let Some(folder) = &self.folder {
+            self.metrics.set_folder(folder);
+        }
+        self.note_syncs().await?;
+        self.metrics.text(&self.store, &self.tenants, self.slots, self.uploads.len()).await
     }
 }
 

@@ -1,7 +1,8 @@
 //! What a start finds to be lost although it was on the disk. With `--sync closes` and `each` no crash leaves such a state: a file
 //! was removed, or replaced by an older one or by that of another registry.
 use crate::database::marks::Marks;
-use crate::database::sqlite::{ManifestRow, TagRow, FILE_NAME};
+use crate::database::rows::{ManifestRow, TagRow};
+use crate::database::sqlite::FILE_NAME;
 use crate::folder::log_end::LogEnd;
 use crate::operation::exit::Failure;
 use std::collections::BTreeSet;

@@ -1,12 +1,11 @@
 //! The start of a registry with a folder, before its store starts: makes the folder, opens the database, and finds out whether
 //! the database or the log was lost or replaced. Nothing is changed if it was.
-use crate::database::sqlite::{self, Database};
-use crate::folder::disk_room::Room;
-use crate::folder::files;
-use crate::folder::log_end::{self, LogEnd};
-use crate::folder::page_cache;
-use crate::folder::unsynced;
+use crate::database::sqlite;
+use crate::database::sqlite::Database;
+use crate::folder::disk_room::DiskRoom;
+use crate::folder::log_end::LogEnd;
 use crate::folder::watcher::LOCK;
+use crate::folder::{files, log_end, page_cache, unsynced};
 use crate::operation::exit::Failure;
 use crate::start::losses::{Loss, OnLoss};
 use crate::start::options::Options;
@@ -103,7 +102,7 @@ fn on_loss(options: &Options, folder: &Path) -> OnLoss {
 
 /// Returns whether the disk of a folder has no room for the changes of a start, although the reserve was given up. A folder without a
 /// database can then not be used.
-fn is_full(room: &Room, folder: &Path) -> bool {
+fn is_full(room: &DiskRoom, folder: &Path) -> bool {
     let is_full = has_database(folder) && !room.make();
     if is_full {
         tracing::error!("the disk is full: only reads are served until there is room");
@@ -112,7 +111,7 @@ fn is_full(room: &Room, folder: &Path) -> bool {
 }
 
 /// Opens the folder of the options. Drops its cached pages before anything reads them.
-pub fn open(options: &Options, folder: PathBuf, room: &Room) -> Result<Opened, Failure> {
+pub fn open(options: &Options, folder: PathBuf, room: &DiskRoom) -> Result<Opened, Failure> {
     let is_synced = options.is_durable();
     make(&folder).map_err(|error| Failure::of_folder("cannot make the folder", &folder, &error))?;
     warn_of_access(&folder);

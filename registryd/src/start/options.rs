@@ -2,10 +2,10 @@
 use crate::endpoints::registry::MetricsAccess;
 use crate::folder::scrub::DEFAULT_PACE;
 use crate::metadata::bounds::Bounds;
-use crate::metadata::manifest_table::Removal;
 use crate::metadata::open_uploads::UploadTimeouts;
-use crate::operation::retention::hours;
-use crate::start::tenants::{self, tenant_word, Tenant};
+use crate::metadata::repository::Removal;
+use crate::start::tenants;
+use crate::start::tenants::{tenant_word, Tenant};
 use clap::{Parser, ValueEnum};
 use std::ffi::OsString;
 use std::net::SocketAddr;
@@ -144,6 +144,18 @@ pub struct Options {
     /// Serve this tenant with a quota in bytes and a number of blobs
     #[arg(value_name = "TENANT=QUOTA[,BLOBS]", required = true, value_parser = tenant_word)]
     pub tenants: Vec<String>,
+}
+
+/// Returns the time that an argument in hours means.
+///
+/// # Errors
+///
+/// Fails if it is not a positive number, or more than 100 years.
+pub fn hours(text: &str) -> Result<Duration, String> {
+    match text.parse::<f64>() {
+        Ok(hours) if hours > 0.0 && hours <= 876_600.0 => Ok(Duration::from_secs_f64(3600.0 * hours)),
+        _ => Err("write a number of hours such as 48 or 0.5".to_string()),
+    }
 }
 
 /// Checks a text that is quoted in the header of a challenge, and returns it.
@@ -343,5 +355,14 @@ mod tests {
             assert!(Options::try_parse_from(["registryd", word]).is_err(), "{word}");
         }
         assert!(Options::try_parse_from(["registryd"]).is_err());
+    }
+
+    #[test]
+    fn hours_are_a_positive_number() {
+        assert_eq!(hours("48"), Ok(Duration::from_secs(172_800)));
+        assert_eq!(hours("0.5"), Ok(Duration::from_secs(1800)));
+        for text in ["", "0", "-1", "x", "inf", "NaN", "1e9"] {
+            assert!(hours(text).is_err(), "{text}");
+        }
     }
 }

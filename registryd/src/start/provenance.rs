@@ -1,5 +1,6 @@
 //! The record that the store's program was proved. `package/record` writes it beside the program, and the Debian package has it
 //! in `/usr/share/registryd`. It names the program by its checksum. Whoever can write it can forge it.
+
 use serde_json::{json, Value};
 use sha2::{Digest, Sha256};
 use std::collections::HashMap;

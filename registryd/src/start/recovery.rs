@@ -3,15 +3,18 @@
 //! The store is asked about each manifest and each open upload. So after any crash no tag and no list of referrers names a
 //! missing manifest, and each open upload has a name and is abandoned if nobody continues it. Empty repositories are
 //! removed.
-use crate::database::sqlite::{Committed, Database, ManifestRow, Rows, UploadRow};
-use crate::database::writer::Change;
+use crate::database::change::Change;
+use crate::database::rows::{ManifestRow, Rows, UploadRow};
+use crate::database::sqlite::{Committed, Database};
 use crate::folder::log_end::LogEnd;
 use crate::folder::unsynced;
-use crate::metadata::clock::{self, now};
-use crate::metadata::document::{self, Facts};
-use crate::metadata::manifest_table::Tags;
-use crate::metadata::repositories::{tenant_of, MAX_UPLOADS};
+use crate::metadata::clock::now;
+use crate::metadata::document::Facts;
+use crate::metadata::limits::MAX_UPLOADS;
+use crate::metadata::manifest_table::ManifestTable;
+use crate::metadata::names::tenant_of;
 use crate::metadata::upload_names::Secret;
+use crate::metadata::{clock, document};
 use crate::operation::exit::Failure;
 use crate::start::losses::Loss;
 use crate::start::opening::Opened;
@@ -38,10 +41,10 @@ pub struct FoundUpload {
 }
 
 /// What the database and the store have of the time before the start.
-pub struct Kept {
+pub struct Recovered {
     pub database: Database,
     pub secret: Secret,
-    pub tags: Tags,
+    pub manifests: ManifestTable,
     pub repositories: Vec<String>,
     pub uploads: Vec<FoundUpload>,
     /// The repositories and digests of blobs that are to be unlinked after some time.
@@ -62,7 +65,7 @@ struct Findings {
 
 /// Compares the database of a folder with the store, and corrects it. Ends the start if the store has lost something that was on
 /// the disk.
-pub async fn recover(store: &Store, opened: Opened) -> Result<Kept, Failure> {
+pub async fn recover(store: &Store, opened: Opened) -> Result<Recovered, Failure> {
     let on_loss = opened.on_loss();
     let Opened { folder, mut database, is_synced, is_full, .. } = opened;
     let (database, mut rows) = blocking(move || {
@@ -104,9 +107,9 @@ pub async fn recover(store: &Store, opened: Opened) -> Result<Kept, Failure> {
         true => (database, known),
         false => blocking(move || correction.make(database, known)).await?,
     };
-    let tags = tags_of(&rows);
+    let manifests = table_of(&rows);
     let Rows { repositories, loose_blobs, .. } = rows;
-    Ok(Kept { database, secret, tags, repositories, uploads, loose_blobs, recorded })
+    Ok(Recovered { database, secret, manifests, repositories, uploads, loose_blobs, recorded })
 }
 
 /// The changes of the database that a start makes.
@@ -195,15 +198,15 @@ async fn complete(store: &Store, rows: &mut [ManifestRow]) -> Result<Vec<Change>
 }
 
 /// Returns the tags and facts of the rows.
-fn tags_of(rows: &Rows) -> Tags {
-    let tags = Tags::default();
+fn table_of(rows: &Rows) -> ManifestTable {
+    let table = ManifestTable::default();
     for ManifestRow { repo, digest, facts, since, .. } in &rows.manifests {
-        tags.put(repo, digest, facts.clone(), None, *since);
+        table.put(repo, digest, facts.clone(), None, *since);
     }
     for row in &rows.tags {
-        tags.add_tag(&row.repo, &row.tag, &row.digest);
+        table.add_tag(&row.repo, &row.tag, &row.digest);
     }
-    tags
+    table
 }
 
 /// Returns the manifests of the database that the store does not have.

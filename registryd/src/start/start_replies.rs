@@ -1,25 +1,18 @@
 //! The replies of an address before the registry serves. A start lasts while the store reads its log.
-use crate::endpoints::registry::{empty, with_body, Registry};
+use crate::endpoints::registry::Registry;
 use crate::folder::files;
 use crate::http::browser::restrict;
-use crate::http::connections::Connections;
 use crate::http::fault::Fault;
-use crate::http::server;
-use crate::http::tls::Tls;
+use crate::http::responses::{empty, with_body};
+use crate::operation::health::{ALIVE, HEALTH};
 use crate::store::process;
 use hyper::header::{HeaderValue, CONNECTION};
 use hyper::{Body, Request, Response, StatusCode};
 use std::fmt;
-use std::fs::read_to_string;
-use std::path::{Path, PathBuf};
+use std::path::Path;
 use std::sync::Arc;
 use std::time::Instant;
-use tokio::net::TcpListener;
-use tokio::sync::{watch, OnceCell};
-use tokio::task::JoinHandle;
-
-/// The path whose reply is 200 as long as the program runs.
-pub const ALIVE: &str = "/livez";
+use tokio::sync::OnceCell;
 
 /// How far a start is.
 pub struct Progress {
@@ -89,7 +82,7 @@ impl Service {
     fn reply(&self, path: &str) -> Response<Body> {
         let replied = match path {
             ALIVE => empty(StatusCode::OK, &[]),
-            "/healthz" => {
+            HEALTH => {
                 let headers = [("Content-Type", "text/plain"), ("Cache-Control", "no-store"), ("Retry-After", "1")];
                 with_body(StatusCode::SERVICE_UNAVAILABLE, &headers, format!("{}\n", self.progress()).into())
             }
@@ -101,67 +94,6 @@ impl Service {
     }
 }
 
-/// The server of the clients, which accepts connections from the begin of the start.
-pub struct Serving {
-    pub connections: Arc<Connections>,
-    pub server: JoinHandle<()>,
-    /// Dropping it ends the server.
-    pub stop: watch::Sender<()>,
-}
-
-impl Serving {
-    /// Begins to accept connections.
-    pub fn begin(listener: TcpListener, tls: Option<Tls>, connections: Arc<Connections>, service: Arc<Service>) -> Serving {
-        let (stop, stopped) = watch::channel(());
-        let answer = move |request| service.clone().serve(request);
-        let server = tokio::spawn(server::serve(listener, tls, connections.clone(), stopped, answer));
-        let watched = connections.clone();
-        tokio::spawn(async move { watched.watch().await });
-        Serving { connections, server, stop }
-    }
-}
-
-/// Returns the number of available bytes in the text of `/proc/meminfo`.
-fn available_in(text: &str) -> Option<u64> {
-    let number = text.lines().find_map(|line| line.strip_prefix("MemAvailable:"))?.trim().strip_suffix("kB")?;
-    number.trim().parse::<u64>().ok()?.checked_mul(1024)
-}
-
-/// Returns the bytes of memory that are available on this machine, or all of them if `/proc/meminfo` is hidden.
-fn available_on_machine() -> Option<u64> {
-    if let Ok(text) = read_to_string("/proc/meminfo") {
-        return available_in(&text);
-    }
-    // SAFETY: zeros are a value of the struct, which has only numbers.
-    let mut info: libc::sysinfo = unsafe { std::mem::zeroed() };
-    // SAFETY: `info` has room for the struct that the call writes.
-    match unsafe { libc::sysinfo(&mut info) } {
-        0 => Some(info.totalram.saturating_mul(info.mem_unit.into())),
-        _ => None,
-    }
-}
-
-/// Returns the least limit on the memory of a control group and of those that contain it, in bytes. `own` is the text of
-/// `/proc/self/cgroup`, and `top` the folder of all groups (cgroups(7), version 2).
-fn group_limit(own: &str, top: &Path) -> Option<u64> {
-    let own = own.lines().find_map(|line| line.strip_prefix("0::/"))?;
-    let limit_of = |group: PathBuf| read_to_string(group.join("memory.max")).ok()?.trim().parse().ok();
-    Path::new(own).ancestors().filter_map(|group| limit_of(top.join(group))).min()
-}
-
-/// Returns the bytes of memory that this program may take, if that is known.
-fn available_memory() -> Option<u64> {
-    let limit = read_to_string("/proc/self/cgroup").ok().and_then(|own| group_limit(&own, Path::new("/sys/fs/cgroup")));
-    available_on_machine().into_iter().chain(limit).min()
-}
-
-/// Warns if a log is longer than the available memory, in which the store keeps what it reads.
-pub fn warn_of_memory(log_bytes: u64) {
-    if let Some(available) = available_memory().filter(|available| log_bytes > *available) {
-        tracing::warn!(log_bytes, available, "the log is longer than the available memory: the start may run out of it");
-    }
-}
-
 #[cfg(test)]
 mod tests {
     use super::*;
@@ -169,7 +101,7 @@ mod tests {
     #[test]
     fn replies_of_a_start_close_their_connections() {
         let service = Service::new(None);
-        for (path, status) in [(ALIVE, 200), ("/healthz", 503), ("/v2/", 503), ("/metrics", 503)] {
+        for (path, status) in [(ALIVE, 200), (HEALTH, 503), ("/v2/", 503), ("/metrics", 503)] {
             let response = service.reply(path);
             assert_eq!(
                 (response.status().as_u16(), &response.headers()[CONNECTION]),
@@ -184,25 +116,5 @@ mod tests {
         let text = |read| Progress { seconds: 3, read, log_bytes: 9 }.to_string();
         assert_eq!(text(Some(5)), "starting for 3 s: the store has read 5 bytes, the log has 9 bytes");
         assert_eq!(text(None), "starting for 3 s: the log has 9 bytes");
-    }
-
-    #[test]
-    fn the_least_limit_of_the_groups_counts() {
-        let top = std::env::temp_dir().join(format!("registryd-groups-{}", std::process::id()));
-        std::fs::create_dir_all(top.join("a/b")).unwrap();
-        let put = |group: &str, text: &str| std::fs::write(top.join(group).join("memory.max"), text).unwrap();
-        put("a/b", "max\n");
-        assert_eq!(group_limit("0::/a/b\n", &top), None);
-        put("a", "70\n");
-        put("", "90\n");
-        assert_eq!(group_limit("1:cpu:/x\n0::/a/b\n", &top), Some(70));
-        assert_eq!((group_limit("0::/\n", &top), group_limit("1:cpu:/x\n", &top)), (Some(90), None));
-        std::fs::remove_dir_all(top).unwrap();
-    }
-
-    #[test]
-    fn available_bytes_are_read() {
-        assert_eq!(available_in("MemTotal: 9 kB\nMemAvailable:    3 kB\n"), Some(3072));
-        assert_eq!([available_in(""), available_in("MemAvailable: x kB")], [None; 2]);
     }
 }

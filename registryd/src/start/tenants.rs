@@ -1,4 +1,5 @@
 //! The arguments `TENANT=QUOTA` and `TENANT=QUOTA,BLOBS` of the command line, by the rules of the store.
+use crate::metadata::names::is_component;
 use std::collections::HashSet;
 
 /// The maximum number of tenants.
@@ -9,9 +10,6 @@ const MAX_QUOTA: u64 = 1 << 50;
 
 /// The maximum share, in distinct blobs.
 const MAX_SHARE: u64 = u32::MAX as u64;
-
-/// The maximum length of a repository's name, and so of a tenant's, in bytes.
-const MAX_NAME: usize = 255;
 
 /// A tenant of the command line.
 #[derive(Clone, Debug, PartialEq, Eq)]
@@ -72,46 +70,9 @@ pub fn conflict(words: &[String]) -> Option<String> {
     Some(format!("duplicate tenant: `{twice}`"))
 }
 
-/// Returns whether a text is a repository's name (OCI Distribution Specification 1.1, "Pulling manifests").
-pub fn is_repository(text: &str) -> bool {
-    text.len() <= MAX_NAME && text.split('/').all(is_component)
-}
-
-/// Returns whether a text is one component of a repository's name (OCI Distribution Specification 1.1, "Pulling manifests").
-fn is_component(text: &str) -> bool {
-    let is_letter = |byte: u8| byte.is_ascii_lowercase() || byte.is_ascii_digit();
-    let bytes = text.as_bytes();
-    let has_ends = bytes.first().map_or(false, |byte| is_letter(*byte)) && bytes.last().map_or(false, |byte| is_letter(*byte));
-    let is_separator = |run: &str| matches!(run, "." | "_" | "__") || run.bytes().all(|byte| byte == b'-');
-    let mut runs = text.split(|letter: char| letter.is_ascii_lowercase() || letter.is_ascii_digit());
-    has_ends && bytes.len() <= MAX_NAME && runs.all(is_separator)
-}
-
 #[cfg(test)]
 mod tests {
     use super::*;
-
-    /// The examples of docs/SEMANTICS.md, and others.
-    #[test]
-    fn names_are_components() {
-        for name in ["a", "a__b", "a---b", "a.b", "0", &"a".repeat(255)] {
-            assert!(is_component(name), "{name}");
-        }
-        for name in ["", "a___b", "a._b", "a/b", "-a", "a-", "A", "ä", "a b", &"a".repeat(256)] {
-            assert!(!is_component(name), "{name}");
-        }
-    }
-
-    #[test]
-    fn repositories_are_components() {
-        let (longest, longer) = ("a/".repeat(127) + "a", "a/".repeat(127) + "aa");
-        for name in ["acme", "acme/web", "acme/a/b-c", &longest] {
-            assert!(is_repository(name), "{name}");
-        }
-        for name in ["", "/", "acme/", "/acme", "acme//web", "acme/Web", &longer] {
-            assert!(!is_repository(name), "{name}");
-        }
-    }
 
     #[test]
     fn a_message_names_the_word() {

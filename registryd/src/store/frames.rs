@@ -1,4 +1,5 @@
 //! The frames of a connection to `blobd` (docs/PROTOCOL.md).
+
 use bytes::Bytes;
 
 /// The first bytes that each side sends: the name and the version.

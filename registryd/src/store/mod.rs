@@ -1,5 +1,6 @@
 //! The store: a `blobd` process and the connections to it.
 pub(crate) mod appending;
+pub(crate) mod calls;
 pub(crate) mod client;
 pub(crate) mod connection;
 pub(crate) mod frames;

@@ -1,5 +1,5 @@
 //! Calls whose replies arrive after their callers stopped waiting are undone.
-use crate::database::writer::Change;
+use crate::database::change::Change;
 use crate::store::connection::{Frame, ReplyResult};
 use crate::store::frames::{Command, Reply, Request};
 use crate::store::pool::PooledConnection;

@@ -1,0 +1,77 @@
+//! The rows that a start reads from the database.
+use crate::metadata::document::Facts;
+use crate::metadata::upload_names::Secret;
+use rusqlite::Connection;
+use std::collections::HashMap;
+
+/// A manifest.
+#[derive(Clone, Debug, PartialEq, Eq)]
+pub struct ManifestRow {
+    pub repo: String,
+    pub digest: String,
+    pub facts: Facts,
+    /// Whether all facts are known, and not its media type alone.
+    pub is_complete: bool,
+    /// The last time at which it was pushed or something ceased to hold it, in seconds since 1970.
+    pub since: u64,
+}
+
+/// A tag with the digest of its manifest.
+#[derive(Clone, Debug, PartialEq, Eq)]
+pub struct TagRow {
+    pub repo: String,
+    pub tag: String,
+    pub digest: String,
+}
+
+/// An open upload.
+#[derive(Clone, Debug, PartialEq, Eq)]
+pub struct UploadRow {
+    pub repo: String,
+    pub number: u32,
+}
+
+/// The content of the database at a start.
+pub struct Rows {
+    pub secret: Secret,
+    pub repositories: Vec<String>,
+    pub manifests: Vec<ManifestRow>,
+    pub tags: Vec<TagRow>,
+    pub uploads: Vec<UploadRow>,
+    /// The repositories and digests of blobs that are to be unlinked after some time.
+    pub loose_blobs: Vec<(String, String)>,
+    /// For each tenant, a number up to which all its sessions that may be open are rows of `uploads`.
+    pub recorded: HashMap<String, u32>,
+}
+
+/// Returns all rows of a query.
+pub fn all<T>(
+    connection: &Connection,
+    query: &str,
+    read: impl FnMut(&rusqlite::Row<'_>) -> rusqlite::Result<T>,
+) -> rusqlite::Result<Vec<T>> {
+    connection.prepare(query)?.query_map([], read)?.collect()
+}
+
+/// Returns all manifests.
+pub fn manifest_rows(connection: &Connection) -> rusqlite::Result<Vec<ManifestRow>> {
+    let mut lists: HashMap<(String, String), Vec<String>> = HashMap::new();
+    let query = "SELECT repository, digest, listed FROM listed ORDER BY repository, digest, listed";
+    for (key, listed) in all(connection, query, |row| Ok(((row.get(0)?, row.get(1)?), row.get(2)?)))? {
+        lists.entry(key).or_default().push(listed);
+    }
+    let query = "SELECT repository, digest, media_type, size, artifact_type, subject, since FROM manifests";
+    all(connection, query, |row| {
+        let (repo, digest): (String, String) = (row.get(0)?, row.get(1)?);
+        let size: Option<i64> = row.get(3)?;
+        let lists = lists.remove(&(repo.clone(), digest.clone())).unwrap_or_default();
+        let facts = Facts {
+            media_type: row.get(2)?,
+            size: size.unwrap_or(0) as u64,
+            artifact_type: row.get(4)?,
+            subject: row.get(5)?,
+            lists,
+        };
+        Ok(ManifestRow { repo, digest, facts, is_complete: size.is_some(), since: row.get::<_, i64>(6)? as u64 })
+    })
+}

@@ -1,0 +1,97 @@
+//! The tables of the database, its version, and how it is set up.
+use rusqlite::Connection;
+use rusqlite::TransactionBehavior;
+use std::time::Duration;
+
+/// The time that the program before has to release the database.
+const WAIT: Duration = Duration::from_secs(5);
+
+/// The number in the file's head that marks it as a database of this program (`regd` in ASCII).
+pub const APPLICATION: i64 = 0x7265_6764;
+
+/// The version of the tables.
+pub const VERSION: i64 = 2;
+
+/// The tables of version 1.
+pub const TABLES: &str = "
+    CREATE TABLE settings (name TEXT PRIMARY KEY, value BLOB NOT NULL) WITHOUT ROWID;
+    CREATE TABLE repositories (name TEXT PRIMARY KEY) WITHOUT ROWID;
+    CREATE TABLE manifests (
+        repository TEXT NOT NULL, digest TEXT NOT NULL, media_type TEXT NOT NULL,
+        PRIMARY KEY (repository, digest)
+    ) WITHOUT ROWID;
+    CREATE TABLE tags (
+        repository TEXT NOT NULL, tag TEXT NOT NULL, digest TEXT NOT NULL,
+        PRIMARY KEY (repository, tag),
+        FOREIGN KEY (repository, digest) REFERENCES manifests ON DELETE CASCADE
+    ) WITHOUT ROWID;
+    CREATE INDEX tags_by_digest ON tags (repository, digest);
+    CREATE TABLE uploads (
+        tenant TEXT NOT NULL, number INTEGER NOT NULL, repository TEXT NOT NULL,
+        PRIMARY KEY (tenant, number)
+    ) WITHOUT ROWID;
+    CREATE TABLE tenants (name TEXT PRIMARY KEY, recorded INTEGER NOT NULL) WITHOUT ROWID;
+";
+
+/// What version 2 adds. `size` is missing for a manifest whose other facts are not known yet.
+const ADDITIONS: &str = "
+    ALTER TABLE manifests ADD COLUMN size INTEGER;
+    ALTER TABLE manifests ADD COLUMN artifact_type TEXT;
+    ALTER TABLE manifests ADD COLUMN subject TEXT;
+    ALTER TABLE manifests ADD COLUMN since INTEGER NOT NULL DEFAULT 0;
+    CREATE INDEX manifests_by_subject ON manifests (repository, subject);
+    CREATE TABLE listed (
+        repository TEXT NOT NULL, digest TEXT NOT NULL, listed TEXT NOT NULL,
+        PRIMARY KEY (repository, digest, listed),
+        FOREIGN KEY (repository, digest) REFERENCES manifests ON DELETE CASCADE
+    ) WITHOUT ROWID;
+    CREATE TABLE loose_blobs (
+        repository TEXT NOT NULL, digest TEXT NOT NULL,
+        PRIMARY KEY (repository, digest)
+    ) WITHOUT ROWID;
+";
+
+/// Sets how the database writes and checks. Other programs can read it meanwhile, for a backup. The store's lock on the folder
+/// keeps a second registry from writing it.
+pub fn set_up(connection: &Connection) -> rusqlite::Result<()> {
+    connection.busy_timeout(WAIT)?;
+    let word = |query: &str| connection.query_row(query, [], |row| row.get::<_, rusqlite::types::Value>(0));
+    word("PRAGMA journal_mode = WAL")?;
+    connection.execute_batch("PRAGMA synchronous = FULL; PRAGMA foreign_keys = ON")
+}
+
+/// Lets this connection alone read the database, so that SQLite needs no file with an index of what is in its log.
+pub fn set_up_without_room(connection: &Connection) -> rusqlite::Result<()> {
+    connection.busy_timeout(WAIT)?;
+    connection.query_row("PRAGMA locking_mode = EXCLUSIVE", [], |_| Ok(()))
+}
+
+/// Checks the database, or makes its tables if it is empty, or adds to those of version 1. Returns what is wrong, if anything is.
+pub fn check_or_make(connection: &mut Connection) -> rusqlite::Result<Option<String>> {
+    let transaction = connection.transaction_with_behavior(TransactionBehavior::Exclusive)?;
+    let number = |query: &str| transaction.query_row(query, [], |row| row.get::<_, i64>(0));
+    let found = (number("PRAGMA application_id")?, number("PRAGMA user_version")?);
+    let is_empty = found == (0, 0) && number("SELECT count(*) FROM sqlite_schema")? == 0;
+    if is_empty {
+        transaction.execute_batch(TABLES)?;
+    }
+    if is_empty || found == (APPLICATION, 1) {
+        transaction.execute_batch(ADDITIONS)?;
+        transaction.execute_batch(&format!("PRAGMA application_id = {APPLICATION}; PRAGMA user_version = {VERSION}"))?;
+    }
+    let fault = check(&transaction)?;
+    if fault.is_none() {
+        transaction.commit()?;
+    }
+    Ok(fault)
+}
+
+/// Returns what is wrong with a database, if anything is.
+pub fn check(connection: &Connection) -> rusqlite::Result<Option<String>> {
+    let number = |query: &str| connection.query_row(query, [], |row| row.get::<_, i64>(0));
+    if (number("PRAGMA application_id")?, number("PRAGMA user_version")?) != (APPLICATION, VERSION) {
+        return Ok(Some("not a database of this version of registryd".to_string()));
+    }
+    let checked: String = connection.query_row("PRAGMA quick_check(1)", [], |row| row.get(0))?;
+    Ok((checked != "ok").then(|| format!("damaged: {checked}")))
+}

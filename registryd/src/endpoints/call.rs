@@ -1,0 +1,154 @@
+//! A request to a repository: its head, its sender, and what it may take of the registry.
+use crate::auth::access::Caller;
+use crate::auth::rights::Right;
+use crate::endpoints::registry::Registry;
+use crate::endpoints::uploads;
+use crate::http::content::RequestContent;
+use crate::http::exchange::Exchange;
+use crate::http::fault::Fault;
+use crate::http::in_flight::{Holder, Reserved};
+use crate::http::paths::query_value;
+use crate::metadata::limits::Limit;
+use crate::metadata::names::{is_repository, tenant_of};
+use crate::metadata::repositories::Entering;
+use crate::store::frames::{Reason, Refusal};
+use hyper::http::request::Parts;
+use hyper::Method;
+use std::sync::Arc;
+
+/// A request without its content, its repository, and its sender.
+pub struct Call {
+    pub registry: Arc<Registry>,
+    pub head: Parts,
+    pub repo: String,
+    pub caller: Caller,
+}
+
+impl Call {
+    /// Returns the first value of a name in the query.
+    pub fn query(&self, name: &str) -> Option<String> {
+        query_value(self.head.uri.query(), name)
+    }
+
+    /// Returns the repository from which a blob is mounted, or nothing if it may be any of the tenant. It is the request's own
+    /// repository if the sender may not read the other, so that the reply is that for a blob that the other does not have.
+    pub fn mount_source(&self) -> String {
+        let source = self.query("from").unwrap_or_default();
+        let may_read = match source.is_empty() {
+            true => self.caller.may_in_tenant(Right::Read, tenant_of(&self.repo)),
+            false => self.caller.may(Right::Read, &source),
+        };
+        match may_read {
+            true => source,
+            false => self.repo.clone(),
+        }
+    }
+
+    /// Returns the result of a call that has a limit. A limit that the call has reached is named in the failure.
+    pub fn check_limit<T>(&self, answer: Result<T, Refusal>, own: Limit) -> Result<T, Fault> {
+        let repositories = &self.registry.repositories;
+        match answer {
+            Ok(answer) => Ok(answer),
+            Err(Refusal { reason: Reason::LimitReached, .. }) => {
+                Err(Fault::limit(repositories.reached(&self.repo, own), &self.repo))
+            }
+            Err(refusal) => Err(refusal.into()),
+        }
+    }
+
+    /// Returns whether the repository's tenant exists.
+    pub fn has_tenant(&self) -> bool {
+        self.registry.store.has_tenant(&self.repo)
+    }
+
+    /// Fails if the disk of the folder has less free than its minimum.
+    pub fn check_disk(&self) -> Result<(), Fault> {
+        self.registry.folder.as_ref().map_or(Ok(()), |folder| folder.room.check_content())
+    }
+
+    /// Fails if the disk of the folder has no room for a change without content.
+    pub fn check_change(&self) -> Result<(), Fault> {
+        self.registry.folder.as_ref().map_or(Ok(()), |folder| folder.room.check_change())
+    }
+
+    /// Begins a call that may create the repository. If no tenant can have it, the store refuses the call.
+    pub async fn enter_repository(&self) -> Result<Option<Entering<'_>>, Fault> {
+        let Registry { repositories, store, .. } = &*self.registry;
+        if !repositories.are_recorded() || !is_repository(&self.repo) || !store.has_tenant(&self.repo) {
+            return Ok(None);
+        }
+        let entering = repositories.enter(&self.repo).await?;
+        if repositories.wants_number(tenant_of(&self.repo)) {
+            self.find_number().await?;
+        }
+        Ok(Some(entering))
+    }
+
+    /// Finds and records the next number of the tenant's uploads before the first one is opened, by an upload that is
+    /// abandoned.
+    async fn find_number(&self) -> Result<(), Fault> {
+        let Registry { repositories, store, uploads, turns, .. } = &*self.registry;
+        let tenant = tenant_of(&self.repo);
+        let _turn = turns.take(tenant, "").await;
+        if !repositories.wants_number(tenant) {
+            return Ok(());
+        }
+        if let Ok(number) = store.start_upload(&self.repo).await? {
+            let name = uploads.add(&self.repo, number);
+            repositories.begin_numbers(&self.repo, number.saturating_sub(1)).await?;
+            if self.registry.abandon_session(&self.repo, number).await?.is_ok() {
+                uploads.remove(&name);
+            }
+        }
+        Ok(())
+    }
+
+    /// Returns the result of a call that opens an upload and that `enter_repository` began.
+    pub fn check_entered<T>(&self, answer: Result<T, Refusal>, entering: &mut Option<Entering<'_>>) -> Result<T, Fault> {
+        if answer.is_ok() {
+            self.registry.repositories.add(&self.repo);
+        }
+        if let Some(entering) = entering {
+            entering.settle();
+        }
+        self.check_limit(answer, Limit::Uploads)
+    }
+
+    /// Admits the content of a request before it is read.
+    ///
+    /// # Errors
+    ///
+    /// - The content is charged to the tenant and longer than a blob may be.
+    /// - The tenant is unknown.
+    /// - The content is charged and exceeds the rest of the tenant's quota.
+    /// - The memory for it is not free in time.
+    pub async fn admit(&self, content: &mut RequestContent, is_charged: bool) -> Result<(), Fault> {
+        if is_charged {
+            uploads::check_len(self, 0, content.len)?;
+        }
+        let (used, quota) = self.registry.store.usage(&self.repo).await??;
+        // A request that closes an upload may have an empty body in chunked coding.
+        let least = content.len.unwrap_or_else(|| u64::from(self.head.method != Method::PUT));
+        if is_charged && least > quota.saturating_sub(used) {
+            return Err(Refusal { reason: Reason::Quota, first: used, second: quota, digest: String::new() }.into());
+        }
+        content.reserve(&self.registry.memory, &self.holder()).await
+    }
+
+    /// Returns the tenant and the client that hold the memory of the request.
+    pub fn holder(&self) -> Holder {
+        let exchange = self.head.extensions.get::<Arc<Exchange>>();
+        let connection = exchange.map(|exchange| exchange.connection.clone());
+        Holder { sharer: self.registry.store.sharer(&self.repo), connection }
+    }
+
+    /// Reserves memory for the response.
+    pub async fn reserve(&self, bytes: u64) -> Result<Reserved, Fault> {
+        self.registry.memory.reserve(&self.holder(), bytes).await
+    }
+
+    /// Returns the text of a header.
+    pub fn header(&self, name: &str) -> Option<&str> {
+        self.head.headers.get(name)?.to_str().ok()
+    }
+}

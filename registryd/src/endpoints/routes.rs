@@ -1,0 +1,166 @@
+//! Dispatches each request to its endpoint, after the checks that all have in common.
+use crate::auth::rights::{Demand, Scope};
+use crate::endpoints::call::Call;
+use crate::endpoints::registry::{MetricsAccess, Registry};
+use crate::endpoints::{blobs, catalog, manifests, referrers, tags, untagged, uploads};
+use crate::http::browser::restrict;
+use crate::http::content::RequestContent;
+use crate::http::exchange::Exchange;
+use crate::http::fault::Fault;
+use crate::http::framing;
+use crate::http::paths::{decoded, Target};
+use crate::http::responses::{empty, HandlerResult};
+use crate::operation::health::{ALIVE, HEALTH};
+use crate::operation::status::View;
+use hyper::header::{HeaderValue, CONNECTION, EXPECT, HOST};
+use hyper::http::request::Parts;
+use hyper::http::uri::Authority;
+use hyper::{Body, Method, Request, Response, StatusCode, Version};
+use std::sync::Arc;
+use std::time::Instant;
+
+/// Returns whether a text is a host, with or without a port (RFC 9110, 7.2).
+fn is_host(text: &[u8]) -> bool {
+    !text.contains(&b'@') && Authority::try_from(text).is_ok()
+}
+
+/// Fails if a request has no host or several (RFC 9112, 3.2).
+fn check_host(head: &Parts) -> Result<(), Fault> {
+    let mut hosts = head.headers.get_all(HOST).iter();
+    let is_good = match (hosts.next(), hosts.next()) {
+        (Some(host), None) => host.is_empty() || is_host(host.as_bytes()),
+        (None, _) => head.version < Version::HTTP_11,
+        (Some(_), Some(_)) => false,
+    };
+    match is_good {
+        true => Ok(()),
+        false => Err(Fault::new(StatusCode::BAD_REQUEST, "UNSUPPORTED", "the request needs one valid header Host")),
+    }
+}
+
+/// Returns whether a request adds bytes to the store. A mount adds none, unless it opens an upload.
+fn adds_content(method: &Method, target: &Target<'_>, is_mount: bool) -> bool {
+    match target {
+        Target::Upload { .. } => matches!(*method, Method::PATCH | Method::PUT),
+        Target::Uploads { .. } => !is_mount,
+        Target::Manifest { .. } => *method == Method::PUT,
+        _ => false,
+    }
+}
+
+impl Registry {
+    /// Serves a request in a task of its own, so that a client that disconnects interrupts no call to the store.
+    pub async fn serve(self: Arc<Self>, request: Request<Body>) -> Response<Body> {
+        let begun = Instant::now();
+        let method = request.method().clone();
+        let metrics = self.metrics.clone();
+        let response = tokio::spawn(self.answer(request)).await.unwrap_or_else(|_| Fault::internal().into_response());
+        metrics.count_request(&method, response.status(), begun.elapsed());
+        restrict(response)
+    }
+
+    async fn answer(self: Arc<Self>, request: Request<Body>) -> Response<Body> {
+        let (head, body) = request.into_parts();
+        let is_awaited = head.headers.contains_key(EXPECT);
+        let exchange = head.extensions.get::<Arc<Exchange>>().cloned();
+        let is_last = framing::is_last(&head.headers, exchange.as_ref().map_or(false, |exchange| exchange.may_have_length));
+        let mut content = RequestContent::new(body, is_awaited, self.metrics.clone()).of(exchange);
+        let mut answer = self.route(head, &mut content).await.unwrap_or_else(|fault| {
+            let fault = if content.is_short { Fault::unavailable("out of memory") } else { fault };
+            let mut answer = fault.into_response();
+            content.drain(&mut answer);
+            answer
+        });
+        if is_last {
+            answer.headers_mut().insert(CONNECTION, HeaderValue::from_static("close"));
+        }
+        answer
+    }
+
+    async fn route(self: Arc<Self>, head: Parts, content: &mut RequestContent) -> HandlerResult {
+        let path = head.uri.path().to_string();
+        check_host(&head)?;
+        framing::check(&head.headers)?;
+        if path == ALIVE {
+            return empty(StatusCode::OK, &[]);
+        }
+        if path == HEALTH {
+            return self.probe(&[]).await;
+        }
+        let decoded = decoded(&path);
+        let target = decoded.as_deref().and_then(Target::of);
+        let demand = target.as_ref().and_then(|target| Demand::of(&head.method, target));
+        let scope = Scope::of(target.as_ref(), demand);
+        let client = content.exchange.as_ref().map(|exchange| exchange.connection.client.ip());
+        let caller = self.access.caller(&head.headers, scope, client).await?;
+        if let (Some(exchange), Some(user)) = (&content.exchange, caller.user()) {
+            exchange.set_user(user);
+        }
+        if demand.is_none() {
+            caller.check_known(scope)?;
+        }
+        if let Some(view) = View::of(&path).filter(|_| self.metrics_access != MetricsAccess::Elsewhere) {
+            self.metrics_access.check(&caller)?;
+            return self.view(view, &head.method, head.uri.query()).await;
+        }
+        if path == "/untagged" && self.metrics_access != MetricsAccess::Elsewhere {
+            self.metrics_access.check(&caller)?;
+            return untagged::list(&self, head.uri.query());
+        }
+        let target = target.ok_or_else(Fault::path)?;
+        let allowed = target.methods();
+        if !allowed.split(", ").any(|method| method == head.method.as_str()) {
+            return Err(Fault::method(allowed));
+        }
+        let demand = match demand {
+            Some(demand) => demand,
+            None if target == Target::Catalog => return catalog::list(&self, &caller, head.uri.query()),
+            None => return self.probe(&[("Docker-Distribution-API-Version", "registry/2.0")]).await,
+        };
+        caller.check(&demand)?;
+        let repo = demand.repo.to_string();
+        let method = head.method.clone();
+        let call = Call { registry: self, head, repo, caller };
+        if adds_content(&method, &target, call.query("mount").is_some()) {
+            call.check_disk()?;
+        } else if !matches!(method, Method::GET | Method::HEAD) {
+            call.check_change()?;
+        }
+        if content.is_any() {
+            let is_charged = matches!(target, Target::Uploads { .. } | Target::Upload { .. });
+            call.admit(content, is_charged).await?;
+        }
+        match (&method, target) {
+            (&Method::GET | &Method::HEAD, Target::Tags { .. }) => tags::list(&call).await,
+            (&Method::GET | &Method::HEAD, Target::Referrers { digest, .. }) => referrers::list(&call, digest).await,
+            (&Method::GET, Target::Manifest { reference, .. }) => manifests::get(&call, reference).await,
+            (&Method::HEAD, Target::Manifest { reference, .. }) => manifests::head(&call, reference).await,
+            (&Method::PUT, Target::Manifest { reference, .. }) => manifests::put(&call, reference, content).await,
+            (&Method::DELETE, Target::Manifest { reference, .. }) => manifests::delete(&call, reference).await,
+            (&Method::POST, Target::Uploads { .. }) => uploads::open(&call, content).await,
+            (&Method::GET, Target::Upload { name, .. }) => uploads::status(&call, name).await,
+            (&Method::PATCH, Target::Upload { name, .. }) => uploads::append(&call, name, content).await,
+            (&Method::PUT, Target::Upload { name, .. }) => uploads::close(&call, name, content).await,
+            (&Method::DELETE, Target::Upload { name, .. }) => uploads::abandon(&call, name).await,
+            (&Method::GET, Target::Blob { digest, .. }) => blobs::get(&call, digest).await,
+            (&Method::HEAD, Target::Blob { digest, .. }) => blobs::head(&call, digest).await,
+            (&Method::DELETE, Target::Blob { digest, .. }) => blobs::delete(&call, digest).await,
+            _ => Err(Fault::method(allowed)),
+        }
+    }
+
+    /// Serves a request on the metrics address.
+    pub async fn serve_metrics(self: Arc<Self>, request: Request<Body>) -> Response<Body> {
+        let answered = tokio::spawn(async move {
+            let (method, path) = (request.method(), request.uri().path());
+            match View::of(path) {
+                Some(view) => self.view(view, method, request.uri().query()).await,
+                None if method == Method::GET && path == "/untagged" => untagged::list(&self, request.uri().query()),
+                None if method == Method::GET && path == ALIVE => empty(StatusCode::OK, &[]),
+                None if method == Method::GET && path == HEALTH => self.probe(&[]).await,
+                None => Err(Fault::path()),
+            }
+        });
+        restrict(answered.await.unwrap_or_else(|_| Err(Fault::internal())).unwrap_or_else(Fault::into_response))
+    }
+}

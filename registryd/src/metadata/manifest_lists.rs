@@ -1,0 +1,190 @@
+//! The lists of tags, repositories and manifests that requests ask for, page by page.
+use crate::http::pages::{Page, MAX_PAGE};
+use crate::metadata::document::Facts;
+use crate::metadata::manifest_table::ManifestTable;
+use crate::metadata::repository::{NamedManifest, Repository};
+use std::ops::Bound;
+
+/// A manifest that has a subject.
+#[derive(Debug, PartialEq, Eq)]
+pub struct Referrer {
+    pub digest: String,
+    pub media_type: String,
+    pub artifact_type: Option<String>,
+    pub size: u64,
+}
+
+impl Referrer {
+    fn of(digest: &str, facts: &Facts) -> Referrer {
+        let Facts { media_type, artifact_type, size, .. } = facts;
+        Referrer { digest: digest.to_string(), media_type: media_type.clone(), artifact_type: artifact_type.clone(), size: *size }
+    }
+}
+
+/// A manifest without a tag.
+#[derive(Debug, PartialEq, Eq)]
+pub struct Untagged {
+    pub repo: String,
+    pub digest: String,
+    pub media_type: String,
+    pub size: u64,
+    /// The last time at which it was pushed, asked for by its digest, or something ceased to hold it, in seconds since 1970.
+    pub since: u64,
+    /// The index that lists it, or its subject, if it is there.
+    pub held_by: Option<String>,
+}
+
+/// What a repository has.
+#[derive(Debug, Default, PartialEq, Eq)]
+pub struct Overview {
+    /// The number of manifests.
+    pub manifests: usize,
+    /// The first tags in order.
+    pub tags: Vec<TagOverview>,
+    /// Whether more tags follow.
+    pub more: bool,
+}
+
+/// What a tag names.
+#[derive(Debug, PartialEq, Eq)]
+pub struct TagOverview {
+    pub name: String,
+    pub manifest: NamedManifest,
+    /// The first manifests, in the order of their digests, whose subject is the tag's manifest.
+    pub referrers: Page<Referrer>,
+}
+
+impl Repository {
+    /// Returns a tag with its manifest and the first referrers of that.
+    fn tag_overview(&self, tag: &str, manifest: NamedManifest, most: usize) -> TagOverview {
+        let mut all = self.referrers_after(&manifest.digest, "");
+        let items = all.by_ref().take(most).map(|(digest, facts)| Referrer::of(digest, facts)).collect();
+        let more = all.next().is_some();
+        TagOverview { name: tag.to_string(), manifest, referrers: Page { items, more } }
+    }
+}
+
+impl ManifestTable {
+    /// Returns the first tags after `last` in order, at most `most` and at most `MAX_PAGE`. Returns `None` if the repository
+    /// has no manifest.
+    pub fn page(&self, repo: &str, last: &str, most: usize) -> Option<Page<String>> {
+        let page = |repo: &mut Repository| {
+            if !repo.is_visible() {
+                return None;
+            }
+            let after = repo.tags.range::<str, _>((Bound::Excluded(last), Bound::Unbounded));
+            let visible = after.filter(|(_, digest)| repo.manifest(digest).is_some());
+            Some(Page::of(visible.map(|(tag, _)| tag.clone()), most.min(MAX_PAGE)))
+        };
+        self.with(repo, page).flatten()
+    }
+
+    /// Returns the first repositories after `last` in order that have manifests and that may be listed, at most `most` and at
+    /// most `MAX_PAGE`.
+    pub fn repositories(&self, last: &str, most: usize, may_list: impl Fn(&str) -> bool) -> Page<String> {
+        let repos = self.repos.read().unwrap();
+        let after = repos.range::<str, _>((Bound::Excluded(last), Bound::Unbounded));
+        let visible = after.filter(|(name, repo)| may_list(name) && repo.lock().unwrap().is_visible());
+        Page::of(visible.map(|(name, _)| name.clone()), most.min(MAX_PAGE))
+    }
+
+    /// Returns the names of all repositories, in order.
+    pub fn names(&self) -> Vec<String> {
+        self.repos.read().unwrap().keys().cloned().collect()
+    }
+
+    /// Returns the manifests of a repository that have no tag, in the order of digests.
+    pub fn untagged(&self, name: &str) -> Vec<Untagged> {
+        let find = |repo: &mut Repository| {
+            let tagged = repo.tagged();
+            let visible = repo.manifests.iter().filter(|(digest, manifest)| !manifest.is_leaving && !tagged.contains(digest));
+            let mut found: Vec<Untagged> = visible
+                .map(|(digest, manifest)| Untagged {
+                    repo: name.to_string(),
+                    digest: digest.clone(),
+                    media_type: manifest.facts.media_type.clone(),
+                    size: manifest.facts.size,
+                    since: manifest.since,
+                    held_by: repo.holder(digest).cloned(),
+                })
+                .collect();
+            found.sort_unstable_by(|one, other| one.digest.cmp(&other.digest));
+            found
+        };
+        self.with(name, find).unwrap_or_default()
+    }
+
+    /// Returns the first manifests after `last` in order whose subject is a digest, at most `most` and at most `MAX_PAGE`.
+    /// With `artifact_type` it returns those of this type. After the first, no one is added that makes their sizes exceed
+    /// `most_bytes`.
+    pub fn referrers(
+        &self,
+        repo: &str,
+        subject: &str,
+        artifact_type: Option<&str>,
+        last: &str,
+        (most, most_bytes): (usize, u64),
+    ) -> Page<Referrer> {
+        let page = |repo: &mut Repository| {
+            let mut bytes = 0_u64;
+            let mut wanted = repo
+                .referrers_after(subject, last)
+                .filter(|(_, facts)| artifact_type.map_or(true, |wanted| facts.artifact_type.as_deref() == Some(wanted)))
+                .peekable();
+            let mut items = Vec::new();
+            while let Some((digest, facts)) = wanted.next_if(|(_, facts)| {
+                let has_room = items.is_empty() || bytes.saturating_add(facts.size) <= most_bytes;
+                items.len() < most.min(MAX_PAGE) && has_room
+            }) {
+                bytes = bytes.saturating_add(facts.size);
+                items.push(Referrer::of(digest, facts));
+            }
+            Page { more: wanted.peek().is_some(), items }
+        };
+        self.with(repo, page).unwrap_or(Page { items: Vec::new(), more: false })
+    }
+
+    /// Returns what a repository has, with at most `most` tags, and at most `most_referrers` referrers of each.
+    pub fn overview(&self, repo: &str, most: usize, most_referrers: usize) -> Overview {
+        let overview = |repo: &mut Repository| {
+            let mut visible = repo.tags.iter().filter_map(|(tag, digest)| Some((tag, repo.named(digest)?)));
+            let tags = visible.by_ref().take(most).map(|(tag, named)| repo.tag_overview(tag, named, most_referrers)).collect();
+            let more = visible.next().is_some();
+            Overview { manifests: repo.manifests.values().filter(|manifest| !manifest.is_leaving).count(), tags, more }
+        };
+        self.with(repo, overview).unwrap_or_default()
+    }
+}
+
+#[cfg(test)]
+mod tests {
+    use super::*;
+
+    #[test]
+    fn pages_follow_one_another() {
+        let table = ManifestTable::default();
+        for tag in ["v3", "v1", "v2"] {
+            table.put("acme/web", "sha256:a", Facts::default(), Some(tag), 1);
+        }
+        let page = |last, most| table.page("acme/web", last, most).unwrap();
+        let texts = |words: &[&str]| words.iter().map(|word| word.to_string()).collect::<Vec<_>>();
+        assert_eq!(page("", 2), Page { items: texts(&["v1", "v2"]), more: true });
+        assert_eq!(page("v2", 2), Page { items: texts(&["v3"]), more: false });
+        assert_eq!(page("v1x", 2), Page { items: texts(&["v2", "v3"]), more: false });
+        assert_eq!(page("", 3), Page { items: texts(&["v1", "v2", "v3"]), more: false });
+        assert_eq!(page("", 0), Page { items: vec![], more: true });
+        assert_eq!(table.page("acme/other", "", 2), None);
+    }
+
+    #[test]
+    fn a_page_has_a_bound() {
+        let table = ManifestTable::default();
+        for number in 0..=MAX_PAGE {
+            table.put("acme/web", "sha256:a", Facts::default(), Some(&format!("v{number:05}")), 1);
+        }
+        let first = table.page("acme/web", "", usize::MAX).unwrap();
+        assert_eq!((first.items.len(), first.more), (MAX_PAGE, true));
+        let second = table.page("acme/web", first.items.last().unwrap(), usize::MAX).unwrap();
+        assert_eq!((second.items.len(), second.more), (1, false));
+    }
+}

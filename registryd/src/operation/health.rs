@@ -1,0 +1,21 @@
+//! The paths by which others find out whether the registry runs and serves.
+use crate::endpoints::registry::Registry;
+use crate::http::responses::{empty, HandlerResult};
+use crate::store::client::StoreUnavailable;
+use hyper::StatusCode;
+
+/// The path whose reply is 200 as long as the program runs.
+pub const ALIVE: &str = "/livez";
+
+/// The path whose reply is 200 if the store replies.
+pub const HEALTH: &str = "/healthz";
+
+impl Registry {
+    /// Returns a response without content if the store replies.
+    pub async fn probe(&self, headers: &[(&str, &str)]) -> HandlerResult {
+        match self.store.replies().await {
+            true => empty(StatusCode::OK, headers),
+            false => Err(StoreUnavailable.into()),
+        }
+    }
+}

@@ -1,0 +1,79 @@
+//! Serves until a signal arrives or something fails, and ends the program in order.
+use crate::database::writer::{Writer, WriterThread};
+use crate::endpoints::registry::Registry;
+use crate::folder::watcher;
+use crate::folder::watcher::Watcher;
+use crate::operation::exit::Failure;
+use crate::operation::notify::Notifier;
+use crate::operation::signals::Signals;
+use crate::start::launch::Started;
+use crate::start::listening::Serving;
+use crate::store::process;
+use std::path::PathBuf;
+use std::sync::Arc;
+use std::time::Duration;
+
+/// The time that open requests have to finish during shutdown. Together with the store's time it is less than 30 s.
+const END_TIME: Duration = Duration::from_secs(20);
+
+/// Waits until a change could not be made in the database, and returns why.
+async fn failed(database: &Option<(Arc<Writer>, WriterThread)>) -> Failure {
+    match database {
+        Some((writer, _)) => Failure::of_database(&writer.failure().await),
+        None => std::future::pending().await,
+    }
+}
+
+/// Looks at the folder until something is wrong with it, and returns what. It never returns without a folder.
+async fn watch_folder(registry: &Registry, database: &Option<(Arc<Writer>, WriterThread)>, synced: &Option<PathBuf>) -> Failure {
+    let folder = match &registry.folder {
+        Some(folder) => folder,
+        None => return std::future::pending().await,
+    };
+    let writer = database.as_ref().filter(|_| synced.is_some()).map(|(writer, _)| writer.clone());
+    Watcher::new(folder.path().to_path_buf(), folder.room.clone(), writer).run().await
+}
+
+/// Serves requests until a signal arrives, and then lets open requests finish.
+pub async fn serve(started: Started, serving: Serving, mut signals: Signals, notifier: &Notifier) -> Result<(), Failure> {
+    let Started { registry, mut child, database, synced } = started;
+    let Serving { connections, server, stop } = serving;
+    tokio::select! {
+        ended = server => return Err(Failure::new(format!("cannot accept connections: {ended:?}"))),
+        () = registry.store.ended() => return Err(process::why_gone(&mut child).await),
+        status = child.wait() => return Err(Failure::of_blobd("the store is gone", status?)),
+        failure = failed(&database) => return Err(failure),
+        failure = watch_folder(&registry, &database, &synced) => return Err(failure),
+        () = signals.recv() => {}
+    }
+    notifier.send("STOPPING=1");
+    tracing::info!("stopping");
+    drop(stop);
+    let is_ended = tokio::select! {
+        () = connections.emptied() => true,
+        () = tokio::time::sleep(END_TIME) => false,
+        () = signals.recv() => false,
+    };
+    if !is_ended {
+        tracing::warn!(connections = connections.len(), "closing connections whose requests did not finish in time");
+        connections.close_all();
+    }
+    if let Some(folder) = &registry.folder {
+        // The last changes of the database and the end of the log need little.
+        folder.room.make();
+    }
+    // The database ends first: the store's lock on the folder protects it.
+    let mut ended = Ok(());
+    if let Some((writer, thread)) = database {
+        if let Some(folder) = synced {
+            ended = watcher::keep_last_end(folder, writer.clone()).await;
+        }
+        ended = ended.and(writer.end(thread).await.map_err(|why| Failure::of_database(&why)));
+    }
+    registry.store.end(child).await.and(ended)?;
+    if let Some(folder) = &registry.folder {
+        folder.room.end();
+    }
+    tracing::info!("stopped");
+    Ok(())
+}

@@ -1,0 +1,186 @@
+//! Starts the store, reads the database if there is one, and makes the registry over both.
+use crate::auth::access::Access;
+use crate::database::writer::{Writer, WriterThread};
+use crate::endpoints::registry::Registry;
+use crate::folder::disk_room::DiskRoom;
+use crate::folder::files::Folder;
+use crate::folder::scrub::Scrub;
+use crate::http::in_flight::Memory;
+use crate::metadata::bounds::Bounds;
+use crate::metadata::clock;
+use crate::metadata::loose_blobs::LooseBlobs;
+use crate::metadata::manifest_table::ManifestTable;
+use crate::metadata::manifests::Manifests;
+use crate::metadata::open_uploads::OpenUploads;
+use crate::metadata::repositories::Repositories;
+use crate::metadata::upload_names::Secret;
+use crate::operation::exit::Failure;
+use crate::operation::memory_reserve;
+use crate::operation::metrics::Metrics;
+use crate::start::opening::Opened;
+use crate::start::options::Options;
+use crate::start::provenance::Provenance;
+use crate::start::recovery::Recovered;
+use crate::start::tenants::Tenant;
+use crate::start::{capacity, default_shares, opening, recovery};
+use crate::store::client::Store;
+use crate::store::process;
+use std::collections::HashMap;
+use std::path::PathBuf;
+use std::sync::Arc;
+use std::time::Duration;
+use tokio::process::Child;
+
+/// A registry, and what runs for it.
+pub struct Started {
+    pub registry: Arc<Registry>,
+    /// The process of `blobd`.
+    pub child: Child,
+    /// The writer of the database and its thread, if there is a database.
+    pub database: Option<(Arc<Writer>, WriterThread)>,
+    /// The folder, if each change is on the disk before its reply.
+    pub synced: Option<PathBuf>,
+}
+
+/// Returns the bounds on the manifests and tags of each tenant. A tenant that has more than a default has no such bound.
+fn bounds_by_tenant(options: &Options, manifests: &ManifestTable) -> HashMap<String, Bounds> {
+    let mut by_tenant = HashMap::new();
+    for Tenant { name, quota, .. } in options.tenants() {
+        let mut bounds = options.bounds().with_quota(quota);
+        let used = manifests.totals(&name).manifest_bytes;
+        if let Some(default) = bounds.manifest_bytes.filter(|most| used > *most && options.manifest_bytes.is_none()) {
+            tracing::warn!(
+                tenant = %name,
+                used,
+                default,
+                "the tenant has more bytes of manifests than the default, and is not limited: give --manifest-bytes"
+            );
+            bounds.manifest_bytes = None;
+        }
+        by_tenant.insert(name, bounds);
+    }
+    by_tenant
+}
+
+/// Opens the folder and its database, if there is a folder.
+async fn open_folder(options: &Options, room: &Option<Arc<DiskRoom>>) -> Result<Option<Opened>, Failure> {
+    match (options.data.clone(), room.clone()) {
+        (Some(folder), Some(room)) => {
+            let options = options.clone();
+            recovery::blocking(move || opening::open(&options, folder, &room)).await.map(Some)
+        }
+        _ => Ok(None),
+    }
+}
+
+/// Compares the database with the store, if there is one. The store ends if this fails.
+async fn recover(store: &Store, child: Child, opened: Option<Opened>) -> Result<(Child, Option<Recovered>), Failure> {
+    let opened = match opened {
+        Some(opened) => opened,
+        None => return Ok((child, None)),
+    };
+    let mut child = child;
+    match recovery::recover(store, opened).await {
+        Ok(recovered) => Ok((child, Some(recovered))),
+        Err(_) if store.has_ended() => Err(process::why_gone(&mut child).await),
+        Err(failure) => {
+            let _ = store.end(child).await;
+            Err(failure)
+        }
+    }
+}
+
+/// What a registry has of the time before its start, or nothing.
+struct Tables {
+    uploads: OpenUploads,
+    repositories: Repositories,
+    manifests: Arc<ManifestTable>,
+    loose_blobs: Vec<(String, String)>,
+    database: Option<(Arc<Writer>, WriterThread)>,
+}
+
+impl Tables {
+    /// Makes the tables of this process with what was recovered, and starts the thread of the database.
+    fn new(recovered: Option<Recovered>, writer: &Option<Arc<Writer>>) -> Result<Tables, Failure> {
+        let secret = recovered.as_ref().map_or_else(Secret::random, |recovered| Ok(recovered.secret))?;
+        let uploads = OpenUploads::new(secret, writer.clone());
+        let repositories = Repositories::recorded_by(writer.clone());
+        let (recovered, writer) = match (recovered, writer) {
+            (Some(recovered), Some(writer)) => (recovered, writer),
+            _ => {
+                clock::begin(None);
+                return Ok(Tables { uploads, repositories, manifests: Arc::default(), loose_blobs: Vec::new(), database: None });
+            }
+        };
+        for upload in &recovered.uploads {
+            uploads.add_known(&upload.repo, upload.number, upload.received);
+        }
+        recovered.repositories.iter().for_each(|repo| repositories.add(repo));
+        recovered.recorded.keys().for_each(|tenant| repositories.set_numbered(tenant));
+        let manifests = Arc::new(recovered.manifests);
+        let thread = writer.start(recovered.database, manifests.clone(), recovered.recorded)?;
+        let database = Some((writer.clone(), thread));
+        Ok(Tables { uploads, repositories, manifests, loose_blobs: recovered.loose_blobs, database })
+    }
+}
+
+/// Starts the store, reads the database if there is one, and makes the registry over both.
+pub async fn start(options: &Options, access: Access) -> Result<Started, Failure> {
+    let provenance = Provenance::of(&options.blobd);
+    provenance.log();
+    let metrics = Metrics::new();
+    metrics.set_verified(provenance.is_proved());
+    let limit = Duration::from_secs(options.call_s);
+    let room = options.data.clone().map(|path| Arc::new(DiskRoom::new(path, options.min_free(), options.reserve())));
+    let writer = room.clone().map(|room| Writer::new(metrics.add_folder(options.is_durable()), limit, room));
+    let opened = open_folder(options, &room).await?;
+    capacity::warn_of_sums(&options.tenants(), options.slots);
+    let (store, child) = default_shares::start_store(options, writer.clone()).await?;
+    let (child, recovered) = recover(&store, child, opened).await?;
+    let Tables { uploads, repositories, manifests, loose_blobs, database } = Tables::new(recovered, &writer)?;
+    let registry = Arc::new(Registry {
+        memory: Memory::new(options.memory_in_flight, store.sharers()),
+        store,
+        access,
+        uploads,
+        repositories,
+        loose: options.keep_untagged.map_or_else(LooseBlobs::default, |_| LooseBlobs::new(writer.clone(), loose_blobs)),
+        folder: options.data.clone().zip(room).map(|(path, room)| Folder::new(path, room)),
+        scrub: options.data.clone().and_then(|path| Some(Scrub::new(path, options.scrub_pace()?, &metrics))),
+        turns: Default::default(),
+        metrics,
+        sweep_requests: Default::default(),
+        sweeps: Default::default(),
+        provenance,
+        metrics_access: options.metrics_access(),
+        tenants: options.tenant_names(),
+        slots: options.slots,
+        max_blob: options.max_blob,
+        bounds: options.bounds(),
+        asked_removal: options.asked_removal(),
+        bounds_by_tenant: bounds_by_tenant(options, &manifests),
+        manifests: Manifests::new(manifests, writer),
+        started: clock::time_of_day(),
+    });
+    work_in_background(&registry, options)?;
+    Ok(Started { registry, child, database, synced: options.data.clone().filter(|_| options.is_durable()) })
+}
+
+/// Starts the garbage collector, the expiry of uploads and of manifests without tags, the reserve of memory, and the reads of the log.
+fn work_in_background(registry: &Arc<Registry>, options: &Options) -> Result<(), Failure> {
+    let rest = Duration::from_millis(options.sweep_ms);
+    let sweeper = registry.clone();
+    tokio::spawn(async move { sweeper.sweep(rest).await });
+    let expirer = registry.clone();
+    let patience = options.patience();
+    tokio::spawn(async move { expirer.expire(patience).await });
+    if let Some(time) = options.keep_untagged {
+        let keeper = registry.clone();
+        tokio::spawn(async move { keeper.keep_untagged(time).await });
+    }
+    tokio::spawn(memory_reserve::keep_reserve());
+    if let Some(scrub) = &registry.scrub {
+        scrub.start()?;
+    }
+    Ok(())
+}
