@@ -3,6 +3,7 @@
 //!
 //! A flood of checks has one address, one user, or both. The check whose address and user have the fewest places is next. If
 //! the queue is full, a check of those that have the most places is refused.
+use crate::operation::locks::guard_of;
 use std::collections::HashMap;
 use std::net::IpAddr;
 use std::sync::{Arc, Mutex, MutexGuard};
@@ -97,7 +98,7 @@ impl PasswordQueue {
     }
 
     fn state(&self) -> MutexGuard<'_, State> {
-        self.0.lock().unwrap_or_else(|poisoned| poisoned.into_inner())
+        guard_of(self.0.lock())
     }
 
     /// Waits until a check may begin. Returns `None` if too many wait, or if it waits too long.

@@ -1,6 +1,7 @@
 //! The file of users, the hashes of their passwords, and the passwords that were accepted.
 use crate::auth::password_queue::{PasswordQueue, Sender};
 use crate::http::fault::Fault;
+use crate::operation::locks::guard_of;
 use crate::operation::reload::read_text;
 use sha2::{Digest, Sha256};
 use std::collections::{HashMap, HashSet};
@@ -59,7 +60,7 @@ impl Logins {
     }
 
     fn accepted(&self) -> MutexGuard<'_, HashMap<String, Accepted>> {
-        self.accepted.lock().unwrap_or_else(|poisoned| poisoned.into_inner())
+        guard_of(self.accepted.lock())
     }
 
     fn salted(&self, text: &str) -> [u8; 32] {

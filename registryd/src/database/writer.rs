@@ -6,6 +6,7 @@ use crate::database::upload_numbers::UploadNumbers;
 use crate::folder::disk_room::DiskRoom;
 use crate::metadata::clock::now;
 use crate::metadata::manifest_table::ManifestTable;
+use crate::operation::locks::guard_of;
 use crate::operation::metrics::Commits;
 use std::collections::{BTreeSet, HashMap};
 use std::sync::{Arc, Condvar, Mutex, MutexGuard};
@@ -81,7 +82,7 @@ impl Writer {
     }
 
     fn state(&self) -> MutexGuard<'_, State> {
-        self.state.lock().unwrap_or_else(|poisoned| poisoned.into_inner())
+        guard_of(self.state.lock())
     }
 
     fn add(&self, waiting: Waiting) {
@@ -156,8 +157,8 @@ impl Writer {
                 return None;
             }
             state = match state.waiting.is_empty() {
-                true => self.ready.wait(state).unwrap_or_else(|poisoned| poisoned.into_inner()),
-                false => self.ready.wait_timeout(state, left).unwrap_or_else(|poisoned| poisoned.into_inner()).0,
+                true => guard_of(self.ready.wait(state)),
+                false => guard_of(self.ready.wait_timeout(state, left)).0,
             };
         }
     }

@@ -47,9 +47,7 @@ impl Registry {
         self.end_delete(repo, &abandoned).await;
         abandoned
     }
-}
 
-impl Registry {
     /// Returns the blobs of a manifest that is going to be deleted, if blobs are unlinked after some time.
     pub async fn blobs_to_loosen(&self, repo: &str, digest: &str) -> Result<Vec<String>, Fault> {
         if !self.loose.is_on {

@@ -50,7 +50,7 @@ async fn look_up(call: &Call, reference: &str) -> Result<NamedManifest, Fault> {
     adopt(call, reference, size).await
 }
 
-/// Adds a manifest of `size` bytes that the store has and the catalog has not: the program stopped before it was added. Its
+/// Adds a manifest of `size` bytes that the store has and the table has not: the program stopped before it was added. Its
 /// media type is that of its content.
 async fn adopt(call: &Call, digest: &str, size: u64) -> Result<NamedManifest, Fault> {
     let manifests = &call.registry.manifests;

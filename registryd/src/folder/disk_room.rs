@@ -5,6 +5,7 @@
 //! a rewriting of the log are possible on a disk that another program has filled.
 use crate::folder::held_room::HeldRoom;
 use crate::http::fault::Fault;
+use crate::operation::locks::guard_of;
 use std::ffi::CString;
 use std::fs::OpenOptions;
 use std::io;
@@ -121,7 +122,7 @@ impl DiskRoom {
 
     /// Returns the number of free bytes. Returns `None` if the system has no answer.
     pub fn free(&self) -> Option<u64> {
-        let mut last = self.last.lock().unwrap();
+        let mut last = guard_of(self.last.lock());
         match *last {
             Some((time, free)) if time.elapsed() < LOOK && free >= self.floor().saturating_add(MUCH) => return Some(free),
             _ => {}
@@ -189,7 +190,7 @@ impl DiskRoom {
 
     /// Cuts the reserve, until this number of bytes is free or nothing is left of it.
     fn give_up(&self, wanted: u64) {
-        let _shown = self.shown.lock().unwrap();
+        let _shown = guard_of(self.shown.lock());
         let path = self.path.join(RESERVE);
         let lacking = match free_bytes(&self.path) {
             Ok(free) => wanted.saturating_sub(free),
@@ -266,13 +267,13 @@ impl DiskRoom {
         if !self.has(wanted) {
             self.give_up(wanted);
         }
-        self.show_rewritable(&mut self.shown.lock().unwrap().1);
+        self.show_rewritable(&mut guard_of(self.shown.lock()).1);
     }
 
     /// Makes the reserve if there is room, writes for the store how much a rewriting may take, and logs if the disk has room for more or
     /// for less than at the last call.
     pub fn tend(&self) {
-        let mut shown = self.shown.lock().unwrap();
+        let mut shown = guard_of(self.shown.lock());
         self.keep_reserve();
         self.show_rewritable(&mut shown.1);
         let level = self.level();

@@ -2,6 +2,7 @@
 //! disk and a write.
 use crate::database::sqlite::FILE_NAME;
 use crate::folder::log_end::last_file;
+use crate::operation::locks::guard_of;
 use std::fs::{File, OpenOptions};
 use std::io;
 use std::os::unix::io::AsRawFd;
@@ -43,7 +44,7 @@ impl HeldRoom {
     /// Holds this number of bytes for the log in a folder, and some for the database. Returns whether the disk has the room. A file
     /// system that cannot hold room has it.
     pub fn hold(&self, folder: &Path, bytes: u64) -> bool {
-        let mut held = self.0.lock().unwrap();
+        let mut held = guard_of(self.0.lock());
         if let Some(last) = last_file(folder) {
             // A look may miss the last name while others are made. Only a file with a later one does not grow.
             match &*held {

@@ -4,6 +4,7 @@ use crate::folder::frame_check::{check, Damage};
 use crate::folder::log_end::{is_of_log, number_of};
 use crate::folder::page_cache;
 use crate::metadata::clock;
+use crate::operation::locks::guard_of;
 use crate::operation::metrics::Metrics;
 use prometheus::{IntCounter, IntGauge};
 use serde_json::{json, Value};
@@ -134,7 +135,7 @@ impl Scrub {
                 self.note(&file, damage, &mut found);
             }
         }
-        let mut state = self.state.lock().unwrap();
+        let mut state = guard_of(self.state.lock());
         self.damaged.set(found.len() as i64);
         state.found = found;
         state.ended = Some(clock::time_of_day());
@@ -143,7 +144,7 @@ impl Scrub {
 
     /// Notes damage of this round, and logs it if it was not found before.
     fn note(&self, file: &str, damage: Damage, found: &mut Vec<Found>) {
-        let mut state = self.state.lock().unwrap();
+        let mut state = guard_of(self.state.lock());
         let known = state.found.iter().find(|known| known.file == file && known.damage == damage).cloned();
         let one = known.unwrap_or_else(|| {
             tracing::error!(file, byte = damage.byte, what = %damage.what, "the log is damaged: make a backup of what is served");
@@ -157,7 +158,7 @@ impl Scrub {
 
     /// Returns the state for `/status`.
     pub fn json(&self) -> Value {
-        let state = self.state.lock().unwrap();
+        let state = guard_of(self.state.lock());
         let shown = |one: &Found| json!({ "file": one.file, "byte": one.damage.byte, "what": one.damage.what, "time": one.time });
         let damage: Vec<Value> = state.found.iter().map(shown).collect();
         json!({ "mib_s": self.mib_s, "rounds": self.rounds.get(), "last": state.ended, "damage": damage })

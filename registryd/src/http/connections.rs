@@ -1,5 +1,6 @@
 //! The connections of clients: their number, and the event that each waits for.
 
+use crate::operation::locks::guard_of;
 use std::collections::HashMap;
 use std::io::{self, IoSlice};
 use std::net::SocketAddr;
@@ -110,7 +111,7 @@ impl Connection {
     }
 
     fn state(&self) -> MutexGuard<'_, State> {
-        self.state.lock().unwrap_or_else(|poisoned| poisoned.into_inner())
+        guard_of(self.state.lock())
     }
 
     /// Notes that a request's head was read. Returns whether it may have a length, by its bytes.
@@ -276,7 +277,7 @@ impl Connections {
     }
 
     fn open(&self) -> MutexGuard<'_, Open> {
-        self.open.lock().unwrap_or_else(|poisoned| poisoned.into_inner())
+        guard_of(self.open.lock())
     }
 
     /// The number of open connections.

@@ -1,5 +1,6 @@
 //! A request in progress: its client, its user, its byte counts, and its log record.
 use crate::http::connections::Connection;
+use crate::operation::locks::guard_of;
 use bytes::Bytes;
 use hyper::body::{HttpBody, SizeHint};
 use hyper::header::HeaderValue;
@@ -61,7 +62,7 @@ impl Exchange {
 
     /// Notes the user of the request.
     pub fn set_user(&self, user: &str) {
-        *self.user.lock().unwrap_or_else(|poisoned| poisoned.into_inner()) = Some(shortened(user, LOGGED.1));
+        *guard_of(self.user.lock()) = Some(shortened(user, LOGGED.1));
     }
 }
 
@@ -80,7 +81,7 @@ struct Record {
 impl Drop for Record {
     fn drop(&mut self) {
         let Record { exchange, method, path, begun, status, digest, sent } = self;
-        let user = exchange.user.lock().unwrap_or_else(|poisoned| poisoned.into_inner()).take();
+        let user = guard_of(exchange.user.lock()).take();
         tracing::info!(
             %method,
             path,

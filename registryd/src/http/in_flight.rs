@@ -4,6 +4,7 @@
 //! the slowest first, so that they hold no memory that others need.
 use crate::http::connections::Connection;
 use crate::http::fault::Fault;
+use crate::operation::locks::guard_of;
 use crate::operation::memory_reserve::is_short;
 use std::collections::{HashMap, VecDeque};
 use std::sync::{Arc, Mutex, MutexGuard};
@@ -186,7 +187,7 @@ impl Memory {
     }
 
     fn state(&self) -> MutexGuard<'_, State> {
-        self.0.lock().unwrap_or_else(|poisoned| poisoned.into_inner())
+        guard_of(self.0.lock())
     }
 
     /// Reserves bytes of which a request can do with fewer, if its sharer holds little and none of its requests waits.

@@ -7,6 +7,7 @@ use crate::database::change::Change;
 use crate::database::writer::Writer;
 use crate::http::fault::Fault;
 use crate::metadata::turns::{Turn, Turns};
+use crate::operation::locks::guard_of;
 use crate::store::client::Answer;
 use crate::store::frames::{Reason, Refusal};
 use std::collections::HashMap;
@@ -48,7 +49,7 @@ impl LooseBlobs {
         if !self.is_on {
             return Ok(());
         }
-        match self.by_key.lock().unwrap().get_mut(&(repo.to_string(), digest.to_string())) {
+        match guard_of(self.by_key.lock()).get_mut(&(repo.to_string(), digest.to_string())) {
             Some(Loose { is_leaving: true, .. }) => Err(Refusal::of(Reason::BlobUnknown).into()),
             Some(loose) => {
                 loose.since = Instant::now();
@@ -83,7 +84,7 @@ impl LooseBlobs {
         if !self.is_on {
             return;
         }
-        let mut by_key = self.by_key.lock().unwrap();
+        let mut by_key = guard_of(self.by_key.lock());
         match by_key.get_mut(&(repo.to_string(), digest.to_string())) {
             Some(loose) => {
                 loose.since = Instant::now();
@@ -103,7 +104,7 @@ impl LooseBlobs {
 
     /// Removes a blob that is unlinked.
     pub fn remove(&self, repo: &str, digest: &str) {
-        let removed = self.by_key.lock().unwrap().remove(&(repo.to_string(), digest.to_string()));
+        let removed = guard_of(self.by_key.lock()).remove(&(repo.to_string(), digest.to_string()));
         if let (Some(_), Some(writer)) = (removed, &self.writer) {
             writer.note(Change::RemoveLooseBlob { repo: repo.to_string(), digest: digest.to_string() });
         }
@@ -111,13 +112,13 @@ impl LooseBlobs {
 
     /// Returns the blobs that nobody has asked for in this time.
     pub fn unasked(&self, time: Duration) -> Vec<Key> {
-        let by_key = self.by_key.lock().unwrap();
+        let by_key = guard_of(self.by_key.lock());
         by_key.iter().filter(|(_, loose)| loose.since.elapsed() >= time).map(|(key, _)| key.clone()).collect()
     }
 
     /// Marks a blob before the store is asked to unlink it, if nobody has asked for it in this time.
     pub fn begin_unlink(&self, key: &Key, time: Duration) -> bool {
-        match self.by_key.lock().unwrap().get_mut(key) {
+        match guard_of(self.by_key.lock()).get_mut(key) {
             Some(loose) if loose.since.elapsed() >= time => {
                 loose.is_leaving = true;
                 true
@@ -128,7 +129,7 @@ impl LooseBlobs {
 
     /// Removes the mark of a blob that the store did not unlink.
     pub fn undo_unlink(&self, key: &Key) {
-        if let Some(loose) = self.by_key.lock().unwrap().get_mut(key) {
+        if let Some(loose) = guard_of(self.by_key.lock()).get_mut(key) {
             loose.is_leaving = false;
         }
     }

@@ -3,6 +3,7 @@ use crate::http::pages::{Page, MAX_PAGE};
 use crate::metadata::document::Facts;
 use crate::metadata::manifest_table::ManifestTable;
 use crate::metadata::repository::{NamedManifest, Repository};
+use crate::operation::locks::guard_of;
 use std::ops::Bound;
 
 /// A manifest that has a subject.
@@ -82,15 +83,15 @@ impl ManifestTable {
     /// Returns the first repositories after `last` in order that have manifests and that may be listed, at most `most` and at
     /// most `MAX_PAGE`.
     pub fn repositories(&self, last: &str, most: usize, may_list: impl Fn(&str) -> bool) -> Page<String> {
-        let repos = self.repos.read().unwrap();
+        let repos = guard_of(self.repos.read());
         let after = repos.range::<str, _>((Bound::Excluded(last), Bound::Unbounded));
-        let visible = after.filter(|(name, repo)| may_list(name) && repo.lock().unwrap().is_visible());
+        let visible = after.filter(|(name, repo)| may_list(name) && guard_of(repo.lock()).is_visible());
         Page::of(visible.map(|(name, _)| name.clone()), most.min(MAX_PAGE))
     }
 
     /// Returns the names of all repositories, in order.
     pub fn names(&self) -> Vec<String> {
-        self.repos.read().unwrap().keys().cloned().collect()
+        guard_of(self.repos.read()).keys().cloned().collect()
     }
 
     /// Returns the manifests of a repository that have no tag, in the order of digests.

@@ -9,6 +9,7 @@ use crate::metadata::bounds::{Bounds, Excess, Totals};
 use crate::metadata::document::Facts;
 use crate::metadata::names::tenant_of;
 use crate::metadata::repository::{Kept, NamedManifest, Removal, Repository};
+use crate::operation::locks::guard_of;
 use std::collections::{BTreeMap, HashMap};
 use std::sync::{Arc, Mutex, RwLock};
 
@@ -34,23 +35,23 @@ pub struct ReservedPush<'t> {
 impl ManifestTable {
     /// Calls `look` with a repository. Returns `None` if the repository has never had a manifest.
     pub fn with<T>(&self, repo: &str, look: impl FnOnce(&mut Repository) -> T) -> Option<T> {
-        let found = self.repos.read().unwrap().get(repo)?.clone();
+        let found = guard_of(self.repos.read()).get(repo)?.clone();
         Some(self.counted(repo, &found, look))
     }
 
     /// Returns a repository, which is made if it is not there.
     fn made(&self, repo: &str) -> Arc<Mutex<Repository>> {
-        self.repos.write().unwrap().entry(repo.to_string()).or_default().clone()
+        guard_of(self.repos.write()).entry(repo.to_string()).or_default().clone()
     }
 
     /// Calls `change` with a repository, and adds the change of its totals to those of its tenant.
     fn counted<T>(&self, repo: &str, found: &Mutex<Repository>, change: impl FnOnce(&mut Repository) -> T) -> T {
-        let mut found = found.lock().unwrap();
+        let mut found = guard_of(found.lock());
         let before = found.totals();
         let result = change(&mut found);
         let after = found.totals();
         if before != after {
-            let mut totals = self.totals.lock().unwrap();
+            let mut totals = guard_of(self.totals.lock());
             let held = totals.entry(tenant_of(repo).to_string()).or_default();
             *held = *held + after - before;
         }
@@ -59,7 +60,7 @@ impl ManifestTable {
 
     /// Returns the totals of a tenant's manifests and tags, with those that are being pushed.
     pub fn totals(&self, tenant: &str) -> Totals {
-        self.totals.lock().unwrap().get(tenant).copied().unwrap_or_default()
+        guard_of(self.totals.lock()).get(tenant).copied().unwrap_or_default()
     }
 
     /// Checks that a repository's tenant may have a manifest whose content is not read yet. `len` is its length if it is known.
@@ -97,11 +98,11 @@ impl ManifestTable {
     /// Notes that a push begins, if it exceeds no bound. No other push of the tenant comes between the check and the note.
     fn begin_push(&self, repo: &str, (digest, size): (&str, u64), tag: Option<&str>, bounds: &Bounds) -> Result<(), Excess> {
         let found = self.made(repo);
-        let mut found = found.lock().unwrap();
+        let mut found = guard_of(found.lock());
         let before = found.totals();
         found.pushes.begin((digest, size), tag);
         let added = found.totals() - before;
-        let mut totals = self.totals.lock().unwrap();
+        let mut totals = guard_of(self.totals.lock());
         let held = totals.entry(tenant_of(repo).to_string()).or_default();
         let checked = bounds.check(*held, added);
         match checked {
@@ -113,8 +114,8 @@ impl ManifestTable {
 
     /// Removes a repository that has nothing, unless another request uses it.
     fn forget_empty(&self, repo: &str) {
-        let mut repos = self.repos.write().unwrap();
-        let is_unused = |found: &Arc<Mutex<Repository>>| Arc::strong_count(found) == 1 && found.lock().unwrap().is_empty();
+        let mut repos = guard_of(self.repos.write());
+        let is_unused = |found: &Arc<Mutex<Repository>>| Arc::strong_count(found) == 1 && guard_of(found.lock()).is_empty();
         if repos.get(repo).map_or(false, is_unused) {
             repos.remove(repo);
         }

@@ -31,7 +31,7 @@ impl Manifests {
         Manifests { table, writer }
     }
 
-    /// Returns whether the catalog survives the end of this program.
+    /// Returns whether the manifests and tags survive the end of this program.
     pub fn is_kept(&self) -> bool {
         self.writer.is_some()
     }

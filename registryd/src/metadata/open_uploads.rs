@@ -6,6 +6,7 @@ use crate::http::fault::Fault;
 use crate::metadata::limits::MAX_LASTING;
 use crate::metadata::names::tenant_of;
 use crate::metadata::upload_names::Secret;
+use crate::operation::locks::guard_of;
 use std::collections::HashMap;
 use std::sync::{Arc, Mutex};
 use std::time::{Duration, Instant};
@@ -131,13 +132,13 @@ impl OpenUploads {
 
     fn insert(&self, upload: Upload) -> Uuid {
         let name = self.secret.name(&upload.repo, upload.session);
-        self.by_name.lock().unwrap().insert(name, upload);
+        guard_of(self.by_name.lock()).insert(name, upload);
         name
     }
 
     /// Lets an upload stay open for a later request, unless its tenant has the maximum number of them. Returns whether it stays.
     pub fn keep_open(&self, name: &Uuid) -> bool {
-        let mut uploads = self.by_name.lock().unwrap();
+        let mut uploads = guard_of(self.by_name.lock());
         let has_room = uploads.get(name).map_or(false, |upload| has_room(&uploads, tenant_of(&upload.repo)));
         match uploads.get_mut(name).filter(|_| has_room) {
             Some(upload) => {
@@ -150,14 +151,14 @@ impl OpenUploads {
 
     /// Returns whether a tenant has less than the maximum number of uploads that stay open.
     pub fn have_room(&self, tenant: &str) -> bool {
-        has_room(&self.by_name.lock().unwrap(), tenant)
+        has_room(&*guard_of(self.by_name.lock()), tenant)
     }
 
     /// Begins to use an upload of a repository.
     pub fn enter(&self, repo: &str, name: Uuid) -> Result<UploadInUse<'_>, Fault> {
         // Names are compared in constant time before they are looked up.
         self.secret.session(repo, &name).ok_or_else(Fault::upload_unknown)?;
-        match self.by_name.lock().unwrap().get_mut(&name) {
+        match guard_of(self.by_name.lock()).get_mut(&name) {
             Some(upload) if upload.repo == repo => {
                 upload.requests += 1;
                 Ok(UploadInUse { uploads: self, name, session: upload.session })
@@ -168,7 +169,7 @@ impl OpenUploads {
 
     /// Removes an upload that has ended.
     pub fn remove(&self, name: &Uuid) {
-        let removed = self.by_name.lock().unwrap().remove(name);
+        let removed = guard_of(self.by_name.lock()).remove(name);
         if let Some(upload) = removed {
             self.forget(upload);
         }
@@ -182,26 +183,26 @@ impl OpenUploads {
     }
 
     pub fn len(&self) -> usize {
-        self.by_name.lock().unwrap().len()
+        guard_of(self.by_name.lock()).len()
     }
 
     /// Returns the names of the uploads to abandon.
     pub fn unused(&self, patience: UploadTimeouts) -> Vec<Uuid> {
-        let uploads = self.by_name.lock().unwrap();
+        let uploads = guard_of(self.by_name.lock());
         let unused = uploads.iter().filter(|(_, upload)| upload.is_unused(patience));
         unused.map(|(name, _)| *name).collect()
     }
 
     /// Removes an upload if it is still unused.
     pub fn take_unused(&self, name: &Uuid, patience: UploadTimeouts) -> Option<Upload> {
-        let mut uploads = self.by_name.lock().unwrap();
+        let mut uploads = guard_of(self.by_name.lock());
         uploads.get(name).filter(|upload| upload.is_unused(patience))?;
         uploads.remove(name)
     }
 
     /// Puts back an upload that the store could not abandon. It counts as used now.
     pub fn put_back(&self, name: Uuid, upload: Upload) {
-        self.by_name.lock().unwrap().insert(name, Upload { used: Instant::now(), ..upload });
+        guard_of(self.by_name.lock()).insert(name, Upload { used: Instant::now(), ..upload });
     }
 }
 
@@ -213,7 +214,7 @@ fn has_room(uploads: &HashMap<Uuid, Upload>, tenant: &str) -> bool {
 impl<'u> UploadInUse<'u> {
     /// Begins to append to it.
     pub fn add(self) -> AppendingRequest<'u> {
-        let mut uploads = self.uploads.by_name.lock().unwrap();
+        let mut uploads = guard_of(self.uploads.by_name.lock());
         let length = uploads.get_mut(&self.name).and_then(|upload| upload.length.begin());
         drop(uploads);
         AppendingRequest { upload: self, length }
@@ -221,7 +222,7 @@ impl<'u> UploadInUse<'u> {
 
     /// Notes that a client sent a byte of it.
     pub fn begin(&self) {
-        if let Some(upload) = self.uploads.by_name.lock().unwrap().get_mut(&self.name) {
+        if let Some(upload) = guard_of(self.uploads.by_name.lock()).get_mut(&self.name) {
             upload.is_begun = true;
         }
     }
@@ -247,7 +248,7 @@ impl AppendingRequest<'_> {
 impl Drop for AppendingRequest<'_> {
     fn drop(&mut self) {
         let UploadInUse { uploads, name, .. } = &self.upload;
-        if let Some(upload) = uploads.by_name.lock().unwrap().get_mut(name) {
+        if let Some(upload) = guard_of(uploads.by_name.lock()).get_mut(name) {
             upload.length.end(self.length);
         }
     }
@@ -255,7 +256,7 @@ impl Drop for AppendingRequest<'_> {
 
 impl Drop for UploadInUse<'_> {
     fn drop(&mut self) {
-        if let Some(upload) = self.uploads.by_name.lock().unwrap().get_mut(&self.name) {
+        if let Some(upload) = guard_of(self.uploads.by_name.lock()).get_mut(&self.name) {
             upload.requests -= 1;
             upload.used = Instant::now();
         }

@@ -3,6 +3,7 @@ use crate::database::change::Change;
 use crate::database::writer::{WriteFailure, Writer};
 use crate::metadata::limits::{Limit, MAX_REPOSITORIES};
 use crate::metadata::names::tenant_of;
+use crate::operation::locks::guard_of;
 use std::collections::{HashMap, HashSet};
 use std::sync::{Arc, Mutex};
 
@@ -69,7 +70,7 @@ impl Repositories {
 
     /// Begins a request that may create or remove a repository.
     pub fn begin_change<'r>(&'r self, repo: &'r str) -> ChangingRequest<'r> {
-        self.changing.lock().unwrap().entry(repo.to_string()).or_default().requests += 1;
+        guard_of(self.changing.lock()).entry(repo.to_string()).or_default().requests += 1;
         // A repository that is here after the request is counted keeps its record until the request ends.
         ChangingRequest { repositories: self, repo, is_recorded: self.has(repo) }
     }
@@ -94,7 +95,7 @@ impl Repositories {
 
     /// Returns whether the numbers of a tenant's uploads have to be found before one is opened.
     pub fn wants_number(&self, tenant: &str) -> bool {
-        self.writer.is_some() && !self.numbered.lock().unwrap().contains(tenant)
+        self.writer.is_some() && !guard_of(self.numbered.lock()).contains(tenant)
     }
 
     /// Records that the store used all numbers of a repository's tenant up to this one.
@@ -108,7 +109,7 @@ impl Repositories {
 
     /// Notes that the database has a number of a tenant.
     pub fn set_numbered(&self, tenant: &str) {
-        self.numbered.lock().unwrap().insert(tenant.to_string());
+        guard_of(self.numbered.lock()).insert(tenant.to_string());
     }
 
     /// Returns whether repositories are recorded in a database.
@@ -118,7 +119,7 @@ impl Repositories {
 
     /// Returns the number of a repository's last addition, if it is here.
     fn addition(&self, repo: &str) -> Option<u64> {
-        self.table.lock().unwrap().by_tenant.get(tenant_of(repo))?.get(repo).copied()
+        guard_of(self.table.lock()).by_tenant.get(tenant_of(repo))?.get(repo).copied()
     }
 
     /// Returns whether a repository is here.
@@ -128,12 +129,12 @@ impl Repositories {
 
     /// Returns the number of repositories of a tenant.
     pub fn count(&self, tenant: &str) -> usize {
-        self.table.lock().unwrap().by_tenant.get(tenant).map_or(0, HashMap::len)
+        guard_of(self.table.lock()).by_tenant.get(tenant).map_or(0, HashMap::len)
     }
 
     /// Returns the first repositories of a tenant after `last` in order, at most `most`, and whether more follow.
     pub fn page(&self, tenant: &str, last: &str, most: usize) -> (Vec<String>, bool) {
-        let table = self.table.lock().unwrap();
+        let table = guard_of(self.table.lock());
         let repos = table.by_tenant.get(tenant).into_iter().flat_map(HashMap::keys);
         let mut names: Vec<String> = repos.filter(|repo| repo.as_str() > last).cloned().collect();
         names.sort();
@@ -144,7 +145,7 @@ impl Repositories {
 
     /// Adds a repository after the store accepted a call that may have created it. With a database, it has to be recorded.
     pub fn add(&self, repo: &str) {
-        let mut table = self.table.lock().unwrap();
+        let mut table = guard_of(self.table.lock());
         table.last += 1;
         let number = table.last;
         let repos = table.by_tenant.entry(tenant_of(repo).to_string()).or_default();
@@ -159,7 +160,7 @@ impl Repositories {
     /// Returns the limit that a call on a repository has reached. This is `Repositories` if the repository is new and its
     /// tenant has the maximum number, and `own` otherwise.
     pub fn reached(&self, repo: &str, own: Limit) -> Limit {
-        match self.table.lock().unwrap().by_tenant.get(tenant_of(repo)) {
+        match guard_of(self.table.lock()).by_tenant.get(tenant_of(repo)) {
             Some(repos) if repos.len() >= MAX_REPOSITORIES && !repos.contains_key(repo) => Limit::Repositories,
             _ => own,
         }
@@ -186,7 +187,7 @@ impl Removing<'_> {
     /// store was asked: it may have been created again.
     pub fn removed(self) {
         let ChangingRequest { repositories, repo, .. } = self.request;
-        let mut table = repositories.table.lock().unwrap();
+        let mut table = guard_of(repositories.table.lock());
         if let Some(repos) = table.by_tenant.get_mut(tenant_of(repo)) {
             if repos.get(repo).copied() == self.addition {
                 repos.remove(repo);
@@ -198,7 +199,7 @@ impl Removing<'_> {
 impl Drop for ChangingRequest<'_> {
     fn drop(&mut self) {
         let ChangingRequest { repositories, repo, is_recorded } = *self;
-        let mut changing = repositories.changing.lock().unwrap();
+        let mut changing = guard_of(repositories.changing.lock());
         let is_last_recorded = match changing.get_mut(repo) {
             Some(one) if one.requests > 1 => {
                 one.requests -= 1;

@@ -1,4 +1,5 @@
 //! Locks that let the writers of one manifest take turns.
+use crate::operation::locks::guard_of;
 use std::collections::HashMap;
 use std::sync::{Arc, Mutex};
 use tokio::sync::OwnedMutexGuard;
@@ -24,7 +25,7 @@ impl Turns {
     /// Waits until no other writer changes the manifest with this digest in this repository.
     pub async fn take(&self, repo: &str, digest: &str) -> Turn<'_> {
         let key = (repo.to_string(), digest.to_string());
-        let lock = self.by_key.lock().unwrap().entry(key.clone()).or_default().clone();
+        let lock = guard_of(self.by_key.lock()).entry(key.clone()).or_default().clone();
         let mut turn = Turn { turns: self, key, lock, guard: None };
         turn.guard = Some(turn.lock.clone().lock_owned().await);
         turn
@@ -34,7 +35,7 @@ impl Turns {
 impl Drop for Turn<'_> {
     fn drop(&mut self) {
         self.guard = None;
-        let mut by_key = self.turns.by_key.lock().unwrap();
+        let mut by_key = guard_of(self.turns.by_key.lock());
         // The map has one reference and this turn another. Each waiting writer has one more.
         if Arc::strong_count(&self.lock) == 2 {
             by_key.remove(&self.key);

@@ -2,6 +2,7 @@
 pub(crate) mod collector;
 pub(crate) mod exit;
 pub(crate) mod health;
+pub(crate) mod locks;
 pub(crate) mod memory_reserve;
 pub(crate) mod metrics;
 pub(crate) mod notify;

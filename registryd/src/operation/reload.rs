@@ -1,4 +1,5 @@
 //! Values that are read from files at the start and again on SIGHUP.
+use crate::operation::locks::guard_of;
 use std::fs::OpenOptions;
 use std::io::{self, Read as _};
 use std::os::unix::fs::OpenOptionsExt;
@@ -24,7 +25,7 @@ impl<T> FromFile<T> {
 
     /// Returns the value that was read last.
     pub fn get(&self) -> Arc<T> {
-        self.current.read().unwrap_or_else(|poisoned| poisoned.into_inner()).clone()
+        guard_of(self.current.read()).clone()
     }
 }
 
@@ -58,7 +59,7 @@ pub trait Reload: Send + Sync {
 impl<T: Send + Sync> Reload for FromFile<T> {
     fn reload(&self) -> Result<(), String> {
         let value = Arc::new((self.read)()?);
-        *self.current.write().unwrap_or_else(|poisoned| poisoned.into_inner()) = value;
+        *guard_of(self.current.write()) = value;
         Ok(())
     }
 }

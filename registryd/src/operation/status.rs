@@ -5,6 +5,7 @@ use crate::http::paths::query_value;
 use crate::http::responses::{with_body, HandlerResult};
 use crate::metadata::clock;
 use crate::metadata::manifest_lists::{Referrer, TagOverview};
+use crate::operation::locks::guard_of;
 use crate::operation::metrics::CONTENT_TYPE as METRICS_TYPE;
 use crate::store::calls::SweepResult;
 use crate::store::client::StoreUnavailable;
@@ -68,7 +69,7 @@ impl SweepHistory {
     /// Adds a sweep if it freed something.
     pub fn add(&self, swept: &SweepResult) {
         if swept.freed > 0 {
-            let mut sweeps = self.0.lock().unwrap();
+            let mut sweeps = guard_of(self.0.lock());
             sweeps.truncate(MAX_SWEEPS - 1);
             sweeps.push_front(Sweep { time: clock::time_of_day(), freed: swept.freed, held: swept.held });
         }
@@ -76,7 +77,7 @@ impl SweepHistory {
 
     fn json(&self) -> Vec<Value> {
         let of = |sweep: &Sweep| json!({ "time": sweep.time, "freed": sweep.freed, "held": sweep.held });
-        self.0.lock().unwrap().iter().map(of).collect()
+        guard_of(self.0.lock()).iter().map(of).collect()
     }
 }
 

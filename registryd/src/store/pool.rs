@@ -1,5 +1,6 @@
 //! The pool of connections to the store. Sharers (tenants, for example) share it, so that none of them takes all
 //! connections.
+use crate::operation::locks::guard_of;
 use crate::store::connection::{Frame, ReplyResult, StoreConnection};
 use std::collections::VecDeque;
 use std::io;
@@ -72,7 +73,7 @@ impl ConnectionPool {
     }
 
     fn state(&self) -> MutexGuard<'_, State> {
-        self.0.lock().unwrap_or_else(|poisoned| poisoned.into_inner())
+        guard_of(self.0.lock())
     }
 
     /// Takes a connection for a sharer after it may get one. Waiting calls of a sharer are served in order.
