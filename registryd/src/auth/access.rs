@@ -17,10 +17,10 @@ const BASIC: &str = "Basic realm=\"registry\", charset=\"UTF-8\"";
 
 /// The rules that decide which requests are accepted. Without users and an issuer every request is.
 #[derive(Default)]
-pub struct Access {
-    pub users: Option<Arc<FromFile<Users>>>,
-    pub rights: Option<Arc<FromFile<Rights>>>,
-    pub issuer: Option<Arc<Issuer>>,
+pub(crate) struct Access {
+    pub(crate) users: Option<Arc<FromFile<Users>>>,
+    pub(crate) rights: Option<Arc<FromFile<Rights>>>,
+    pub(crate) issuer: Option<Arc<Issuer>>,
 }
 
 /// The sender of a request, as far as it is known.
@@ -37,7 +37,7 @@ enum Identity {
 }
 
 /// The sender of a request, and its rights.
-pub struct Caller {
+pub(crate) struct Caller {
     identity: Identity,
     /// The rights of the file, if there is one.
     rights: Option<Arc<Rights>>,
@@ -87,7 +87,7 @@ fn unauthorized(issuer: &Option<Arc<Issuer>>, scope: Scope<'_>, error: Option<&s
 
 impl Access {
     /// Returns the sender of a request after checking its credentials. A challenge names what the request needs.
-    pub async fn caller(&self, headers: &HeaderMap, scope: Scope<'_>, client: Option<IpAddr>) -> Result<Caller, Fault> {
+    pub(crate) async fn caller(&self, headers: &HeaderMap, scope: Scope<'_>, client: Option<IpAddr>) -> Result<Caller, Fault> {
         let identity = match (credentials(headers), &self.users, &self.issuer) {
             (_, None, None) => Identity::Anybody,
             (Credentials::Missing, _, _) => Identity::Anonymous,
@@ -107,7 +107,7 @@ impl Access {
 
 impl Caller {
     /// Returns the user's name, if it is known.
-    pub fn user(&self) -> Option<&str> {
+    pub(crate) fn user(&self) -> Option<&str> {
         match &self.identity {
             Identity::User(user) => Some(user),
             Identity::Holder(token) => token.user(),
@@ -116,12 +116,12 @@ impl Caller {
     }
 
     /// Returns whether the sender is a user of the file of users with this name.
-    pub fn is_user(&self, name: &str) -> bool {
+    pub(crate) fn is_user(&self, name: &str) -> bool {
         matches!(&self.identity, Identity::User(user) if user == name)
     }
 
     /// Returns whether the sender has a right in a repository.
-    pub fn may(&self, right: Right, repo: &str) -> bool {
+    pub(crate) fn may(&self, right: Right, repo: &str) -> bool {
         let has = match (&self.identity, &self.rights) {
             (Identity::Anybody, _) => true,
             (Identity::Anonymous, _) => false,
@@ -134,7 +134,7 @@ impl Caller {
 
     /// Returns whether the sender has a right in all repositories of a tenant. A line of the file for the tenant's name holds for
     /// all of them. An entry of a token holds for one repository only, which may have the tenant's name.
-    pub fn may_in_tenant(&self, right: Right, tenant: &str) -> bool {
+    pub(crate) fn may_in_tenant(&self, right: Right, tenant: &str) -> bool {
         match (&self.identity, &self.rights) {
             (Identity::Holder(_), rights) => rights.as_ref().map_or(false, |rights| rights.are_public(right, tenant)),
             _ => self.may(right, tenant),
@@ -142,12 +142,12 @@ impl Caller {
     }
 
     /// Returns whether the list of repositories shows a repository to the sender.
-    pub fn may_list(&self, repo: &str) -> bool {
+    pub(crate) fn may_list(&self, repo: &str) -> bool {
         matches!(&self.identity, Identity::Holder(token) if token.lists_catalog()) || self.may(Right::Read, repo)
     }
 
     /// Fails if the sender does not have the right that a request needs.
-    pub fn check(&self, demand: &Demand<'_>) -> Result<(), Fault> {
+    pub(crate) fn check(&self, demand: &Demand<'_>) -> Result<(), Fault> {
         match &self.identity {
             _ if self.may(demand.right, demand.repo) => Ok(()),
             Identity::User(user) => Err(Fault::denied(user, demand.right.word(), demand.repo)),
@@ -157,7 +157,7 @@ impl Caller {
     }
 
     /// Fails if the sender sent no credentials, and the registry has users or an issuer.
-    pub fn check_known(&self, scope: Scope<'_>) -> Result<(), Fault> {
+    pub(crate) fn check_known(&self, scope: Scope<'_>) -> Result<(), Fault> {
         match &self.identity {
             Identity::Anonymous => Err(unauthorized(&self.issuer, scope, None)),
             Identity::Anybody | Identity::User(_) | Identity::Holder(_) => Ok(()),

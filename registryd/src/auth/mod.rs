@@ -1,6 +1,6 @@
 //! Who sends a request, and what it may do.
 pub(crate) mod access;
-pub(crate) mod password_queue;
+mod password_queue;
 pub(crate) mod rights;
 pub(crate) mod tokens;
 pub(crate) mod users;

@@ -19,7 +19,7 @@ const WAIT_TIME: Duration = Duration::from_secs(30);
 
 /// The sender of a password: the client's address, and the user if the file has it. All other users count as one.
 #[derive(Clone, Debug, PartialEq, Eq)]
-pub struct Sender {
+pub(super) struct Sender {
     address: Option<IpAddr>,
     user: Option<String>,
 }
@@ -38,14 +38,14 @@ struct State {
 }
 
 /// The queue of password checks.
-pub struct PasswordQueue(Mutex<State>);
+pub(super) struct PasswordQueue(Mutex<State>);
 
 /// The right to make one check. Dropping it lets the next one begin.
-pub struct Permit(Arc<PasswordQueue>);
+pub(super) struct Permit(Arc<PasswordQueue>);
 
 impl Sender {
     /// Makes a sender. The addresses of an IPv6 network of 64 bits count as one.
-    pub fn new(address: Option<IpAddr>, user: Option<&str>) -> Sender {
+    pub(super) fn new(address: Option<IpAddr>, user: Option<&str>) -> Sender {
         let network = |address| match address {
             IpAddr::V6(address) if address.to_ipv4_mapped().is_none() => IpAddr::V6((u128::from(address) >> 64 << 64).into()),
             address => address,
@@ -93,7 +93,7 @@ impl State {
 
 impl PasswordQueue {
     /// Makes a queue of which `most` checks run at once.
-    pub fn new(most: usize) -> Arc<PasswordQueue> {
+    pub(super) fn new(most: usize) -> Arc<PasswordQueue> {
         Arc::new(PasswordQueue(Mutex::new(State { free: most, waiting: Vec::new() })))
     }
 
@@ -102,7 +102,7 @@ impl PasswordQueue {
     }
 
     /// Waits until a check may begin. Returns `None` if too many wait, or if it waits too long.
-    pub async fn begin(self: &Arc<Self>, sender: Sender) -> Option<Permit> {
+    pub(super) async fn begin(self: &Arc<Self>, sender: Sender) -> Option<Permit> {
         timeout(WAIT_TIME, self.enter(sender)).await.ok()?.ok()
     }
 

@@ -14,7 +14,7 @@ const EVERYWHERE: &str = "*";
 
 /// A right in a repository.
 #[derive(Clone, Copy, Debug, PartialEq, Eq)]
-pub enum Right {
+pub(crate) enum Right {
     Read,
     Write,
     Delete,
@@ -22,7 +22,7 @@ pub enum Right {
 
 impl Right {
     /// Returns the right that a request needs in the repository of its path.
-    pub fn of(method: &Method, target: &Target<'_>) -> Right {
+    pub(super) fn of(method: &Method, target: &Target<'_>) -> Right {
         match (target, method) {
             (Target::Uploads { .. } | Target::Upload { .. }, _) => Right::Write,
             (_, &Method::GET | &Method::HEAD) => Right::Read,
@@ -32,7 +32,7 @@ impl Right {
     }
 
     /// Returns the right's word in the file.
-    pub fn word(self) -> &'static str {
+    pub(super) fn word(self) -> &'static str {
         match self {
             Right::Read => "read",
             Right::Write => "write",
@@ -48,21 +48,21 @@ impl Right {
 
 /// What a request needs: a right in a repository.
 #[derive(Clone, Copy, Debug, PartialEq, Eq)]
-pub struct Demand<'p> {
-    pub right: Right,
-    pub repo: &'p str,
+pub(crate) struct Demand<'p> {
+    pub(super) right: Right,
+    pub(crate) repo: &'p str,
 }
 
 impl<'p> Demand<'p> {
     /// Returns what a request needs, if its path names a repository.
-    pub fn of(method: &Method, target: &Target<'p>) -> Option<Demand<'p>> {
+    pub(crate) fn of(method: &Method, target: &Target<'p>) -> Option<Demand<'p>> {
         target.repo().map(|repo| Demand { right: Right::of(method, target), repo })
     }
 }
 
 /// What a token has to list for a request.
 #[derive(Clone, Copy, Debug, PartialEq, Eq)]
-pub enum Scope<'p> {
+pub(crate) enum Scope<'p> {
     /// Nothing: any token is enough.
     Nothing,
     /// The list of all repositories. A token without it lists those that it may read.
@@ -72,7 +72,7 @@ pub enum Scope<'p> {
 
 impl<'p> Scope<'p> {
     /// Returns what a token has to list for a request to a resource.
-    pub fn of(target: Option<&Target<'p>>, demand: Option<Demand<'p>>) -> Scope<'p> {
+    pub(crate) fn of(target: Option<&Target<'p>>, demand: Option<Demand<'p>>) -> Scope<'p> {
         match (target, demand) {
             (Some(Target::Catalog), _) => Scope::Catalog,
             (_, Some(demand)) => Scope::Repository(demand),
@@ -81,7 +81,7 @@ impl<'p> Scope<'p> {
     }
 
     /// Returns the scope's text in a challenge (Docker's "Token Scope Documentation"), if it has one.
-    pub fn text(&self) -> Option<String> {
+    pub(super) fn text(&self) -> Option<String> {
         match self {
             Scope::Nothing => None,
             Scope::Catalog => Some("registry:catalog:*".to_string()),
@@ -111,7 +111,7 @@ struct Grant {
 
 /// The rights of a file.
 #[derive(Debug, Default)]
-pub struct Rights {
+pub(crate) struct Rights {
     by_user: HashMap<String, Vec<Grant>>,
 }
 
@@ -140,14 +140,14 @@ impl Rights {
     ///
     /// - The file cannot be read.
     /// - A line is not `USER RIGHTS PREFIX`. The message has the number of the first such line.
-    pub fn read(path: &Path) -> Result<Rights, String> {
+    pub(crate) fn read(path: &Path) -> Result<Rights, String> {
         let fault = |why: String| format!("cannot read the rights: {}: {why}", path.display());
         let text = read_text(path).map_err(|error| fault(error.to_string()))?;
         Rights::parse(&text).map_err(fault)
     }
 
     /// Parses the text of a file.
-    pub fn parse(text: &str) -> Result<Rights, String> {
+    pub(super) fn parse(text: &str) -> Result<Rights, String> {
         let mut rights = Rights::default();
         for (at, line) in text.lines().map(str::trim).enumerate() {
             if line.is_empty() || line.starts_with('#') {
@@ -160,12 +160,12 @@ impl Rights {
     }
 
     /// Returns whether everybody has a right in a repository.
-    pub fn are_public(&self, right: Right, repo: &str) -> bool {
+    pub(super) fn are_public(&self, right: Right, repo: &str) -> bool {
         self.allow(EVERYBODY, right, repo)
     }
 
     /// Returns whether a user has a right in a repository by a line for the user.
-    pub fn allow(&self, user: &str, right: Right, repo: &str) -> bool {
+    pub(super) fn allow(&self, user: &str, right: Right, repo: &str) -> bool {
         let grants = self.by_user.get(user).map_or(&[][..], Vec::as_slice);
         grants.iter().any(|grant| grant.rights.contains(&right) && is_below(repo, &grant.prefix))
     }

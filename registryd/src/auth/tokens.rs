@@ -26,7 +26,7 @@ const ED25519: [u8; 12] = *b"\x30\x2a\x30\x05\x06\x03\x2b\x65\x70\x03\x21\x00";
 const RSA_2048: usize = 290;
 
 /// A public key of the issuer, and the only algorithm that it verifies. The algorithm that a token names does not decide.
-pub struct Key {
+pub(crate) struct Key {
     key: DecodingKey,
     algorithm: Algorithm,
 }
@@ -56,7 +56,7 @@ impl Key {
     ///
     /// - The file cannot be read, or has no PEM.
     /// - A block is no public key, or a key is not of RSA from 2,048 bits, P-256 or Ed25519.
-    pub fn read(path: &Path) -> Result<Vec<Key>, String> {
+    pub(crate) fn read(path: &Path) -> Result<Vec<Key>, String> {
         let fault = |why: String| format!("cannot read the token keys: {}: {why}", path.display());
         let text = read_file(path).map_err(|error| fault(error.to_string()))?;
         let blocks = pem::parse_many(text).map_err(|error| fault(error.to_string()))?;
@@ -94,18 +94,18 @@ struct Critical {
 
 /// A token that was verified.
 #[derive(Debug)]
-pub struct Token {
+pub(super) struct Token {
     claims: Claims,
 }
 
 impl Token {
     /// Returns the user whom the issuer names, if it names one.
-    pub fn user(&self) -> Option<&str> {
+    pub(super) fn user(&self) -> Option<&str> {
         self.claims.sub.as_deref().filter(|user| !user.is_empty())
     }
 
     /// Returns whether the token lists a right in a repository.
-    pub fn allows(&self, right: Right, repo: &str) -> bool {
+    pub(super) fn allows(&self, right: Right, repo: &str) -> bool {
         let action = match right {
             Right::Read => "pull",
             Right::Write => "push",
@@ -116,26 +116,26 @@ impl Token {
     }
 
     /// Returns whether the token lists the catalog: `registry:catalog:*` (Docker's "Token Scope Documentation").
-    pub fn lists_catalog(&self) -> bool {
+    pub(super) fn lists_catalog(&self) -> bool {
         let mut entries = self.claims.access.iter().flatten().filter(|entry| entry.kind == "registry" && entry.name == "catalog");
         entries.any(|entry| entry.actions.iter().flatten().any(|listed| listed == "*"))
     }
 }
 
 /// The issuer of tokens, as clients and this registry know it.
-pub struct Issuer {
+pub(crate) struct Issuer {
     /// The URL where clients ask for a token.
-    pub realm: String,
+    pub(crate) realm: String,
     /// The name of this registry, which is the audience of its tokens.
-    pub service: String,
+    pub(crate) service: String,
     /// The name of the issuer.
-    pub name: String,
-    pub keys: Arc<FromFile<Vec<Key>>>,
+    pub(crate) name: String,
+    pub(crate) keys: Arc<FromFile<Vec<Key>>>,
 }
 
 impl Issuer {
     /// Returns a token after checking its signature, its times, its issuer and its audience.
-    pub fn verify(&self, text: &str) -> Option<Token> {
+    pub(super) fn verify(&self, text: &str) -> Option<Token> {
         let keys = self.keys.get();
         let mut why = Error::from(ErrorKind::InvalidToken);
         for key in keys.iter().filter(|_| text.len() <= MAX_TOKEN) {
@@ -165,7 +165,7 @@ impl Issuer {
 
     /// Returns the challenge to a client that has to send a token for what it wants, or another one because of an error (RFC 6750,
     /// 3.1).
-    pub fn challenge(&self, scope: Scope<'_>, error: Option<&str>) -> String {
+    pub(super) fn challenge(&self, scope: Scope<'_>, error: Option<&str>) -> String {
         let mut text = format!("Bearer realm=\"{}\",service=\"{}\"", self.realm, self.service);
         if let Some(scope) = scope.text() {
             text.extend([",scope=\"", &scope, "\""]);

@@ -28,7 +28,7 @@ extern "C" {
 }
 
 /// The users of a file with the hashes of their passwords.
-pub struct Users {
+pub(crate) struct Users {
     hashes: HashMap<String, String>,
     /// The hashes that a password can have. The password of an unknown user is compared with one of them.
     usable: Vec<String>,
@@ -36,7 +36,7 @@ pub struct Users {
 }
 
 /// A cache of the passwords that were accepted, and the queue of the others. Both stay when the file of users is read again.
-pub struct Logins {
+pub(crate) struct Logins {
     /// For each user, the password that was accepted last. Each request carries a password, and the system's hashes are slow
     /// on purpose.
     accepted: Mutex<HashMap<String, Accepted>>,
@@ -53,7 +53,7 @@ struct Accepted {
 
 impl Logins {
     /// Makes an empty cache and an empty queue. Half of the processors check passwords at once.
-    pub fn new() -> Arc<Logins> {
+    pub(crate) fn new() -> Arc<Logins> {
         let processors = std::thread::available_parallelism().map_or(1, usize::from);
         let (salt, checks) = (*uuid::Uuid::new_v4().as_bytes(), PasswordQueue::new((processors / 2).max(1)));
         Arc::new(Logins { accepted: Mutex::default(), salt, checks })
@@ -107,7 +107,7 @@ impl Users {
     ///
     /// - The file cannot be read.
     /// - A line is not `USER:HASH`, or its hash cannot be checked. The message has the number of the first such line.
-    pub fn read(path: &Path, logins: &Arc<Logins>) -> io::Result<Users> {
+    pub(crate) fn read(path: &Path, logins: &Arc<Logins>) -> io::Result<Users> {
         let text = read_text(path)?;
         let (mut hashes, mut tried) = (HashMap::new(), HashSet::new());
         for (at, line) in text.lines().map(str::trim).enumerate() {
@@ -129,7 +129,7 @@ impl Users {
     }
 
     /// Returns whether a user is in the file.
-    pub fn has(&self, user: &str) -> bool {
+    pub(crate) fn has(&self, user: &str) -> bool {
         self.hashes.contains_key(user)
     }
 
@@ -163,7 +163,7 @@ impl Users {
     }
 
     /// Returns whether a password is the user's. The cache is asked first because a hash is slow on purpose.
-    pub async fn accept(self: &Arc<Self>, user: &str, password: &str, client: Option<IpAddr>) -> Result<bool, Fault> {
+    pub(super) async fn accept(self: &Arc<Self>, user: &str, password: &str, client: Option<IpAddr>) -> Result<bool, Fault> {
         Ok(self.is_cached(user, password) || self.compare(user, password.to_string(), client).await?)
     }
 

@@ -8,7 +8,7 @@ use std::collections::HashMap;
 
 /// A change of the database.
 #[derive(Clone, Debug, PartialEq, Eq)]
-pub enum Change {
+pub(crate) enum Change {
     /// An upload may be opened in a repository.
     AddRepository {
         repo: String,
@@ -84,7 +84,7 @@ pub enum Change {
 
 /// What a change did to the tables of this process.
 #[derive(Debug, PartialEq, Eq)]
-pub enum Done {
+pub(crate) enum Done {
     Nothing,
     /// Tags were removed.
     Removed(Vec<String>),
@@ -92,7 +92,7 @@ pub enum Done {
 
 impl Change {
     /// Makes a change in the tables of this process that became durable at this time.
-    pub fn apply(self, table: &ManifestTable, now: u64) -> Done {
+    pub(super) fn apply(self, table: &ManifestTable, now: u64) -> Done {
         match self {
             Change::PutManifest { repo, digest, facts, tag } => table.put(&repo, &digest, facts, tag.as_deref(), now),
             Change::RestoreManifest { repo, digest, facts, since, tags: names } => {
@@ -107,12 +107,12 @@ impl Change {
 
     /// Returns whether the change is made later if the disk has no room now, although a request waits for it: it restores what an
     /// earlier change took away.
-    pub fn stays(&self) -> bool {
+    pub(super) fn stays(&self) -> bool {
         matches!(self, Change::RestoreManifest { .. })
     }
 
     /// Notes the number of an upload. Returns the tenant if the number changed up to which all are recorded.
-    pub fn see_number(&self, numbers: &mut HashMap<String, UploadNumbers>) -> Option<&str> {
+    pub(super) fn see_number(&self, numbers: &mut HashMap<String, UploadNumbers>) -> Option<&str> {
         match self {
             Change::OpenUpload { repo, number } | Change::PassUpload { repo, number } => {
                 let tenant = tenant_of(repo);

@@ -5,13 +5,13 @@ use rusqlite::{params, Connection, OptionalExtension};
 
 /// The marks in a database.
 #[derive(Debug, Default, PartialEq, Eq)]
-pub struct Marks {
+pub(crate) struct Marks {
     /// An end of the log that was on the disk when it was written here.
-    pub log_end: Option<LogEnd>,
+    pub(crate) log_end: Option<LogEnd>,
     /// The number of transactions.
-    pub commits: u64,
+    pub(crate) commits: u64,
     /// The time of the last transaction, in seconds since 1970.
-    pub time: Option<u64>,
+    pub(crate) time: Option<u64>,
 }
 
 /// Returns a setting.
@@ -27,7 +27,7 @@ fn put(connection: &Connection, name: &str, value: &dyn rusqlite::ToSql) -> rusq
 }
 
 /// Returns the marks.
-pub fn read(connection: &Connection) -> rusqlite::Result<Marks> {
+pub(super) fn read(connection: &Connection) -> rusqlite::Result<Marks> {
     let log_end: Option<Vec<u8>> = setting(connection, "log_end")?;
     let commits: Option<i64> = setting(connection, "commits")?;
     let time = setting::<i64>(connection, "time")?.and_then(|time| u64::try_from(time).ok());
@@ -36,17 +36,17 @@ pub fn read(connection: &Connection) -> rusqlite::Result<Marks> {
 }
 
 /// Writes an end of the log that is on the disk.
-pub fn put_log_end(connection: &Connection, end: LogEnd) -> rusqlite::Result<()> {
+pub(super) fn put_log_end(connection: &Connection, end: LogEnd) -> rusqlite::Result<()> {
     put(connection, "log_end", &end.to_bytes())
 }
 
 /// Keeps of the end of the log the number of its last file alone.
-pub fn loosen_log_end(connection: &Connection, end: LogEnd) -> rusqlite::Result<()> {
+pub(super) fn loosen_log_end(connection: &Connection, end: LogEnd) -> rusqlite::Result<()> {
     put_log_end(connection, LogEnd { length: 0, ..end })
 }
 
 /// Writes the number of transactions and the time of the last one, in seconds since 1970.
-pub fn put_commit(connection: &Connection, commits: u64, time: u64) -> rusqlite::Result<()> {
+pub(super) fn put_commit(connection: &Connection, commits: u64, time: u64) -> rusqlite::Result<()> {
     put(connection, "commits", &(commits as i64))?;
     put(connection, "time", &(time as i64))
 }

@@ -2,9 +2,9 @@
 pub(crate) mod change;
 pub(crate) mod marks;
 pub(crate) mod rows;
-pub(crate) mod schema;
+mod schema;
 pub(crate) mod sqlite;
-pub(crate) mod statements;
-pub(crate) mod upload_numbers;
+mod statements;
+mod upload_numbers;
 pub(crate) mod witness;
 pub(crate) mod writer;

@@ -6,46 +6,46 @@ use std::collections::HashMap;
 
 /// A manifest.
 #[derive(Clone, Debug, PartialEq, Eq)]
-pub struct ManifestRow {
-    pub repo: String,
-    pub digest: String,
-    pub facts: Facts,
+pub(crate) struct ManifestRow {
+    pub(crate) repo: String,
+    pub(crate) digest: String,
+    pub(crate) facts: Facts,
     /// Whether all facts are known, and not its media type alone.
-    pub is_complete: bool,
+    pub(crate) is_complete: bool,
     /// The last time at which it was pushed or something ceased to hold it, in seconds since 1970.
-    pub since: u64,
+    pub(crate) since: u64,
 }
 
 /// A tag with the digest of its manifest.
 #[derive(Clone, Debug, PartialEq, Eq)]
-pub struct TagRow {
-    pub repo: String,
-    pub tag: String,
-    pub digest: String,
+pub(crate) struct TagRow {
+    pub(crate) repo: String,
+    pub(crate) tag: String,
+    pub(crate) digest: String,
 }
 
 /// An open upload.
 #[derive(Clone, Debug, PartialEq, Eq)]
-pub struct UploadRow {
-    pub repo: String,
-    pub number: u32,
+pub(crate) struct UploadRow {
+    pub(crate) repo: String,
+    pub(crate) number: u32,
 }
 
 /// The content of the database at a start.
-pub struct Rows {
-    pub secret: Secret,
-    pub repositories: Vec<String>,
-    pub manifests: Vec<ManifestRow>,
-    pub tags: Vec<TagRow>,
-    pub uploads: Vec<UploadRow>,
+pub(crate) struct Rows {
+    pub(crate) secret: Secret,
+    pub(crate) repositories: Vec<String>,
+    pub(crate) manifests: Vec<ManifestRow>,
+    pub(crate) tags: Vec<TagRow>,
+    pub(crate) uploads: Vec<UploadRow>,
     /// The repositories and digests of blobs that are to be unlinked after some time.
-    pub loose_blobs: Vec<(String, String)>,
+    pub(crate) loose_blobs: Vec<(String, String)>,
     /// For each tenant, a number up to which all its sessions that may be open are rows of `uploads`.
-    pub recorded: HashMap<String, u32>,
+    pub(crate) recorded: HashMap<String, u32>,
 }
 
 /// Returns all rows of a query.
-pub fn all<T>(
+pub(super) fn all<T>(
     connection: &Connection,
     query: &str,
     read: impl FnMut(&rusqlite::Row<'_>) -> rusqlite::Result<T>,
@@ -54,7 +54,7 @@ pub fn all<T>(
 }
 
 /// Returns all manifests.
-pub fn manifest_rows(connection: &Connection) -> rusqlite::Result<Vec<ManifestRow>> {
+pub(super) fn manifest_rows(connection: &Connection) -> rusqlite::Result<Vec<ManifestRow>> {
     let mut lists: HashMap<(String, String), Vec<String>> = HashMap::new();
     let query = "SELECT repository, digest, listed FROM listed ORDER BY repository, digest, listed";
     for (key, listed) in all(connection, query, |row| Ok(((row.get(0)?, row.get(1)?), row.get(2)?)))? {

@@ -7,13 +7,13 @@ use std::time::Duration;
 const WAIT: Duration = Duration::from_secs(5);
 
 /// The number in the file's head that marks it as a database of this program (`regd` in ASCII).
-pub const APPLICATION: i64 = 0x7265_6764;
+pub(super) const APPLICATION: i64 = 0x7265_6764;
 
 /// The version of the tables.
-pub const VERSION: i64 = 2;
+pub(super) const VERSION: i64 = 2;
 
 /// The tables of version 1.
-pub const TABLES: &str = "
+pub(super) const TABLES: &str = "
     CREATE TABLE settings (name TEXT PRIMARY KEY, value BLOB NOT NULL) WITHOUT ROWID;
     CREATE TABLE repositories (name TEXT PRIMARY KEY) WITHOUT ROWID;
     CREATE TABLE manifests (
@@ -53,7 +53,7 @@ const ADDITIONS: &str = "
 
 /// Sets how the database writes and checks. Other programs can read it meanwhile, for a backup. The store's lock on the folder
 /// keeps a second registry from writing it.
-pub fn set_up(connection: &Connection) -> rusqlite::Result<()> {
+pub(super) fn set_up(connection: &Connection) -> rusqlite::Result<()> {
     connection.busy_timeout(WAIT)?;
     let word = |query: &str| connection.query_row(query, [], |row| row.get::<_, rusqlite::types::Value>(0));
     word("PRAGMA journal_mode = WAL")?;
@@ -61,13 +61,13 @@ pub fn set_up(connection: &Connection) -> rusqlite::Result<()> {
 }
 
 /// Lets this connection alone read the database, so that SQLite needs no file with an index of what is in its log.
-pub fn set_up_without_room(connection: &Connection) -> rusqlite::Result<()> {
+pub(super) fn set_up_without_room(connection: &Connection) -> rusqlite::Result<()> {
     connection.busy_timeout(WAIT)?;
     connection.query_row("PRAGMA locking_mode = EXCLUSIVE", [], |_| Ok(()))
 }
 
 /// Checks the database, or makes its tables if it is empty, or adds to those of version 1. Returns what is wrong, if anything is.
-pub fn check_or_make(connection: &mut Connection) -> rusqlite::Result<Option<String>> {
+pub(super) fn check_or_make(connection: &mut Connection) -> rusqlite::Result<Option<String>> {
     let transaction = connection.transaction_with_behavior(TransactionBehavior::Exclusive)?;
     let number = |query: &str| transaction.query_row(query, [], |row| row.get::<_, i64>(0));
     let found = (number("PRAGMA application_id")?, number("PRAGMA user_version")?);
@@ -87,7 +87,7 @@ pub fn check_or_make(connection: &mut Connection) -> rusqlite::Result<Option<Str
 }
 
 /// Returns what is wrong with a database, if anything is.
-pub fn check(connection: &Connection) -> rusqlite::Result<Option<String>> {
+pub(super) fn check(connection: &Connection) -> rusqlite::Result<Option<String>> {
     let number = |query: &str| connection.query_row(query, [], |row| row.get::<_, i64>(0));
     if (number("PRAGMA application_id")?, number("PRAGMA user_version")?) != (APPLICATION, VERSION) {
         return Ok(Some("not a database of this version of registryd".to_string()));

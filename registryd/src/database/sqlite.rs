@@ -15,14 +15,14 @@ use std::path::{Path, PathBuf};
 use std::{fmt, io};
 
 /// The name of the database's file in the folder.
-pub const FILE_NAME: &str = "registry.db";
+pub(crate) const FILE_NAME: &str = "registry.db";
 
 /// The flags with which the file is opened. It exists, and one thread uses a connection.
 const FLAGS: OpenFlags = OpenFlags::SQLITE_OPEN_READ_WRITE.union(OpenFlags::SQLITE_OPEN_NO_MUTEX);
 
 /// The reason why a database cannot be opened.
 #[derive(Debug)]
-pub enum Problem {
+pub(crate) enum Problem {
     /// The file cannot be opened, read or written.
     Unusable,
     /// Another process has it.
@@ -33,8 +33,8 @@ pub enum Problem {
 
 /// A failure to open the database.
 #[derive(Debug)]
-pub struct OpenError {
-    pub problem: Problem,
+pub(crate) struct OpenError {
+    pub(crate) problem: Problem,
     text: String,
 }
 
@@ -61,7 +61,7 @@ impl OpenError {
 
 /// The outcome of a transaction that did not fail.
 #[derive(Clone, Copy, Debug, PartialEq, Eq)]
-pub enum Committed {
+pub(crate) enum Committed {
     Made,
     /// The disk has no room: nothing was changed.
     NoRoom,
@@ -73,7 +73,7 @@ fn is_full(error: &rusqlite::Error) -> bool {
 }
 
 /// An open database.
-pub struct Database {
+pub(crate) struct Database {
     connection: Connection,
     path: PathBuf,
     is_synced: bool,
@@ -98,7 +98,7 @@ fn create(path: &Path) -> io::Result<bool> {
 
 impl Database {
     /// Opens the database of a folder, or makes it. Each commit is on the disk when it returns, unless `is_synced` is false.
-    pub fn open(folder: &Path, is_synced: bool) -> Result<Database, OpenError> {
+    pub(crate) fn open(folder: &Path, is_synced: bool) -> Result<Database, OpenError> {
         let path = folder.join(FILE_NAME);
         let unusable = |error: io::Error| OpenError::new(Problem::Unusable, &path, error);
         let existed = create(&path).map_err(unusable)?;
@@ -128,7 +128,7 @@ impl Database {
     /// # Errors
     ///
     /// Those of `open`. A database of an earlier version is not of this version.
-    pub fn open_without_room(folder: &Path, is_synced: bool) -> Result<Database, OpenError> {
+    pub(crate) fn open_without_room(folder: &Path, is_synced: bool) -> Result<Database, OpenError> {
         let path = folder.join(FILE_NAME);
         let unusable = |error: io::Error| OpenError::new(Problem::Unusable, &path, error);
         let witness = Witness::open(folder).map_err(unusable)?;
@@ -163,24 +163,24 @@ impl Database {
     }
 
     /// Returns the marks of the database.
-    pub fn marks(&self) -> &Marks {
+    pub(crate) fn marks(&self) -> &Marks {
         &self.marks
     }
 
     /// Returns the number of transactions that a database of this folder had in addition.
-    pub fn older_by(&self) -> u64 {
+    pub(crate) fn older_by(&self) -> u64 {
         self.witnessed.saturating_sub(self.marks.commits)
     }
 
     /// Notes that the store is about to start, which may cut the last file of the log at the end of its last whole frame. If a crash
     /// comes before the new end is recorded, the file may be shorter than the recorded one.
-    pub fn loosen_log_end(&mut self) -> Result<(), OpenError> {
+    pub(crate) fn loosen_log_end(&mut self) -> Result<(), OpenError> {
         let loosened = self.marks.log_end.map_or(Ok(()), |end| marks::loosen_log_end(&self.connection, end));
         loosened.map_err(|error| OpenError::of_sqlite(&self.path, error))
     }
 
     /// Returns the content of the database. Makes the secret if there is none.
-    pub fn read(&mut self) -> Result<Rows, OpenError> {
+    pub(crate) fn read(&mut self) -> Result<Rows, OpenError> {
         self.read_rows().map_err(|error| OpenError::of_sqlite(&self.path, error))
     }
 
@@ -213,7 +213,7 @@ impl Database {
     }
 
     /// Makes another secret. Names that were made with the one before are unknown from now on.
-    pub fn renew_secret(&mut self) -> rusqlite::Result<Secret> {
+    pub(crate) fn renew_secret(&mut self) -> rusqlite::Result<Secret> {
         let secret = Secret::random().map_err(|error| rusqlite::Error::ToSqlConversionFailure(error.into()))?;
         self.connection.execute("INSERT OR REPLACE INTO settings (name, value) VALUES ('secret', ?1)", params![&secret.0[..]])?;
         Ok(secret)
@@ -221,7 +221,7 @@ impl Database {
 
     /// Makes changes in one transaction, in their order. `recorded` has the tenants whose number changes up to which all open
     /// sessions are recorded. `now` is the time, in seconds since 1970. Nothing is changed if it fails, or if the disk has no room.
-    pub fn commit<'c>(
+    pub(crate) fn commit<'c>(
         &mut self,
         changes: impl Iterator<Item = &'c Change>,
         recorded: &[(String, u32)],
@@ -262,7 +262,7 @@ impl Database {
     }
 
     /// Closes the database, so that its folder has one file of it.
-    pub fn close(self) -> rusqlite::Result<()> {
+    pub(super) fn close(self) -> rusqlite::Result<()> {
         self.connection.close().map_err(|(_, error)| error)
     }
 }

@@ -54,7 +54,7 @@ fn remove_manifest(transaction: &Transaction<'_>, repo: &str, digest: &str, now:
 }
 
 /// Makes a change, except that of an upload, which it notes. `now` is the time.
-pub fn make<'c>(
+pub(super) fn make<'c>(
     transaction: &Transaction<'_>,
     change: &'c Change,
     now: u64,
@@ -115,7 +115,7 @@ pub fn make<'c>(
 
 /// The uploads that a transaction opens and ends. One that it opens and ends gets no row.
 #[derive(Default)]
-pub struct UploadChanges<'c> {
+pub(super) struct UploadChanges<'c> {
     /// For each tenant and number, the repository of an upload that is open at the end, or nothing if it has ended.
     by_number: BTreeMap<(&'c str, u32), Option<&'c str>>,
 }
@@ -129,7 +129,7 @@ impl<'c> UploadChanges<'c> {
         self.by_number.insert((tenant_of(repo), number), None);
     }
 
-    pub fn make(&self, transaction: &Transaction<'_>) -> rusqlite::Result<()> {
+    pub(super) fn make(&self, transaction: &Transaction<'_>) -> rusqlite::Result<()> {
         for (&(tenant, number), repo) in &self.by_number {
             match repo {
                 Some(repo) => transaction

@@ -3,7 +3,7 @@ use std::collections::BTreeSet;
 
 /// The numbers that were seen. A tenant's numbers count up, but their replies may arrive in another order.
 #[derive(Debug, Default, PartialEq, Eq)]
-pub struct UploadNumbers {
+pub(super) struct UploadNumbers {
     /// All numbers up to this one were seen.
     upto: u32,
     /// The greater numbers that were seen.
@@ -12,19 +12,19 @@ pub struct UploadNumbers {
 
 impl UploadNumbers {
     /// Begins after a number.
-    pub fn after(upto: u32) -> UploadNumbers {
+    pub(super) fn after(upto: u32) -> UploadNumbers {
         UploadNumbers { upto, later: BTreeSet::new() }
     }
 
     /// Notes that all numbers up to this one were seen.
-    pub fn see_all(&mut self, upto: u32) {
+    pub(super) fn see_all(&mut self, upto: u32) {
         self.upto = self.upto.max(upto);
         self.later.retain(|number| *number > upto);
         self.see(0);
     }
 
     /// Notes that a number was seen. Returns whether all numbers up to a greater one than before were seen now.
-    pub fn see(&mut self, number: u32) -> bool {
+    pub(super) fn see(&mut self, number: u32) -> bool {
         if number > self.upto {
             self.later.insert(number);
         }
@@ -36,7 +36,7 @@ impl UploadNumbers {
     }
 
     /// Returns the number up to which all were seen.
-    pub fn upto(&self) -> u32 {
+    pub(super) fn upto(&self) -> u32 {
         self.upto
     }
 }

@@ -8,23 +8,23 @@ use std::os::unix::fs::{FileExt, OpenOptionsExt};
 use std::path::Path;
 
 /// The name of the file in the folder.
-pub const FILE_NAME: &str = "registry.commits";
+pub(crate) const FILE_NAME: &str = "registry.commits";
 
 /// What the second number of the file differs by from the first one, so that a torn or a damaged file has no number.
 const CHECK: u64 = 0x636f_6d6d_6974_7321;
 
 /// The open file.
-pub struct Witness(File);
+pub(super) struct Witness(File);
 
 impl Witness {
     /// Opens the file in a folder, or makes it.
-    pub fn open(folder: &Path) -> io::Result<Witness> {
+    pub(super) fn open(folder: &Path) -> io::Result<Witness> {
         let mut options = OpenOptions::new();
         options.read(true).write(true).create(true).mode(0o600).open(folder.join(FILE_NAME)).map(Witness)
     }
 
     /// Returns the number in the file, or 0 if there is none.
-    pub fn read(&self) -> u64 {
+    pub(super) fn read(&self) -> u64 {
         let mut bytes = [0; 16];
         let number = |bytes: &[u8]| <[u8; 8]>::try_from(bytes).map_or(0, u64::from_le_bytes);
         match self.0.read_exact_at(&mut bytes, 0) {
@@ -34,7 +34,7 @@ impl Witness {
     }
 
     /// Writes a number.
-    pub fn write(&self, number: u64) -> io::Result<()> {
+    pub(super) fn write(&self, number: u64) -> io::Result<()> {
         self.0.write_all_at(&[number.to_le_bytes(), (number ^ CHECK).to_le_bytes()].concat(), 0)
     }
 }

@@ -22,7 +22,7 @@ const END_TIME: Duration = Duration::from_secs(8);
 
 /// The reason why a change was not made.
 #[derive(Debug, PartialEq, Eq)]
-pub enum WriteFailure {
+pub(crate) enum WriteFailure {
     /// The database has failed, is closed, or does not reply in time: the change may be there or not after a restart.
     Unavailable,
     /// The disk has no room. Nothing was changed.
@@ -47,7 +47,7 @@ struct State {
 }
 
 /// The changes that wait for the thread.
-pub struct Writer {
+pub(crate) struct Writer {
     state: Mutex<State>,
     ready: Condvar,
     /// Notified after a failure.
@@ -60,16 +60,16 @@ pub struct Writer {
 }
 
 /// The thread, and the database that it has opened.
-pub struct WriterThread(JoinHandle<rusqlite::Result<()>>);
+pub(crate) struct WriterThread(JoinHandle<rusqlite::Result<()>>);
 
 impl Writer {
     /// Makes a writer that counts its transactions. Its thread is not running yet.
-    pub fn new(commits: Commits, limit: Duration, room: Arc<DiskRoom>) -> Arc<Writer> {
+    pub(crate) fn new(commits: Commits, limit: Duration, room: Arc<DiskRoom>) -> Arc<Writer> {
         Arc::new(Writer { state: Mutex::default(), ready: Condvar::new(), failed: Notify::new(), commits, limit, room })
     }
 
     /// Starts the thread. `recorded` has, for each tenant, the number up to which its uploads are recorded.
-    pub fn start(
+    pub(crate) fn start(
         self: &Arc<Writer>,
         database: Database,
         table: Arc<ManifestTable>,
@@ -103,7 +103,7 @@ impl Writer {
 
     /// Makes a change. Returns after it is durable and made in the tables of this process. A change that is late is made
     /// nevertheless. One that fails for room is not made, unless it restores something: that is made when there is room.
-    pub async fn write(&self, change: Change) -> Result<Done, WriteFailure> {
+    pub(crate) async fn write(&self, change: Change) -> Result<Done, WriteFailure> {
         let (reply, made) = oneshot::channel();
         self.add(Waiting { change, reply: Some(reply) });
         let made = tokio::time::timeout(self.limit, made).await.map_err(|_| {
@@ -114,12 +114,12 @@ impl Writer {
     }
 
     /// Makes a change at some later time. It is lost if the program or the machine stops before.
-    pub fn note(&self, change: Change) {
+    pub(crate) fn note(&self, change: Change) {
         self.add(Waiting { change, reply: None });
     }
 
     /// Waits until a change could not be made, and returns why.
-    pub async fn failure(&self) -> String {
+    pub(crate) async fn failure(&self) -> String {
         loop {
             let notified = self.failed.notified();
             if let Some(failure) = self.state().failure.clone() {
@@ -130,7 +130,7 @@ impl Writer {
     }
 
     /// Writes the changes that wait, closes the database and ends the thread. Later changes fail.
-    pub async fn end(&self, thread: WriterThread) -> Result<(), String> {
+    pub(crate) async fn end(&self, thread: WriterThread) -> Result<(), String> {
         self.state().is_closed = true;
         self.ready.notify_one();
         let joined = tokio::task::spawn_blocking(move || thread.0.join());

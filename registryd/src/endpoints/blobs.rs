@@ -20,7 +20,7 @@ fn headers_of<'h>(digest: &'h str, tag: &'h str, len: &'h str) -> [(&'static str
 }
 
 /// end-2: returns the headers of a blob, with its length.
-pub async fn head(call: &Call, digest: &str) -> HandlerResult {
+pub(super) async fn head(call: &Call, digest: &str) -> HandlerResult {
     call.registry.loose.ask(&call.repo, digest)?;
     let size = call.registry.store.stat(&call.repo, digest).await??.to_string();
     check_match(call, Some(digest))?;
@@ -31,7 +31,7 @@ pub async fn head(call: &Call, digest: &str) -> HandlerResult {
 }
 
 /// end-2: returns a blob or a part of it.
-pub async fn get(call: &Call, digest: &str) -> HandlerResult {
+pub(super) async fn get(call: &Call, digest: &str) -> HandlerResult {
     call.registry.loose.ask(&call.repo, digest)?;
     let matched = check_match(call, Some(digest));
     if matched.is_err() || has_content(call, digest) {
@@ -207,7 +207,7 @@ async fn short_body(call: &Call, leased: LeasedBlob, digest: &str, start: u64, e
 }
 
 /// end-10: removes a blob from a repository.
-pub async fn delete(call: &Call, digest: &str) -> HandlerResult {
+pub(super) async fn delete(call: &Call, digest: &str) -> HandlerResult {
     if let Err(fault) = check_match(call, Some(digest)) {
         call.registry.store.stat(&call.repo, digest).await??;
         return Err(fault);

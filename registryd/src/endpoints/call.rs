@@ -17,22 +17,22 @@ use hyper::Method;
 use std::sync::Arc;
 
 /// A request without its content, its repository, and its sender.
-pub struct Call {
-    pub registry: Arc<Registry>,
-    pub head: Parts,
-    pub repo: String,
-    pub caller: Caller,
+pub(crate) struct Call {
+    pub(super) registry: Arc<Registry>,
+    pub(crate) head: Parts,
+    pub(super) repo: String,
+    pub(super) caller: Caller,
 }
 
 impl Call {
     /// Returns the first value of a name in the query.
-    pub fn query(&self, name: &str) -> Option<String> {
+    pub(super) fn query(&self, name: &str) -> Option<String> {
         query_value(self.head.uri.query(), name)
     }
 
     /// Returns the repository from which a blob is mounted, or nothing if it may be any of the tenant. It is the request's own
     /// repository if the sender may not read the other, so that the reply is that for a blob that the other does not have.
-    pub fn mount_source(&self) -> String {
+    pub(super) fn mount_source(&self) -> String {
         let source = self.query("from").unwrap_or_default();
         let may_read = match source.is_empty() {
             true => self.caller.may_in_tenant(Right::Read, tenant_of(&self.repo)),
@@ -45,7 +45,7 @@ impl Call {
     }
 
     /// Returns the result of a call that has a limit. A limit that the call has reached is named in the failure.
-    pub fn check_limit<T>(&self, answer: Result<T, Refusal>, own: Limit) -> Result<T, Fault> {
+    pub(super) fn check_limit<T>(&self, answer: Result<T, Refusal>, own: Limit) -> Result<T, Fault> {
         let repositories = &self.registry.repositories;
         match answer {
             Ok(answer) => Ok(answer),
@@ -57,22 +57,22 @@ impl Call {
     }
 
     /// Returns whether the repository's tenant exists.
-    pub fn has_tenant(&self) -> bool {
+    pub(super) fn has_tenant(&self) -> bool {
         self.registry.store.has_tenant(&self.repo)
     }
 
     /// Fails if the disk of the folder has less free than its minimum.
-    pub fn check_disk(&self) -> Result<(), Fault> {
+    pub(super) fn check_disk(&self) -> Result<(), Fault> {
         self.registry.folder.as_ref().map_or(Ok(()), |folder| folder.room.check_content())
     }
 
     /// Fails if the disk of the folder has no room for a change without content.
-    pub fn check_change(&self) -> Result<(), Fault> {
+    pub(super) fn check_change(&self) -> Result<(), Fault> {
         self.registry.folder.as_ref().map_or(Ok(()), |folder| folder.room.check_change())
     }
 
     /// Begins a call that may create the repository. If no tenant can have it, the store refuses the call.
-    pub async fn enter_repository(&self) -> Result<Option<Entering<'_>>, Fault> {
+    pub(super) async fn enter_repository(&self) -> Result<Option<Entering<'_>>, Fault> {
         let Registry { repositories, store, .. } = &*self.registry;
         if !repositories.are_recorded() || !is_repository(&self.repo) || !store.has_tenant(&self.repo) {
             return Ok(None);
@@ -104,7 +104,7 @@ impl Call {
     }
 
     /// Returns the result of a call that opens an upload and that `enter_repository` began.
-    pub fn check_entered<T>(&self, answer: Result<T, Refusal>, entering: &mut Option<Entering<'_>>) -> Result<T, Fault> {
+    pub(super) fn check_entered<T>(&self, answer: Result<T, Refusal>, entering: &mut Option<Entering<'_>>) -> Result<T, Fault> {
         if answer.is_ok() {
             self.registry.repositories.add(&self.repo);
         }
@@ -122,7 +122,7 @@ impl Call {
     /// - The tenant is unknown.
     /// - The content is charged and exceeds the rest of the tenant's quota.
     /// - The memory for it is not free in time.
-    pub async fn admit(&self, content: &mut RequestContent, is_charged: bool) -> Result<(), Fault> {
+    pub(super) async fn admit(&self, content: &mut RequestContent, is_charged: bool) -> Result<(), Fault> {
         if is_charged {
             uploads::check_len(self, 0, content.len)?;
         }
@@ -136,19 +136,19 @@ impl Call {
     }
 
     /// Returns the tenant and the client that hold the memory of the request.
-    pub fn holder(&self) -> Holder {
+    pub(super) fn holder(&self) -> Holder {
         let exchange = self.head.extensions.get::<Arc<Exchange>>();
         let connection = exchange.map(|exchange| exchange.connection.clone());
         Holder { sharer: self.registry.store.sharer(&self.repo), connection }
     }
 
     /// Reserves memory for the response.
-    pub async fn reserve(&self, bytes: u64) -> Result<Reserved, Fault> {
+    pub(super) async fn reserve(&self, bytes: u64) -> Result<Reserved, Fault> {
         self.registry.memory.reserve(&self.holder(), bytes).await
     }
 
     /// Returns the text of a header.
-    pub fn header(&self, name: &str) -> Option<&str> {
+    pub(super) fn header(&self, name: &str) -> Option<&str> {
         self.head.headers.get(name)?.to_str().ok()
     }
 }

@@ -14,7 +14,7 @@ impl Registry {
     /// A session, a link or a manifest keeps the repository, and a request that needs none of them creates it. So another
     /// request fails because of the removal only if the tenant has the maximum number of repositories by then. If a
     /// failure leaves an empty repository, the next delete in it or the next start removes it.
-    pub async fn remove_if_unused(&self, repo: &str) {
+    pub(super) async fn remove_if_unused(&self, repo: &str) {
         let removing = self.repositories.begin_removal(repo);
         match self.store.remove_repo(repo).await {
             Ok(Ok(())) => {
@@ -28,7 +28,7 @@ impl Registry {
 
     /// Removes a repository that may have become empty by a delete. A thing that the store did not know may have been
     /// deleted before a crash.
-    pub async fn end_delete(&self, repo: &str, deleted: &Answer<()>) {
+    pub(crate) async fn end_delete(&self, repo: &str, deleted: &Answer<()>) {
         let is_gone = match deleted {
             Ok(Ok(())) => true,
             Ok(Err(Refusal { reason, .. })) => {
@@ -42,14 +42,14 @@ impl Registry {
     }
 
     /// Abandons a session, and removes its repository if it is empty then.
-    pub async fn abandon_session(&self, repo: &str, session: u32) -> Answer<()> {
+    pub(crate) async fn abandon_session(&self, repo: &str, session: u32) -> Answer<()> {
         let abandoned = self.store.abandon(repo, session).await;
         self.end_delete(repo, &abandoned).await;
         abandoned
     }
 
     /// Returns the blobs of a manifest that is going to be deleted, if blobs are unlinked after some time.
-    pub async fn blobs_to_loosen(&self, repo: &str, digest: &str) -> Result<Vec<String>, Fault> {
+    pub(super) async fn blobs_to_loosen(&self, repo: &str, digest: &str) -> Result<Vec<String>, Fault> {
         if !self.loose.is_on {
             return Ok(Vec::new());
         }
@@ -64,7 +64,7 @@ impl Registry {
     }
 
     /// Adds the blobs of a manifest that was deleted. One that is being unlinked stays marked.
-    pub fn loosen(&self, repo: &str, blobs: &[String]) {
+    pub(super) fn loosen(&self, repo: &str, blobs: &[String]) {
         blobs.iter().for_each(|digest| self.loose.loosen(repo, digest));
     }
 }

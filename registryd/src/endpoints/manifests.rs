@@ -26,7 +26,7 @@ use std::future::Future;
 const LOOK_UPS: usize = 8;
 
 /// Returns whether a reference is a digest and not a tag.
-pub fn is_digest(reference: &str) -> bool {
+pub(super) fn is_digest(reference: &str) -> bool {
     reference.contains(':')
 }
 
@@ -96,7 +96,7 @@ where
 }
 
 /// end-3: returns a manifest. The response holds memory for its content until it is sent.
-pub async fn get(call: &Call, reference: &str) -> HandlerResult {
+pub(super) async fn get(call: &Call, reference: &str) -> HandlerResult {
     let ask = |named: NamedManifest| async move {
         let reserved = call.reserve(named.size).await?;
         let content = call.registry.store.get_manifest(&call.repo, &named.digest).await?;
@@ -114,7 +114,7 @@ pub async fn get(call: &Call, reference: &str) -> HandlerResult {
 }
 
 /// end-3: returns the headers of a manifest, with its length.
-pub async fn head(call: &Call, reference: &str) -> HandlerResult {
+pub(super) async fn head(call: &Call, reference: &str) -> HandlerResult {
     let ask = |named: NamedManifest| async move { Ok(call.registry.store.stat_manifest(&call.repo, &named.digest).await?) };
     let (NamedManifest { digest, media_type, .. }, size) = read(call, reference, ask).await?;
     check_match(call, Some(&digest))?;
@@ -128,7 +128,7 @@ pub async fn head(call: &Call, reference: &str) -> HandlerResult {
 }
 
 /// end-7: puts a manifest under a tag or by its digest.
-pub async fn put(call: &Call, reference: &str, content: &mut RequestContent) -> HandlerResult {
+pub(super) async fn put(call: &Call, reference: &str, content: &mut RequestContent) -> HandlerResult {
     if !is_digest(reference) && !is_tag(reference) {
         return Err(Fault::manifest_invalid("the reference is neither a tag nor a digest"));
     }
@@ -239,7 +239,7 @@ fn facts_to_store(call: &Call, digest: &str, document: Document, given: MediaTyp
 }
 
 /// end-9: deletes a manifest and its tags, or one tag.
-pub async fn delete(call: &Call, reference: &str) -> HandlerResult {
+pub(super) async fn delete(call: &Call, reference: &str) -> HandlerResult {
     if let Some(digest) = current(call, reference) {
         check_match(call, Some(&digest))?;
     }
@@ -257,7 +257,12 @@ pub async fn delete(call: &Call, reference: &str) -> HandlerResult {
 
 /// Deletes a manifest and its tags. They are hidden from now on, and are shown again if the store does not delete it. Nothing
 /// is deleted if the manifest is to be kept. The repository is removed if it is empty then.
-pub async fn delete_manifest(registry: &Registry, repo: &str, digest: &str, removal: Removal) -> Result<Result<(), Kept>, Fault> {
+pub(crate) async fn delete_manifest(
+    registry: &Registry,
+    repo: &str,
+    digest: &str,
+    removal: Removal,
+) -> Result<Result<(), Kept>, Fault> {
     let Registry { store, manifests, turns, .. } = registry;
     let turn = turns.take(repo, digest).await;
     let blobs = registry.blobs_to_loosen(repo, digest).await?;

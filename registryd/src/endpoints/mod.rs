@@ -1,13 +1,13 @@
 //! The endpoints: which file serves which request, and how.
-pub(crate) mod blobs;
+mod blobs;
 pub(crate) mod call;
-pub(crate) mod catalog;
+mod catalog;
 pub(crate) mod deletes;
 pub(crate) mod manifests;
-pub(crate) mod referrers;
+mod referrers;
 pub(crate) mod registry;
 pub(crate) mod routes;
-pub(crate) mod tags;
-pub(crate) mod transfer;
-pub(crate) mod untagged;
-pub(crate) mod uploads;
+mod tags;
+mod transfer;
+mod untagged;
+mod uploads;

@@ -22,7 +22,7 @@ const PAGE_BYTES: u64 = MAX_MANIFEST as u64 / 2;
 const DESCRIPTOR_LEN: u64 = 1 << 10;
 
 /// end-12: returns a page of the manifests whose subject is a digest, as an image index.
-pub async fn list(call: &Call, subject: &str) -> HandlerResult {
+pub(super) async fn list(call: &Call, subject: &str) -> HandlerResult {
     if !is_repository(&call.repo) {
         return Err(Refusal::of(Reason::NameInvalid).into());
     }

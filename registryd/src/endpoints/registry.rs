@@ -22,46 +22,46 @@ use std::collections::HashMap;
 use std::sync::Arc;
 
 /// The state of the registry.
-pub struct Registry {
-    pub store: Store,
-    pub access: Access,
-    pub uploads: OpenUploads,
-    pub repositories: Repositories,
-    pub manifests: Manifests,
+pub(crate) struct Registry {
+    pub(crate) store: Store,
+    pub(crate) access: Access,
+    pub(crate) uploads: OpenUploads,
+    pub(crate) repositories: Repositories,
+    pub(crate) manifests: Manifests,
     /// The blobs that are to be unlinked after some time.
-    pub loose: LooseBlobs,
+    pub(crate) loose: LooseBlobs,
     /// The folder, if the registry survives restarts.
-    pub folder: Option<Folder>,
+    pub(crate) folder: Option<Folder>,
     /// The reads of the log while clients are served.
-    pub scrub: Option<Arc<Scrub>>,
+    pub(crate) scrub: Option<Arc<Scrub>>,
     /// The writers of a manifest take turns, each for the time of its call to the store. Readers take no turn.
-    pub turns: Turns,
-    pub metrics: Metrics,
+    pub(crate) turns: Turns,
+    pub(crate) metrics: Metrics,
     /// The requests for a sweep.
-    pub sweep_requests: SweepRequests,
+    pub(crate) sweep_requests: SweepRequests,
     /// The sweeps that the page of the administrator shows.
-    pub sweeps: SweepHistory,
-    pub memory: Arc<Memory>,
-    pub metrics_access: MetricsAccess,
-    pub tenants: Vec<String>,
-    pub slots: u32,
+    pub(crate) sweeps: SweepHistory,
+    pub(crate) memory: Arc<Memory>,
+    pub(crate) metrics_access: MetricsAccess,
+    pub(crate) tenants: Vec<String>,
+    pub(crate) slots: u32,
     /// The maximum length of a blob, in bytes.
-    pub max_blob: u64,
+    pub(crate) max_blob: u64,
     /// The bounds on the manifests and tags of each tenant, as far as they are given.
-    pub bounds: Bounds,
+    pub(crate) bounds: Bounds,
     /// The condition on which a client's delete of a manifest is made.
-    pub asked_removal: Removal,
+    pub(crate) asked_removal: Removal,
     /// The bounds of each tenant, with the defaults.
-    pub bounds_by_tenant: HashMap<String, Bounds>,
+    pub(crate) bounds_by_tenant: HashMap<String, Bounds>,
     /// Where the store's program comes from.
-    pub provenance: Provenance,
+    pub(crate) provenance: Provenance,
     /// The time of the start, in seconds since 1970.
-    pub started: u64,
+    pub(crate) started: u64,
 }
 
 /// The rule that decides which requests may read the metrics and the state of all tenants.
 #[derive(Clone, Debug, PartialEq, Eq)]
-pub enum MetricsAccess {
+pub(crate) enum MetricsAccess {
     /// All requests.
     Anybody,
     /// Requests of one user.
@@ -74,7 +74,7 @@ pub enum MetricsAccess {
 
 impl MetricsAccess {
     /// Fails if the sender of a request may not read the metrics.
-    pub fn check(&self, caller: &Caller) -> Result<(), Fault> {
+    pub(super) fn check(&self, caller: &Caller) -> Result<(), Fault> {
         match self {
             MetricsAccess::Anybody => Ok(()),
             MetricsAccess::User(reader) if caller.is_user(reader) => Ok(()),
@@ -85,12 +85,12 @@ impl MetricsAccess {
 
 impl Registry {
     /// Returns the bounds on the manifests and tags of a repository's tenant.
-    pub fn bounds_of(&self, repo: &str) -> Bounds {
+    pub(crate) fn bounds_of(&self, repo: &str) -> Bounds {
         self.bounds_by_tenant.get(tenant_of(repo)).copied().unwrap_or(self.bounds)
     }
 
     /// Returns whether the disk of the folder has room for changes without content.
-    pub fn has_room(&self) -> bool {
+    pub(crate) fn has_room(&self) -> bool {
         self.folder.as_ref().map_or(true, |folder| folder.room.make())
     }
 }

@@ -50,7 +50,7 @@ fn adds_content(method: &Method, target: &Target<'_>, is_mount: bool) -> bool {
 
 impl Registry {
     /// Serves a request in a task of its own, so that a client that disconnects interrupts no call to the store.
-    pub async fn serve(self: Arc<Self>, request: Request<Body>) -> Response<Body> {
+    pub(crate) async fn serve(self: Arc<Self>, request: Request<Body>) -> Response<Body> {
         let begun = Instant::now();
         let method = request.method().clone();
         let metrics = self.metrics.clone();
@@ -150,7 +150,7 @@ impl Registry {
     }
 
     /// Serves a request on the metrics address.
-    pub async fn serve_metrics(self: Arc<Self>, request: Request<Body>) -> Response<Body> {
+    pub(crate) async fn serve_metrics(self: Arc<Self>, request: Request<Body>) -> Response<Body> {
         let answered = tokio::spawn(async move {
             let (method, path) = (request.method(), request.uri().path());
             match View::of(path) {

@@ -7,7 +7,7 @@ use hyper::StatusCode;
 use serde_json::json;
 
 /// end-8: returns a page of the tags.
-pub async fn list(call: &Call) -> HandlerResult {
+pub(super) async fn list(call: &Call) -> HandlerResult {
     let wanted = WantedPage::of(call.head.uri.query())?;
     let page = call.registry.manifests.page(&call.repo, &wanted.last, wanted.most);
     let unknown = || Fault::new(StatusCode::NOT_FOUND, "NAME_UNKNOWN", "the repository has no manifests");

@@ -13,14 +13,14 @@ use std::time::Duration;
 use tokio::task::JoinHandle;
 
 /// The maximum number of bytes that one read returns.
-pub const PIECE_LEN: u64 = WHOLE_LEN as u64;
+pub(super) const PIECE_LEN: u64 = WHOLE_LEN as u64;
 
 /// The number of pieces that are read at once, each on its own connection to the store. One is taken out of its pipe while
 /// the next is written into another.
 const READS_AT_ONCE: usize = 2;
 
 /// The number of bytes that a transfer holds if its tenant holds much.
-pub const LEAST_HELD: u64 = 128 << 10;
+pub(super) const LEAST_HELD: u64 = 128 << 10;
 
 /// The length of the pieces of such a transfer. It reads one at a time. The pieces that are read, wait and are sent, together
 /// with the server's buffer of 64 KiB, are within `LEAST_HELD`.
@@ -31,7 +31,7 @@ const IDLE_TIME: Duration = Duration::from_secs(300);
 
 /// A part of a response's content.
 #[derive(Debug, PartialEq, Eq)]
-pub enum Span {
+pub(super) enum Span {
     Text(Bytes),
     /// The bytes of the blob from one offset to another exclusive.
     Content(u64, u64),
@@ -39,7 +39,7 @@ pub enum Span {
 
 impl Span {
     /// Returns the number of bytes.
-    pub fn len(&self) -> u64 {
+    pub(super) fn len(&self) -> u64 {
         match self {
             Span::Text(text) => text.len() as u64,
             Span::Content(start, end) => end - start,
@@ -48,7 +48,7 @@ impl Span {
 }
 
 /// How much of a blob a transfer reads ahead of its client.
-pub struct Pace {
+pub(super) struct Pace {
     /// The maximum length of a piece.
     piece_len: u64,
     /// The number of pieces that are read at once.
@@ -57,7 +57,7 @@ pub struct Pace {
 
 impl Pace {
     /// Returns the pace of a transfer that holds memory for long pieces, or only `LEAST_HELD` bytes.
-    pub fn of(has_most: bool) -> Pace {
+    pub(super) fn of(has_most: bool) -> Pace {
         match has_most {
             true => Pace { piece_len: PIECE_LEN, reads_at_once: READS_AT_ONCE },
             false => Pace { piece_len: SHORT_PIECE_LEN, reads_at_once: 1 },
@@ -73,7 +73,7 @@ enum Piece {
 }
 
 /// The transfer of a leased blob to a client.
-pub struct Transfer {
+pub(super) struct Transfer {
     registry: Arc<Registry>,
     leased: LeasedBlob,
     digest: String,
@@ -101,7 +101,7 @@ impl From<StoreUnavailable> for TransferError {
 impl Transfer {
     /// Begins a transfer, and returns the body that it fills. The lease is released after the last read, or if the client
     /// disconnects.
-    pub fn begin(registry: &Arc<Registry>, leased: LeasedBlob, digest: &str, spans: VecDeque<Span>, pace: Pace) -> Body {
+    pub(super) fn begin(registry: &Arc<Registry>, leased: LeasedBlob, digest: &str, spans: VecDeque<Span>, pace: Pace) -> Body {
         let (sender, body) = Body::channel();
         let (registry, digest, pieces) = (registry.clone(), digest.to_string(), VecDeque::new());
         tokio::spawn(Transfer { registry, leased, digest, spans, pace, pieces }.send(sender));

@@ -21,7 +21,7 @@ fn description(untagged: &Untagged) -> Value {
 }
 
 /// Returns a page of the manifests without a tag, of all repositories.
-pub fn list(registry: &Registry, query: Option<&str>) -> HandlerResult {
+pub(super) fn list(registry: &Registry, query: Option<&str>) -> HandlerResult {
     let wanted = WantedPage::of(query)?;
     let (last_repo, last_digest) = wanted.last.split_once('@').unwrap_or((&wanted.last, ""));
     let names = registry.manifests.names();

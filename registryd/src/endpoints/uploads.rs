@@ -20,7 +20,7 @@ use tokio::time::timeout;
 use uuid::Uuid;
 
 /// end-4, end-11: opens an upload, stores a blob in one request, or mounts one.
-pub async fn open(call: &Call, content: &mut RequestContent) -> HandlerResult {
+pub(super) async fn open(call: &Call, content: &mut RequestContent) -> HandlerResult {
     let store = &call.registry.store;
     if let Some(digest) = call.query("mount") {
         return mount(call, &digest).await;
@@ -67,14 +67,14 @@ async fn mount(call: &Call, digest: &str) -> HandlerResult {
 }
 
 /// end-13: returns the number of bytes of an upload that were received.
-pub async fn status(call: &Call, name: &str) -> HandlerResult {
+pub(super) async fn status(call: &Call, name: &str) -> HandlerResult {
     let upload = find(call, name)?;
     let received = call.registry.store.status(&call.repo, upload.session).await??;
     progress_response(call, StatusCode::NO_CONTENT, &upload.name, received)
 }
 
 /// end-5: appends a chunk.
-pub async fn append(call: &Call, name: &str, content: &mut RequestContent) -> HandlerResult {
+pub(super) async fn append(call: &Call, name: &str, content: &mut RequestContent) -> HandlerResult {
     let mut adding = find(call, name)?.add();
     let place = place(call, &adding, content).await?;
     let (start, rest) = take_all_but_last(call, &mut adding, place, content).await?;
@@ -89,7 +89,7 @@ pub async fn append(call: &Call, name: &str, content: &mut RequestContent) -> Ha
 
 /// end-6: appends the last chunk, if any, and makes the upload a blob. If this fails, the upload remains, with the bytes
 /// that were appended.
-pub async fn close(call: &Call, name: &str, content: &mut RequestContent) -> HandlerResult {
+pub(super) async fn close(call: &Call, name: &str, content: &mut RequestContent) -> HandlerResult {
     let mut adding = find(call, name)?.add();
     let digest =
         call.query("digest").ok_or_else(|| Fault::new(StatusCode::BAD_REQUEST, "DIGEST_INVALID", "the query names no digest"))?;
@@ -100,7 +100,7 @@ pub async fn close(call: &Call, name: &str, content: &mut RequestContent) -> Han
 }
 
 /// end-14: abandons an upload.
-pub async fn abandon(call: &Call, name: &str) -> HandlerResult {
+pub(super) async fn abandon(call: &Call, name: &str) -> HandlerResult {
     let upload = find(call, name)?;
     call.registry.abandon_session(&call.repo, upload.session).await??;
     call.registry.uploads.remove(&upload.name);
@@ -185,7 +185,7 @@ async fn place(call: &Call, adding: &AppendingRequest<'_>, content: &RequestCont
 }
 
 /// Fails if a chunk of `len` bytes at `start` would make the blob too long.
-pub fn check_len(call: &Call, start: u64, len: Option<u64>) -> Result<(), Fault> {
+pub(super) fn check_len(call: &Call, start: u64, len: Option<u64>) -> Result<(), Fault> {
     let most = call.registry.max_blob;
     match start.checked_add(len.unwrap_or(0)) {
         Some(end) if end <= most => Ok(()),

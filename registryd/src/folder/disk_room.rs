@@ -41,7 +41,7 @@ const NEW_BASE: &str = "base.new";
 
 /// What the disk has room for.
 #[derive(Clone, Copy, Debug, PartialEq, Eq)]
-pub enum Level {
+pub(crate) enum Level {
     /// All requests.
     All,
     /// All but content.
@@ -52,7 +52,7 @@ pub enum Level {
 
 impl Level {
     /// Returns what is served, for the state of the registry.
-    pub fn name(self) -> &'static str {
+    pub(crate) fn name(self) -> &'static str {
         match self {
             Level::All => "everything",
             Level::Deletes => "reads and deletes",
@@ -62,7 +62,7 @@ impl Level {
 }
 
 /// The room on the disk of a folder.
-pub struct DiskRoom {
+pub(crate) struct DiskRoom {
     path: PathBuf,
     min_free: u64,
     /// The length of a whole reserve, in bytes.
@@ -99,7 +99,7 @@ fn allocate(path: &Path, bytes: u64) -> io::Result<()> {
 
 impl DiskRoom {
     /// Makes the room of a folder on whose disk `min_free` bytes stay free of content, and whose reserve has `reserve` bytes.
-    pub fn new(path: PathBuf, min_free: u64, reserve: u64) -> DiskRoom {
+    pub(crate) fn new(path: PathBuf, min_free: u64, reserve: u64) -> DiskRoom {
         DiskRoom {
             path,
             min_free,
@@ -111,7 +111,7 @@ impl DiskRoom {
     }
 
     /// Returns the number of bytes that stay free of content.
-    pub fn min_free(&self) -> u64 {
+    pub(crate) fn min_free(&self) -> u64 {
         self.min_free
     }
 
@@ -121,7 +121,7 @@ impl DiskRoom {
     }
 
     /// Returns the number of free bytes. Returns `None` if the system has no answer.
-    pub fn free(&self) -> Option<u64> {
+    pub(crate) fn free(&self) -> Option<u64> {
         let mut last = guard_of(self.last.lock());
         match *last {
             Some((time, free)) if time.elapsed() < LOOK && free >= self.floor().saturating_add(MUCH) => return Some(free),
@@ -143,13 +143,13 @@ impl DiskRoom {
     }
 
     /// Returns the number of bytes that the reserve takes on the disk.
-    pub fn reserved(&self) -> u64 {
+    pub(crate) fn reserved(&self) -> u64 {
         // A copy of the file may have a length and take nothing.
         std::fs::metadata(self.path.join(RESERVE)).map_or(0, |data| data.len().min(data.blocks() * 512))
     }
 
     /// Returns what the disk has room for.
-    pub fn level(&self) -> Level {
+    pub(crate) fn level(&self) -> Level {
         let free = self.free().unwrap_or(u64::MAX);
         match free {
             _ if free >= self.floor() => Level::All,
@@ -159,7 +159,7 @@ impl DiskRoom {
     }
 
     /// Fails if the disk has no room for content.
-    pub fn check_content(&self) -> Result<(), Fault> {
+    pub(crate) fn check_content(&self) -> Result<(), Fault> {
         let free = self.free().unwrap_or(u64::MAX);
         match free >= self.floor() && self.hold(LEAST) {
             true => Ok(()),
@@ -168,7 +168,7 @@ impl DiskRoom {
     }
 
     /// Fails if the disk has no room for a change without content.
-    pub fn check_change(&self) -> Result<(), Fault> {
+    pub(crate) fn check_change(&self) -> Result<(), Fault> {
         match self.make() {
             true => Ok(()),
             false => Err(Fault::no_room()),
@@ -176,12 +176,12 @@ impl DiskRoom {
     }
 
     /// Returns whether the disk has room for a change without content. Nothing is given up for it.
-    pub fn is_there(&self) -> bool {
+    pub(crate) fn is_there(&self) -> bool {
         self.has(LEAST) && self.hold(HELD)
     }
 
     /// Gives up a part of the reserve if the disk has no room for a change without content. Returns whether it has room then.
-    pub fn make(&self) -> bool {
+    pub(crate) fn make(&self) -> bool {
         self.is_there() || {
             self.give_up(GIVEN);
             self.is_there()
@@ -262,7 +262,7 @@ impl DiskRoom {
     }
 
     /// Gives up the reserve if a rewriting of a log of `log_bytes` may need it, and writes for the store how much it may take.
-    pub fn prepare_rewriting(&self, log_bytes: u64) {
+    pub(super) fn prepare_rewriting(&self, log_bytes: u64) {
         let wanted = self.floor().saturating_add(log_bytes);
         if !self.has(wanted) {
             self.give_up(wanted);
@@ -272,7 +272,7 @@ impl DiskRoom {
 
     /// Makes the reserve if there is room, writes for the store how much a rewriting may take, and logs if the disk has room for more or
     /// for less than at the last call.
-    pub fn tend(&self) {
+    pub(crate) fn tend(&self) {
         let mut shown = guard_of(self.shown.lock());
         self.keep_reserve();
         self.show_rewritable(&mut shown.1);
@@ -290,7 +290,7 @@ impl DiskRoom {
     }
 
     /// Removes what is written for the store, which has ended.
-    pub fn end(&self) {
+    pub(crate) fn end(&self) {
         let _ = std::fs::remove_file(self.path.join(REWRITABLE));
     }
 }

@@ -7,10 +7,10 @@ use std::path::{Path, PathBuf};
 use std::sync::Arc;
 
 /// The folder.
-pub struct Folder {
+pub(crate) struct Folder {
     path: PathBuf,
     /// The room on its disk.
-    pub room: Arc<DiskRoom>,
+    pub(crate) room: Arc<DiskRoom>,
 }
 
 /// The file by which the store is asked to rewrite its log.
@@ -20,12 +20,12 @@ const REWRITE: &str = "rewrite";
 const ACCEPT_LOSS: &str = "accept-loss";
 
 /// Lets the next start of the store go on with what is left of a damaged log. It removes the file.
-pub fn accept_damage(path: &Path) -> io::Result<()> {
+pub(crate) fn accept_damage(path: &Path) -> io::Result<()> {
     std::fs::File::create(path.join(ACCEPT_LOSS)).map(drop)
 }
 
 /// Removes the file that a start has left whose store did not start.
-pub fn forget_acceptance(path: &Path) -> io::Result<()> {
+pub(crate) fn forget_acceptance(path: &Path) -> io::Result<()> {
     match std::fs::remove_file(path.join(ACCEPT_LOSS)) {
         Err(error) if error.kind() != io::ErrorKind::NotFound => Err(error),
         _ => Ok(()),
@@ -33,39 +33,39 @@ pub fn forget_acceptance(path: &Path) -> io::Result<()> {
 }
 
 /// Returns the length of the store's log in a folder, in bytes, or `None` if there is no log.
-pub fn log_length(path: &Path) -> Option<u64> {
+pub(crate) fn log_length(path: &Path) -> Option<u64> {
     let files = std::fs::read_dir(path).ok()?.flatten();
     let lengths = files.filter(|file| file.file_name().to_str().map_or(false, is_of_log));
     lengths.map(|file| file.metadata().map_or(0, |data| data.len())).reduce(|sum, length| sum + length)
 }
 
 impl Folder {
-    pub fn new(path: PathBuf, room: Arc<DiskRoom>) -> Folder {
+    pub(crate) fn new(path: PathBuf, room: Arc<DiskRoom>) -> Folder {
         Folder { path, room }
     }
 
-    pub fn path(&self) -> &Path {
+    pub(crate) fn path(&self) -> &Path {
         &self.path
     }
 
     /// Returns the length of the log, in bytes.
-    pub fn log_bytes(&self) -> u64 {
+    pub(crate) fn log_bytes(&self) -> u64 {
         log_length(&self.path).unwrap_or(0)
     }
 
     /// Asks the store to rewrite its log. It looks for the request once a second.
-    pub fn ask_for_rewriting(&self) -> io::Result<()> {
+    pub(crate) fn ask_for_rewriting(&self) -> io::Result<()> {
         self.room.prepare_rewriting(self.log_bytes());
         std::fs::File::create(self.path.join(REWRITE)).map(drop)
     }
 
     /// Returns whether the store has not yet seen the request.
-    pub fn is_rewriting_asked(&self) -> bool {
+    pub(crate) fn is_rewriting_asked(&self) -> bool {
         self.path.join(REWRITE).exists()
     }
 
     /// Returns the length of the database, in bytes, with the transactions that are not yet in its file.
-    pub fn database_bytes(&self) -> u64 {
+    pub(crate) fn database_bytes(&self) -> u64 {
         self.bytes(FILE_NAME) + self.bytes(&format!("{FILE_NAME}-wal"))
     }
 

@@ -17,9 +17,9 @@ const BASIS: u64 = 14_695_981_039_346_656_037;
 
 /// What is wrong with a file, and the byte at which the frame begins that has it.
 #[derive(Clone, Debug, PartialEq, Eq)]
-pub struct Damage {
-    pub byte: u64,
-    pub what: String,
+pub(super) struct Damage {
+    pub(super) byte: u64,
+    pub(super) what: String,
 }
 
 impl fmt::Display for Damage {
@@ -132,7 +132,7 @@ impl<R: Read> Check<R> {
 /// # Errors
 ///
 /// Fails with the first damage.
-pub fn check(input: impl Read) -> Result<u64, Damage> {
+pub(super) fn check(input: impl Read) -> Result<u64, Damage> {
     let mut check = Check { input, id: 0, place: 0, sum: 0, is_marked: false };
     check.read_header()?;
     let mut buffer = vec![0; PIECE];

@@ -14,7 +14,7 @@ const TRANSACTION: u64 = 256 << 10;
 
 /// The number and the path of the last file of the log after whose end room is held.
 #[derive(Default)]
-pub struct HeldRoom(Mutex<Option<(u64, PathBuf)>>);
+pub(super) struct HeldRoom(Mutex<Option<(u64, PathBuf)>>);
 
 /// Opens a file to change it. Returns its length too.
 fn open(path: &Path) -> io::Result<(File, u64)> {
@@ -43,7 +43,7 @@ fn release(path: &Path) -> io::Result<()> {
 impl HeldRoom {
     /// Holds this number of bytes for the log in a folder, and some for the database. Returns whether the disk has the room. A file
     /// system that cannot hold room has it.
-    pub fn hold(&self, folder: &Path, bytes: u64) -> bool {
+    pub(super) fn hold(&self, folder: &Path, bytes: u64) -> bool {
         let mut held = guard_of(self.0.lock());
         if let Some(last) = last_file(folder) {
             // A look may miss the last name while others are made. Only a file with a later one does not grow.

@@ -18,25 +18,25 @@ const WHOLE: u64 = u64::MAX;
 
 /// The end of a log. Ends of one log are in the order of their files and lengths.
 #[derive(Clone, Copy, Debug, PartialEq, Eq)]
-pub struct LogEnd {
+pub(crate) struct LogEnd {
     /// The id of the log's file with the number 0, if there were one. It is the same for all files of a log.
-    pub log: u64,
+    pub(crate) log: u64,
     /// The number of the last file.
-    pub file: u64,
+    pub(crate) file: u64,
     /// The length of the last file, in bytes.
-    pub length: u64,
+    pub(crate) length: u64,
 }
 
 /// The last file of a log in a folder.
-pub struct LastFile {
-    pub path: PathBuf,
-    pub number: u64,
+pub(crate) struct LastFile {
+    pub(super) path: PathBuf,
+    pub(super) number: u64,
     length: u64,
 }
 
 /// Returns the number in the name of a file of the log after this start of the name. A file `log` of an earlier version becomes
 /// `log.1`.
-pub fn number_of(name: &str, kind: &str) -> Option<u64> {
+pub(super) fn number_of(name: &str, kind: &str) -> Option<u64> {
     let number = name.strip_prefix(kind)?;
     match number {
         "" if kind == "log" => Some(1),
@@ -45,13 +45,13 @@ pub fn number_of(name: &str, kind: &str) -> Option<u64> {
 }
 
 /// Returns whether a file with this name is part of the store's log.
-pub fn is_of_log(name: &str) -> bool {
+pub(super) fn is_of_log(name: &str) -> bool {
     number_of(name, "log").or_else(|| number_of(name, "base")).is_some()
 }
 
 /// Returns the last file of the log in a folder, or `None` if no regular file is part of one. A segment with the number of a base
 /// was replaced by it.
-pub fn last_file(folder: &Path) -> Option<LastFile> {
+pub(crate) fn last_file(folder: &Path) -> Option<LastFile> {
     let mut last: Option<(u64, bool, PathBuf, u64)> = None;
     for file in std::fs::read_dir(folder).ok()?.flatten() {
         let name = file.file_name();
@@ -82,7 +82,7 @@ fn id_of(path: &Path) -> Option<u64> {
 
 impl LogEnd {
     /// Returns the end of the log in a folder, or `None` if there is no log, or no header in its last file.
-    pub fn of(folder: &Path) -> Option<LogEnd> {
+    pub(crate) fn of(folder: &Path) -> Option<LogEnd> {
         let LastFile { path, number, length } = last_file(folder)?;
         Some(LogEnd { log: id_of(&path)?.wrapping_sub(number), file: number, length })
     }
@@ -92,7 +92,7 @@ impl LogEnd {
     /// # Errors
     ///
     /// Fails if it cannot be synced.
-    pub fn synced(folder: &Path) -> io::Result<Option<LogEnd>> {
+    pub(crate) fn synced(folder: &Path) -> io::Result<Option<LogEnd>> {
         let end = LogEnd::of(folder);
         if let Some(last) = end.and_then(|_| last_file(folder)) {
             File::open(&last.path)?.sync_data()?;
@@ -102,20 +102,20 @@ impl LogEnd {
     }
 
     /// Returns whether the last file is a base, which has all of the segment with its number.
-    pub fn is_whole(&self) -> bool {
+    pub(crate) fn is_whole(&self) -> bool {
         self.length == WHOLE
     }
 
     /// Returns whether this end comes before another one of the same log.
-    pub fn is_before(&self, other: &LogEnd) -> bool {
+    pub(crate) fn is_before(&self, other: &LogEnd) -> bool {
         (self.file, self.length) < (other.file, other.length)
     }
 
-    pub fn to_bytes(self) -> Vec<u8> {
+    pub(crate) fn to_bytes(self) -> Vec<u8> {
         [self.log, self.file, self.length].iter().flat_map(|number| number.to_le_bytes()).collect()
     }
 
-    pub fn from_bytes(bytes: &[u8]) -> Option<LogEnd> {
+    pub(crate) fn from_bytes(bytes: &[u8]) -> Option<LogEnd> {
         let bytes = <&[u8; ENCODED]>::try_from(bytes).ok()?;
         let number = |place: usize| <[u8; 8]>::try_from(&bytes[place..place + 8]).ok().map(u64::from_le_bytes);
         Some(LogEnd { log: number(0)?, file: number(8)?, length: number(16)? })

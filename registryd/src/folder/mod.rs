@@ -1,8 +1,8 @@
 //! The folder of `--data`: its files, the room on its disk, and the looks at them while clients are served.
 pub(crate) mod disk_room;
 pub(crate) mod files;
-pub(crate) mod frame_check;
-pub(crate) mod held_room;
+mod frame_check;
+mod held_room;
 pub(crate) mod log_end;
 pub(crate) mod page_cache;
 pub(crate) mod scrub;

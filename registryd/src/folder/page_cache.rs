@@ -23,7 +23,7 @@ fn drop_clean_pages(file: &File) -> io::Result<()> {
 }
 
 /// Drops the cached pages of a file that are on the disk, if the system can.
-pub fn forget(file: &File) {
+pub(super) fn forget(file: &File) {
     let _ = drop_clean_pages(file);
 }
 
@@ -40,7 +40,7 @@ fn drop_pages_of(path: &Path) -> io::Result<()> {
 /// # Errors
 ///
 /// Fails with the path of the first file that cannot be synced.
-pub fn drop_pages(folder: &Path) -> Result<(), (PathBuf, io::Error)> {
+pub(crate) fn drop_pages(folder: &Path) -> Result<(), (PathBuf, io::Error)> {
     let in_folder = |error| (folder.to_path_buf(), error);
     for file in std::fs::read_dir(folder).map_err(in_folder)? {
         let path = file.map_err(in_folder)?.path();

@@ -18,7 +18,7 @@ use std::time::{Duration, Instant};
 const REST: Duration = Duration::from_secs(10);
 
 /// The pace if the option is missing, in MiB a second.
-pub const DEFAULT_PACE: u64 = 4;
+pub(crate) const DEFAULT_PACE: u64 = 4;
 
 /// Damage of a file, with the file's name and the time at which it was found, in seconds since 1970.
 #[derive(Clone, Debug, PartialEq, Eq)]
@@ -37,7 +37,7 @@ struct State {
 }
 
 /// Reads the closed files of a log round after round.
-pub struct Scrub {
+pub(crate) struct Scrub {
     folder: PathBuf,
     mib_s: u64,
     state: Mutex<State>,
@@ -75,7 +75,7 @@ fn closed_files(names: &[String]) -> Vec<String> {
 
 impl Scrub {
     /// Makes a scrub of the log in a folder, and adds its metrics.
-    pub fn new(folder: PathBuf, mib_s: u64, metrics: &Metrics) -> Arc<Scrub> {
+    pub(crate) fn new(folder: PathBuf, mib_s: u64, metrics: &Metrics) -> Arc<Scrub> {
         let help = "Closed files of the log in which damage was found.";
         let damaged = IntGauge::new("registryd_log_damaged_files", help).expect("a gauge's name");
         let help = "Times that all closed files of the log were read again.";
@@ -86,7 +86,7 @@ impl Scrub {
     }
 
     /// Starts to read in a thread, which ends with the program.
-    pub fn start(self: &Arc<Scrub>) -> io::Result<()> {
+    pub(crate) fn start(self: &Arc<Scrub>) -> io::Result<()> {
         let scrub = self.clone();
         std::thread::Builder::new().name("scrub".to_string()).spawn(move || loop {
             std::thread::sleep(REST);
@@ -157,7 +157,7 @@ impl Scrub {
     }
 
     /// Returns the state for `/status`.
-    pub fn json(&self) -> Value {
+    pub(crate) fn json(&self) -> Value {
         let state = guard_of(self.state.lock());
         let shown = |one: &Found| json!({ "file": one.file, "byte": one.damage.byte, "what": one.damage.what, "time": one.time });
         let damage: Vec<Value> = state.found.iter().map(shown).collect();

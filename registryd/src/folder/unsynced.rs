@@ -9,18 +9,18 @@ use std::path::Path;
 const FILE_NAME: &str = "registry.unsynced";
 
 /// Returns whether a folder is marked, so that a crash may have lost anything of it.
-pub fn is_marked(folder: &Path) -> bool {
+pub(crate) fn is_marked(folder: &Path) -> bool {
     folder.join(FILE_NAME).exists()
 }
 
 /// Marks a folder. The mark is on the disk when this returns.
-pub fn mark(folder: &Path) -> io::Result<()> {
+pub(crate) fn mark(folder: &Path) -> io::Result<()> {
     OpenOptions::new().write(true).create(true).mode(0o600).open(folder.join(FILE_NAME))?.sync_all()?;
     File::open(folder)?.sync_all()
 }
 
 /// Removes the mark of a folder, if it has one. It is gone from the disk when this returns.
-pub fn clear(folder: &Path) -> io::Result<()> {
+pub(crate) fn clear(folder: &Path) -> io::Result<()> {
     if !is_marked(folder) {
         return Ok(());
     }

@@ -24,7 +24,7 @@ const MOST_LOOKS: u32 = 60;
 const SECOND_LOOK: Duration = Duration::from_millis(100);
 
 /// The name of the file that the store locks.
-pub const LOCK: &str = "lock";
+pub(crate) const LOCK: &str = "lock";
 
 /// A file that the programs have open: its device and number.
 type Identity = (u64, u64);
@@ -77,7 +77,7 @@ fn last_of(folder: &Path) -> Option<(u64, PathBuf, Identity)> {
 }
 
 /// The looks at a folder.
-pub struct Watcher {
+pub(crate) struct Watcher {
     folder: PathBuf,
     /// The room on its disk.
     room: Arc<DiskRoom>,
@@ -93,13 +93,13 @@ pub struct Watcher {
 
 impl Watcher {
     /// Makes a watch of a folder whose programs have started. With a writer it records the end of the log.
-    pub fn new(folder: PathBuf, room: Arc<DiskRoom>, writer: Option<Arc<Writer>>) -> Watcher {
+    pub(crate) fn new(folder: PathBuf, room: Arc<DiskRoom>, writer: Option<Arc<Writer>>) -> Watcher {
         let files = Files::of(&folder);
         Watcher { folder, room, writer, files, seen: None, kept: None, looks: 0 }
     }
 
     /// Looks at the folder until something is wrong, and returns what.
-    pub async fn run(mut self) -> Failure {
+    pub(crate) async fn run(mut self) -> Failure {
         loop {
             tokio::time::sleep(REST).await;
             let looked = blocking(move || {
@@ -150,6 +150,6 @@ fn keep_end(folder: &Path, writer: &Writer) -> Result<Option<LogEnd>, Failure> {
 }
 
 /// Records the end of the log when no request changes it any more.
-pub async fn keep_last_end(folder: PathBuf, writer: Arc<Writer>) -> Result<(), Failure> {
+pub(crate) async fn keep_last_end(folder: PathBuf, writer: Arc<Writer>) -> Result<(), Failure> {
     blocking(move || keep_end(&folder, &writer).map(|_| ())).await
 }

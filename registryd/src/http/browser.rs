@@ -8,7 +8,7 @@ const POLICY: &str = "default-src 'none'; sandbox";
 
 /// Adds the headers by which a browser takes a response as its type alone, and runs nothing that is in it. The page has a policy of
 /// its own, which stays.
-pub fn restrict(mut response: Response<Body>) -> Response<Body> {
+pub(crate) fn restrict(mut response: Response<Body>) -> Response<Body> {
     let headers = response.headers_mut();
     headers.insert(X_CONTENT_TYPE_OPTIONS, HeaderValue::from_static("nosniff"));
     headers.entry(CONTENT_SECURITY_POLICY).or_insert(HeaderValue::from_static(POLICY));

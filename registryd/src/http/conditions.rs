@@ -6,17 +6,17 @@ use hyper::header::{HeaderMap, IF_MATCH, IF_NONE_MATCH, IF_RANGE};
 use hyper::StatusCode;
 
 /// Returns the strong entity tag of the content with a digest (RFC 9110, 8.8.3).
-pub fn entity_tag(digest: &str) -> String {
+pub(crate) fn entity_tag(digest: &str) -> String {
     format!("\"{digest}\"")
 }
 
 /// Returns whether the client already has the content, by its header `If-None-Match`.
-pub fn has_content(call: &Call, digest: &str) -> bool {
+pub(crate) fn has_content(call: &Call, digest: &str) -> bool {
     is_listed(&call.head.headers, digest)
 }
 
 /// Returns the response to a client that already has the content.
-pub fn not_modified(digest: &str) -> HandlerResult {
+pub(crate) fn not_modified(digest: &str) -> HandlerResult {
     empty(StatusCode::NOT_MODIFIED, &[("ETag", &entity_tag(digest)), ("Docker-Content-Digest", digest)])
 }
 
@@ -26,7 +26,7 @@ pub fn not_modified(digest: &str) -> HandlerResult {
 /// # Errors
 ///
 /// Fails if the header names other content only.
-pub fn check_match(call: &Call, digest: Option<&str>) -> Result<(), Fault> {
+pub(crate) fn check_match(call: &Call, digest: Option<&str>) -> Result<(), Fault> {
     match is_matched(&call.head.headers, digest) {
         true => Ok(()),
         false => Err(Fault::new(StatusCode::PRECONDITION_FAILED, "DENIED", "the content is not that of If-Match")),
@@ -41,7 +41,7 @@ fn is_matched(headers: &HeaderMap, digest: Option<&str>) -> bool {
 }
 
 /// Returns whether a header `Range` applies: it does unless `If-Range` names other content (RFC 9110, 13.1.5).
-pub fn is_range_wanted(call: &Call, digest: &str) -> bool {
+pub(crate) fn is_range_wanted(call: &Call, digest: &str) -> bool {
     call.head.headers.get(IF_RANGE).map_or(true, |tag| tag.as_bytes() == entity_tag(digest).as_bytes())
 }
 

@@ -23,13 +23,13 @@ const PACE_TIME: Duration = Duration::from_secs(5);
 
 /// The bounds on connections.
 #[derive(Clone, Copy, Debug)]
-pub struct Limits {
+pub(crate) struct Limits {
     /// The number of connections at once.
-    pub most: usize,
+    pub(crate) most: usize,
     /// The time for a request's head, from its first byte.
-    pub head: Duration,
+    pub(crate) head: Duration,
     /// The time without a byte: between requests, within a body, and while a client takes no bytes of a response.
-    pub idle: Duration,
+    pub(crate) idle: Duration,
 }
 
 /// The event that a connection waits for.
@@ -84,18 +84,18 @@ impl Pace {
 
 /// A connection of a client.
 #[derive(Debug)]
-pub struct Connection {
+pub(crate) struct Connection {
     /// The client's address.
-    pub client: SocketAddr,
+    pub(crate) client: SocketAddr,
     /// The time without a byte.
-    pub idle: Duration,
+    pub(super) idle: Duration,
     state: Mutex<State>,
     closing: Notify,
 }
 
 impl Connection {
     /// Makes the state of a connection on which nothing was received.
-    pub fn new(client: SocketAddr, idle: Duration) -> Connection {
+    pub(super) fn new(client: SocketAddr, idle: Duration) -> Connection {
         let since = Instant::now();
         let state = State {
             requests: 0,
@@ -115,7 +115,7 @@ impl Connection {
     }
 
     /// Notes that a request's head was read. Returns whether it may have a length, by its bytes.
-    pub fn begin_request(&self) -> bool {
+    pub(super) fn begin_request(&self) -> bool {
         let mut state = self.state();
         state.requests += 1;
         state.has_head = false;
@@ -124,27 +124,27 @@ impl Connection {
     }
 
     /// Notes whether bytes of a request's head have a length.
-    pub fn note_head(&self, has_length: bool) {
+    pub(super) fn note_head(&self, has_length: bool) {
         let mut state = self.state();
         state.has_length = Some(has_length || state.has_length == Some(true));
     }
 
     /// Notes that a response was sent.
-    pub fn end_request(&self) {
+    pub(super) fn end_request(&self) {
         let mut state = self.state();
         state.requests -= 1;
         state.since = Instant::now();
     }
 
     /// Notes that no byte of a request's head was received yet, also if bytes of a handshake were.
-    pub fn rest(&self) {
+    pub(super) fn rest(&self) {
         let mut state = self.state();
         state.has_head = false;
         state.since = Instant::now();
     }
 
     /// Notes whether a request waits for more of its body.
-    pub fn await_body(&self, is_awaited: bool) {
+    pub(super) fn await_body(&self, is_awaited: bool) {
         let mut state = self.state();
         let now = Instant::now();
         state.awaited = is_awaited.then(|| now);
@@ -154,7 +154,7 @@ impl Connection {
     }
 
     /// Notes that `count` bytes were received.
-    pub fn heard(&self, count: usize) {
+    pub(super) fn heard(&self, count: usize) {
         let mut state = self.state();
         if let Some(pace) = &mut state.pace {
             pace.add(count, Instant::now());
@@ -187,31 +187,31 @@ impl Connection {
     }
 
     /// Signals the connection's task to close it.
-    pub fn close(&self) {
+    pub(super) fn close(&self) {
         self.state().is_closing = true;
         self.closing.notify_one();
     }
 
     /// Returns whether the connection is closed, or is being closed.
-    pub fn is_closing(&self) -> bool {
+    pub(super) fn is_closing(&self) -> bool {
         self.state().is_closing
     }
 
     /// Returns the bytes a second that the client sends or takes, if the server waits for the client and has waited before for
     /// a time that suffices.
-    pub fn pace(&self, now: Instant) -> Option<u64> {
+    pub(super) fn pace(&self, now: Instant) -> Option<u64> {
         let state = self.state();
         let waits = state.stalled.is_some() || state.awaited.is_some();
         state.pace.as_ref().filter(|_| waits)?.get(now)
     }
 
     /// Returns whether no request is being served.
-    pub fn is_idle(&self) -> bool {
+    pub(super) fn is_idle(&self) -> bool {
         self.state().requests == 0
     }
 
     /// Waits until the connection has to be closed.
-    pub async fn closed(&self) {
+    pub(super) async fn closed(&self) {
         self.closing.notified().await
     }
 
@@ -248,7 +248,7 @@ struct Open {
 
 /// The open connections.
 #[derive(Debug)]
-pub struct Connections {
+pub(crate) struct Connections {
     limits: Limits,
     open: Mutex<Open>,
     place_freed: Notify,
@@ -256,9 +256,9 @@ pub struct Connections {
 
 /// A connection's place in the table. Dropping it frees the place.
 #[derive(Debug)]
-pub struct Admitted {
+pub(super) struct Admitted {
     number: u64,
-    pub connection: Arc<Connection>,
+    pub(super) connection: Arc<Connection>,
     table: Arc<Connections>,
 }
 
@@ -272,7 +272,7 @@ impl Drop for Admitted {
 
 impl Connections {
     /// Makes an empty table.
-    pub fn new(limits: Limits) -> Arc<Connections> {
+    pub(crate) fn new(limits: Limits) -> Arc<Connections> {
         Arc::new(Connections { limits, open: Mutex::default(), place_freed: Notify::new() })
     }
 
@@ -281,13 +281,13 @@ impl Connections {
     }
 
     /// The number of open connections.
-    pub fn len(&self) -> usize {
+    pub(crate) fn len(&self) -> usize {
         self.open().by_number.len()
     }
 
     /// Gives a connection a place. If no place is free, it closes the connection that has waited longest for its client. If
     /// none waits, it waits until a connection ends.
-    pub async fn admit(self: &Arc<Self>, client: SocketAddr) -> Admitted {
+    pub(super) async fn admit(self: &Arc<Self>, client: SocketAddr) -> Admitted {
         loop {
             if let Some(admitted) = self.try_admit(client) {
                 return admitted;
@@ -314,7 +314,7 @@ impl Connections {
     }
 
     /// Closes connections whose clients exceed a time limit. It never returns.
-    pub async fn watch(&self) {
+    pub(crate) async fn watch(&self) {
         loop {
             tokio::time::sleep(WATCH_REST).await;
             let now = Instant::now();
@@ -327,14 +327,14 @@ impl Connections {
     }
 
     /// Waits until no connection is open.
-    pub async fn emptied(&self) {
+    pub(crate) async fn emptied(&self) {
         while self.len() > 0 {
             let _ = tokio::time::timeout(WATCH_REST, self.place_freed.notified()).await;
         }
     }
 
     /// Closes all connections.
-    pub fn close_all(&self) {
+    pub(crate) fn close_all(&self) {
         for connection in self.open().by_number.values() {
             connection.close();
         }
@@ -342,14 +342,14 @@ impl Connections {
 }
 
 /// A client's stream that reports its reads and writes to the connection.
-pub struct WatchedStream {
+pub(super) struct WatchedStream {
     stream: TcpStream,
     connection: Arc<Connection>,
 }
 
 impl WatchedStream {
     /// Wraps a stream.
-    pub fn new(stream: TcpStream, connection: Arc<Connection>) -> WatchedStream {
+    pub(super) fn new(stream: TcpStream, connection: Arc<Connection>) -> WatchedStream {
         WatchedStream { stream, connection }
     }
 

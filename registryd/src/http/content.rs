@@ -13,13 +13,13 @@ use std::time::Duration;
 
 /// The maximum length of a piece. A request holds the pieces that are being sent, one that waits, and one that is being
 /// read.
-pub const PIECE_LEN: usize = WHOLE_LEN;
+pub(super) const PIECE_LEN: usize = WHOLE_LEN;
 
 /// The maximum number of bytes of a request that are held in memory.
-pub const HELD_LEN: u64 = 4 * PIECE_LEN as u64;
+pub(crate) const HELD_LEN: u64 = 4 * PIECE_LEN as u64;
 
 /// The longest manifest, in bytes (the specification asks for at least 4 MiB).
-pub const MAX_MANIFEST: usize = 4_194_304;
+pub(crate) const MAX_MANIFEST: usize = 4_194_304;
 
 /// The time for which a client may send nothing, if its connection has no other limit.
 const IDLE_TIME: Duration = Duration::from_secs(60);
@@ -32,7 +32,7 @@ const DRAIN_TIME: Duration = Duration::from_secs(60);
 
 /// The event after a piece.
 #[derive(Clone, Copy, Debug, PartialEq, Eq)]
-pub enum Then {
+pub(crate) enum Then {
     /// Possibly another piece.
     More,
     /// The end of the content.
@@ -42,46 +42,46 @@ pub enum Then {
 }
 
 /// A piece of the content, in parts.
-pub struct Piece {
-    pub parts: Vec<Bytes>,
-    pub then: Then,
+pub(crate) struct Piece {
+    pub(crate) parts: Vec<Bytes>,
+    pub(crate) then: Then,
 }
 
 /// The part of a request's content that was not read yet.
-pub struct RequestContent {
+pub(crate) struct RequestContent {
     body: Body,
     /// The length of the content, if the client sent it.
-    pub len: Option<u64>,
+    pub(crate) len: Option<u64>,
     rest: Bytes,
     is_awaited: bool,
     is_begun: bool,
     metrics: Metrics,
-    pub exchange: Option<Arc<Exchange>>,
+    pub(crate) exchange: Option<Arc<Exchange>>,
     reserved: Option<Reserved>,
     /// Whether reading stopped because the system is out of memory.
-    pub is_short: bool,
+    pub(crate) is_short: bool,
 }
 
 impl RequestContent {
     /// Makes the content of a request. If `is_awaited`, the client sends nothing before a 100 response (RFC 9110, 10.1.1).
-    pub fn new(body: Body, is_awaited: bool, metrics: Metrics) -> RequestContent {
+    pub(crate) fn new(body: Body, is_awaited: bool, metrics: Metrics) -> RequestContent {
         let len = body.size_hint().exact();
         let (rest, exchange, reserved) = (Bytes::new(), None, None);
         RequestContent { body, len, rest, is_awaited, is_begun: false, metrics, exchange, reserved, is_short: false }
     }
 
     /// Adds the exchange, whose connection is notified of waits for the body.
-    pub fn of(self, exchange: Option<Arc<Exchange>>) -> RequestContent {
+    pub(crate) fn of(self, exchange: Option<Arc<Exchange>>) -> RequestContent {
         RequestContent { exchange, ..self }
     }
 
     /// Returns whether the content may have bytes.
-    pub fn is_any(&self) -> bool {
+    pub(crate) fn is_any(&self) -> bool {
         self.len != Some(0)
     }
 
     /// Reserves the memory for the pieces.
-    pub async fn reserve(&mut self, memory: &Arc<Memory>, holder: &Holder) -> Result<(), Fault> {
+    pub(crate) async fn reserve(&mut self, memory: &Arc<Memory>, holder: &Holder) -> Result<(), Fault> {
         let bytes = self.len.unwrap_or(u64::MAX).min(HELD_LEN);
         self.reserved = Some(memory.reserve(holder, bytes).await?);
         Ok(())
@@ -119,7 +119,7 @@ impl RequestContent {
     }
 
     /// Returns the next piece. Only the last is shorter than `PIECE_LEN`.
-    pub async fn next(&mut self) -> Piece {
+    pub(crate) async fn next(&mut self) -> Piece {
         let mut parts = Vec::new();
         let mut room = PIECE_LEN;
         loop {
@@ -139,7 +139,7 @@ impl RequestContent {
     }
 
     /// Returns the content of a manifest. Fails if it is longer than `MAX_MANIFEST`.
-    pub async fn manifest(&mut self) -> Result<Vec<Bytes>, Fault> {
+    pub(crate) async fn manifest(&mut self) -> Result<Vec<Bytes>, Fault> {
         let too_long = || {
             let message = format!("the manifest is longer than {MAX_MANIFEST} bytes");
             Fault::new(StatusCode::PAYLOAD_TOO_LARGE, "SIZE_INVALID", message)
@@ -164,7 +164,7 @@ impl RequestContent {
 
     /// Reads and drops the rest of the content of a failed request, within bounds. If the client still waits for a 100
     /// response, the content stays with the response instead: dropping it earlier would ask the client to send.
-    pub fn drain(mut self, answer: &mut Response<Body>) {
+    pub(crate) fn drain(mut self, answer: &mut Response<Body>) {
         if self.body.is_end_stream() {
             return;
         }

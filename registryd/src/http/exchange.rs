@@ -24,12 +24,12 @@ fn shortened(text: &str, most: usize) -> String {
 
 /// A request that is being served. Its connection counts it until the last copy is dropped.
 #[derive(Debug)]
-pub struct Exchange {
-    pub connection: Arc<Connection>,
+pub(crate) struct Exchange {
+    pub(crate) connection: Arc<Connection>,
     user: Mutex<Option<String>>,
     received: AtomicU64,
     /// Whether the bytes of the head may have a length.
-    pub may_have_length: bool,
+    pub(crate) may_have_length: bool,
 }
 
 impl Drop for Exchange {
@@ -40,28 +40,28 @@ impl Drop for Exchange {
 
 impl Exchange {
     /// Begins a request on a connection.
-    pub fn begin(connection: Arc<Connection>) -> Arc<Exchange> {
+    pub(super) fn begin(connection: Arc<Connection>) -> Arc<Exchange> {
         let may_have_length = connection.begin_request();
         Arc::new(Exchange { connection, user: Mutex::default(), received: AtomicU64::new(0), may_have_length })
     }
 
     /// Returns the time for which a client may send nothing.
-    pub fn idle(&self) -> Duration {
+    pub(super) fn idle(&self) -> Duration {
         self.connection.idle
     }
 
     /// Notes whether the request waits for more of its body.
-    pub fn await_body(&self, is_awaited: bool) {
+    pub(super) fn await_body(&self, is_awaited: bool) {
         self.connection.await_body(is_awaited);
     }
 
     /// Adds `count` to the number of body bytes received.
-    pub fn received(&self, count: usize) {
+    pub(super) fn received(&self, count: usize) {
         self.received.fetch_add(count as u64, Ordering::Relaxed);
     }
 
     /// Notes the user of the request.
-    pub fn set_user(&self, user: &str) {
+    pub(crate) fn set_user(&self, user: &str) {
         *guard_of(self.user.lock()) = Some(shortened(user, LOGGED.1));
     }
 }
@@ -97,7 +97,7 @@ impl Drop for Record {
 }
 
 /// A log record before the response exists.
-pub struct OpenRecord {
+pub(super) struct OpenRecord {
     exchange: Arc<Exchange>,
     method: String,
     path: String,
@@ -106,7 +106,7 @@ pub struct OpenRecord {
 
 impl OpenRecord {
     /// Begins the record of a request, and attaches its exchange to the request.
-    pub fn note(request: &mut Request<Body>, connection: Arc<Connection>) -> OpenRecord {
+    pub(super) fn note(request: &mut Request<Body>, connection: Arc<Connection>) -> OpenRecord {
         let method = shortened(request.method().as_str(), LOGGED.2);
         let path = shortened(request.uri().path(), LOGGED.0);
         let exchange = Exchange::begin(connection);
@@ -115,7 +115,7 @@ impl OpenRecord {
     }
 
     /// Returns the response with a body that counts the bytes sent.
-    pub fn into_counted(self, response: Response<Body>) -> Response<CountedBody> {
+    pub(super) fn into_counted(self, response: Response<Body>) -> Response<CountedBody> {
         let (mut head, body) = response.into_parts();
         let OpenRecord { exchange, method, path, begun } = self;
         let digest = head.headers.get("docker-content-digest").cloned();
@@ -126,7 +126,7 @@ impl OpenRecord {
 }
 
 /// The body of a response. It is dropped after all but the last bytes were passed to the client's socket.
-pub struct CountedBody {
+pub(super) struct CountedBody {
     body: Body,
     is_begun: bool,
     record: Record,

@@ -15,7 +15,7 @@ const UPLOADS_REST: &str = "5";
 
 /// A failure of a request.
 #[derive(Debug)]
-pub struct Fault {
+pub(crate) struct Fault {
     status: StatusCode,
     code: &'static str,
     message: String,
@@ -24,7 +24,7 @@ pub struct Fault {
 }
 
 impl Fault {
-    pub fn new(status: StatusCode, code: &'static str, message: impl Into<String>) -> Fault {
+    pub(crate) fn new(status: StatusCode, code: &'static str, message: impl Into<String>) -> Fault {
         Fault { status, code, message: message.into(), detail: Value::Null, header: None }
     }
 
@@ -37,81 +37,81 @@ impl Fault {
     }
 
     /// The path does not support the method.
-    pub fn method(allowed: &'static str) -> Fault {
+    pub(crate) fn method(allowed: &'static str) -> Fault {
         Fault::new(StatusCode::METHOD_NOT_ALLOWED, "UNSUPPORTED", "the path does not support the method")
             .with_header("Allow", allowed)
     }
 
     /// The blob would exceed the maximum length.
-    pub fn too_long(most: u64) -> Fault {
+    pub(crate) fn too_long(most: u64) -> Fault {
         Fault::new(StatusCode::PAYLOAD_TOO_LARGE, "SIZE_INVALID", format!("a blob may have at most {most} bytes"))
     }
 
     /// The path matches no endpoint of the specification.
-    pub fn path() -> Fault {
+    pub(crate) fn path() -> Fault {
         Fault::new(StatusCode::NOT_FOUND, "NAME_UNKNOWN", "the path matches no endpoint")
     }
 
-    pub fn upload_unknown() -> Fault {
+    pub(crate) fn upload_unknown() -> Fault {
         Fault::new(StatusCode::NOT_FOUND, "BLOB_UPLOAD_UNKNOWN", "there is no such upload")
     }
 
     /// The repository's tenant does not exist.
-    pub fn tenant_unknown(repo: &str) -> Fault {
+    pub(crate) fn tenant_unknown(repo: &str) -> Fault {
         let message = format!("there is no such tenant: {:.255}", tenant_of(repo));
         Fault::new(StatusCode::NOT_FOUND, "NAME_UNKNOWN", message)
     }
 
-    pub fn manifest_unknown() -> Fault {
+    pub(crate) fn manifest_unknown() -> Fault {
         Fault::new(StatusCode::NOT_FOUND, "MANIFEST_UNKNOWN", "the repository has no such manifest")
     }
 
     /// Each look-up of the tag found a manifest that was deleted before it was read.
-    pub fn tag_changing() -> Fault {
+    pub(crate) fn tag_changing() -> Fault {
         Fault::new(StatusCode::SERVICE_UNAVAILABLE, "MANIFEST_UNKNOWN", "the tag changed too often while it was read")
             .with_header("Retry-After", "1")
     }
 
     /// An index of the repository lists the manifest.
-    pub fn listed(index: &str) -> Fault {
+    pub(crate) fn listed(index: &str) -> Fault {
         Fault::new(StatusCode::FORBIDDEN, "DENIED", "an index lists the manifest: delete the index first")
             .with_detail(json!({ "manifest": index }))
     }
 
     /// The content is not a manifest, or differs from its description in the request.
-    pub fn manifest_invalid(message: impl Into<String>) -> Fault {
+    pub(crate) fn manifest_invalid(message: impl Into<String>) -> Fault {
         Fault::new(StatusCode::BAD_REQUEST, "MANIFEST_INVALID", message)
     }
 
     /// The range of a chunk differs from the range of its bytes.
-    pub fn content_range() -> Fault {
+    pub(crate) fn content_range() -> Fault {
         Fault::new(StatusCode::BAD_REQUEST, "SIZE_INVALID", "Content-Range is not `<start>-<end>` of the content")
     }
 
     /// A chunk does not begin at the end of the upload.
-    pub fn out_of_order(received: u64) -> Fault {
+    pub(crate) fn out_of_order(received: u64) -> Fault {
         Fault::new(StatusCode::RANGE_NOT_SATISFIABLE, "BLOB_UPLOAD_INVALID", format!("{received} bytes were received"))
             .with_header("Range", range_text(received))
             .with_detail(json!({ "received": received }))
     }
 
     /// The client disconnected or stopped sending.
-    pub fn cut_off() -> Fault {
+    pub(crate) fn cut_off() -> Fault {
         Fault::new(StatusCode::REQUEST_TIMEOUT, "SIZE_INVALID", "the content is incomplete")
     }
 
     /// A bug in this program stopped the request.
-    pub fn internal() -> Fault {
+    pub(crate) fn internal() -> Fault {
         Fault::new(StatusCode::INTERNAL_SERVER_ERROR, "UNSUPPORTED", "the server failed while it served the request")
     }
 
     /// The server is overloaded; the client may retry soon.
-    pub fn unavailable(message: &str) -> Fault {
+    pub(crate) fn unavailable(message: &str) -> Fault {
         Fault::new(StatusCode::SERVICE_UNAVAILABLE, "TOOMANYREQUESTS", message).with_header("Retry-After", "1")
     }
 
     /// The disk of the folder has less free than its minimum.
-    pub fn disk_full(free: u64, min_free: u64) -> Fault {
+    pub(crate) fn disk_full(free: u64, min_free: u64) -> Fault {
         let message = "the disk of the registry is almost full: only reads and deletes are served";
         Fault::new(StatusCode::INSUFFICIENT_STORAGE, "UNSUPPORTED", message)
             .with_header("Retry-After", "60")
@@ -119,25 +119,25 @@ impl Fault {
     }
 
     /// The disk of the folder has no room for a change.
-    pub fn no_room() -> Fault {
+    pub(crate) fn no_room() -> Fault {
         let message = "the disk of the registry is full: only reads are served";
         Fault::new(StatusCode::INSUFFICIENT_STORAGE, "UNSUPPORTED", message).with_header("Retry-After", "60")
     }
 
     /// The request has no credentials, or they are wrong.
-    pub fn unauthorized(challenge: impl Into<String>) -> Fault {
+    pub(crate) fn unauthorized(challenge: impl Into<String>) -> Fault {
         Fault::new(StatusCode::UNAUTHORIZED, "UNAUTHORIZED", "valid credentials are required")
             .with_header("WWW-Authenticate", challenge)
     }
 
     /// The user does not have a right in the repository.
-    pub fn denied(user: &str, right: &str, repo: &str) -> Fault {
+    pub(crate) fn denied(user: &str, right: &str, repo: &str) -> Fault {
         Fault::new(StatusCode::FORBIDDEN, "DENIED", format!("{user} does not have the right to {right} in {repo}"))
     }
 
     /// A call on a repository has reached a limit. The status is 403 because clients do not show the message of a 507. For uploads it
     /// is 429, since they end without anybody's doing, and clients wait.
-    pub fn limit(limit: Limit, repo: &str) -> Fault {
+    pub(crate) fn limit(limit: Limit, repo: &str) -> Fault {
         let tenant = tenant_of(repo);
         let (code, name, most) = match limit {
             Limit::Uploads => ("TOOMANYREQUESTS", "uploads", MAX_UPLOADS),
@@ -167,14 +167,14 @@ impl Fault {
     }
 
     /// A blob is new to a tenant that has the maximum number of blobs. The status is 403 as for the other limits of a tenant.
-    pub fn full_share(tenant: &str, share: u64) -> Fault {
+    pub(crate) fn full_share(tenant: &str, share: u64) -> Fault {
         let message =
             format!("tenant {tenant} has {share} different blobs, which is its share: delete one in all its repositories");
         Fault::new(StatusCode::FORBIDDEN, "DENIED", message).with_detail(json!({ "limit": "blobs", "most": share }))
     }
 
     /// A push would exceed a bound on a tenant's manifests or tags. The status is 403 as for the quota.
-    pub fn bound(excess: Excess, tenant: &str) -> Fault {
+    pub(crate) fn bound(excess: Excess, tenant: &str) -> Fault {
         let has_maximum = |most: u64, what: &str| format!("tenant {tenant} may have at most {most} {what}: delete one");
         let (message, detail) = match excess {
             Excess::Manifests { most } => (has_maximum(most, "manifests"), json!({ "limit": "tenant_manifests", "most": most })),
@@ -188,7 +188,7 @@ impl Fault {
     }
 
     /// Returns the response, with the failure as JSON.
-    pub fn into_response(self) -> Response<Body> {
+    pub(crate) fn into_response(self) -> Response<Body> {
         let Fault { status, code, message, detail, header } = self;
         let text = json!({ "errors": [{ "code": code, "message": message, "detail": detail }] }).to_string();
         let mut response = Response::new(Body::from(text + "\n"));
@@ -205,7 +205,7 @@ impl Fault {
 
 /// Returns the header value for the range of the bytes received. An empty upload has `0-0`, as in other registries, because
 /// the header has no form for an empty range.
-pub fn range_text(received: u64) -> String {
+pub(crate) fn range_text(received: u64) -> String {
     format!("0-{}", received.saturating_sub(1))
 }
 

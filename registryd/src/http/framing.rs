@@ -16,7 +16,7 @@ fn is_only(headers: &HeaderMap, name: HeaderName, word: &str) -> bool {
 ///
 /// - The transfer coding is another than `chunked` (RFC 9112, 6.1).
 /// - The expectation is another than `100-continue` (RFC 9110, 10.1.1).
-pub fn check(headers: &HeaderMap) -> Result<(), Fault> {
+pub(crate) fn check(headers: &HeaderMap) -> Result<(), Fault> {
     if !is_only(headers, TRANSFER_ENCODING, "chunked") {
         let message = "the only transfer coding is chunked";
         return Err(Fault::new(StatusCode::NOT_IMPLEMENTED, "UNSUPPORTED", message));
@@ -30,7 +30,7 @@ pub fn check(headers: &HeaderMap) -> Result<(), Fault> {
 
 /// Returns whether the connection has to end with the request: its content has a transfer coding and may have a length, so a proxy may
 /// have seen another end of it, or it has a coding that was not decoded (RFC 9112, 6.1). The library drops a length after the coding.
-pub fn is_last(headers: &HeaderMap, may_have_length: bool) -> bool {
+pub(crate) fn is_last(headers: &HeaderMap, may_have_length: bool) -> bool {
     let has_length = may_have_length || headers.contains_key(CONTENT_LENGTH);
     headers.contains_key(TRANSFER_ENCODING) && (has_length || !is_only(headers, TRANSFER_ENCODING, "chunked"))
 }

@@ -33,7 +33,7 @@ impl LengthLines {
 
 /// A client's stream, without TLS if there is any, that tells its connection whether a head has a length. Bytes that arrive while a
 /// request is being served are no head, except those of a client that sends the next request before the reply.
-pub struct HeadLines<S> {
+pub(super) struct HeadLines<S> {
     stream: S,
     connection: Arc<Connection>,
     lines: LengthLines,
@@ -41,7 +41,7 @@ pub struct HeadLines<S> {
 
 impl<S> HeadLines<S> {
     /// Wraps a stream.
-    pub fn new(stream: S, connection: Arc<Connection>) -> HeadLines<S> {
+    pub(super) fn new(stream: S, connection: Arc<Connection>) -> HeadLines<S> {
         HeadLines { stream, connection, lines: LengthLines::default() }
     }
 }

@@ -26,9 +26,9 @@ const SLOW_PACE: u64 = 16 << 10;
 
 /// The part of the memory that a request is for: the number of its sharer, and its client's connection if it has one.
 #[derive(Clone)]
-pub struct Holder {
-    pub sharer: usize,
-    pub connection: Option<Arc<Connection>>,
+pub(crate) struct Holder {
+    pub(crate) sharer: usize,
+    pub(crate) connection: Option<Arc<Connection>>,
 }
 
 /// Bytes that a request has reserved.
@@ -73,10 +73,10 @@ enum Entered {
 }
 
 /// A limit on the bytes of requests and responses in memory.
-pub struct Memory(Mutex<State>);
+pub(crate) struct Memory(Mutex<State>);
 
 /// Bytes that a request may hold. Dropping this returns them.
-pub struct Reserved {
+pub(crate) struct Reserved {
     bytes: u64,
     number: u64,
     memory: Arc<Memory>,
@@ -181,7 +181,7 @@ impl State {
 
 impl Memory {
     /// Makes a limit of `total` bytes for a number of sharers.
-    pub fn new(total: u64, sharers: usize) -> Arc<Memory> {
+    pub(crate) fn new(total: u64, sharers: usize) -> Arc<Memory> {
         let sharers = (0..sharers).map(|_| Sharer::default()).collect();
         Arc::new(Memory(Mutex::new(State { total, used: 0, sharers, last: 0, by_number: HashMap::new(), next_number: 0 })))
     }
@@ -191,7 +191,7 @@ impl Memory {
     }
 
     /// Reserves bytes of which a request can do with fewer, if its sharer holds little and none of its requests waits.
-    pub fn try_reserve(self: &Arc<Self>, holder: &Holder, bytes: u64) -> Option<Reserved> {
+    pub(crate) fn try_reserve(self: &Arc<Self>, holder: &Holder, bytes: u64) -> Option<Reserved> {
         let mut state = self.state();
         let is_free = state.sharers[holder.sharer].waiting.is_empty() && state.has_plenty(holder.sharer, bytes);
         (is_free && !is_short()).then(|| {
@@ -207,7 +207,7 @@ impl Memory {
     /// - The system is out of memory.
     /// - The maximum number of requests of the sharer already waits.
     /// - The bytes are not free in time.
-    pub async fn reserve(self: &Arc<Self>, holder: &Holder, bytes: u64) -> Result<Reserved, Fault> {
+    pub(crate) async fn reserve(self: &Arc<Self>, holder: &Holder, bytes: u64) -> Result<Reserved, Fault> {
         let too_many = || Fault::unavailable("too many bytes in flight");
         let mut receiver = match self.enter(holder, bytes).ok_or_else(too_many)? {
             Entered::Reserved(reserved) => return Ok(reserved),
@@ -232,7 +232,7 @@ impl Memory {
     /// # Errors
     ///
     /// Fails as `reserve` does.
-    pub async fn reserve_between(self: &Arc<Self>, holder: &Holder, least: u64, most: u64) -> Result<Reserved, Fault> {
+    pub(crate) async fn reserve_between(self: &Arc<Self>, holder: &Holder, least: u64, most: u64) -> Result<Reserved, Fault> {
         match self.try_reserve(holder, most) {
             Some(reserved) => Ok(reserved),
             None => self.reserve(holder, least).await,
@@ -273,12 +273,12 @@ impl Memory {
 
 impl Reserved {
     /// Returns the number of reserved bytes.
-    pub fn bytes(&self) -> u64 {
+    pub(crate) fn bytes(&self) -> u64 {
         self.bytes
     }
 
     /// Returns the reserved bytes above `bytes`.
-    pub fn shrink(&mut self, bytes: u64) {
+    pub(crate) fn shrink(&mut self, bytes: u64) {
         self.bytes = self.bytes.min(bytes);
         self.memory.state().shrink(self.number, bytes);
         self.memory.hand_out();

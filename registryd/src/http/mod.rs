@@ -6,7 +6,7 @@ pub(crate) mod content;
 pub(crate) mod exchange;
 pub(crate) mod fault;
 pub(crate) mod framing;
-pub(crate) mod head_lines;
+mod head_lines;
 pub(crate) mod in_flight;
 pub(crate) mod pages;
 pub(crate) mod paths;

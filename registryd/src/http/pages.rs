@@ -7,19 +7,19 @@ use hyper::{Body, StatusCode};
 use serde_json::Value;
 
 /// The maximum number of items of a page.
-pub const MAX_PAGE: usize = 1000;
+pub(crate) const MAX_PAGE: usize = 1000;
 
 /// A page of a list.
 #[derive(Debug, PartialEq, Eq)]
-pub struct Page<T> {
-    pub items: Vec<T>,
+pub(crate) struct Page<T> {
+    pub(crate) items: Vec<T>,
     /// Whether more items follow.
-    pub more: bool,
+    pub(crate) more: bool,
 }
 
 impl<T> Page<T> {
     /// Returns the first items of a list, at most `most`.
-    pub fn of(mut items: impl Iterator<Item = T>, most: usize) -> Page<T> {
+    pub(crate) fn of(mut items: impl Iterator<Item = T>, most: usize) -> Page<T> {
         let first = items.by_ref().take(most).collect();
         Page { items: first, more: items.next().is_some() }
     }
@@ -27,16 +27,16 @@ impl<T> Page<T> {
 
 /// The page that a request asks for by its query.
 #[derive(Debug, PartialEq, Eq)]
-pub struct WantedPage {
+pub(crate) struct WantedPage {
     /// The item after which the page begins. It need not exist.
-    pub last: String,
+    pub(crate) last: String,
     /// The maximum number of items.
-    pub most: usize,
+    pub(crate) most: usize,
 }
 
 impl WantedPage {
     /// Returns the page that a query asks for by `n` and `last`. Fails if `n` is not a number.
-    pub fn of(query: Option<&str>) -> Result<WantedPage, Fault> {
+    pub(crate) fn of(query: Option<&str>) -> Result<WantedPage, Fault> {
         let most = match query_value(query, "n") {
             None => MAX_PAGE,
             Some(text) => text.parse().map_err(|_| Fault::new(StatusCode::BAD_REQUEST, "UNSUPPORTED", "n must be a number"))?,
@@ -45,7 +45,7 @@ impl WantedPage {
     }
 
     /// Returns the value of `Link` that names the page after `last`. `more` is the rest of its query.
-    pub fn next(&self, path: &str, last: &str, more: &[(&str, &str)]) -> String {
+    pub(crate) fn next(&self, path: &str, last: &str, more: &[(&str, &str)]) -> String {
         let mut query = form_urlencoded::Serializer::new(String::new());
         query.append_pair("n", &self.most.to_string()).append_pair("last", last).extend_pairs(more);
         format!("<{path}?{}>; rel=\"next\"", query.finish())
@@ -53,7 +53,7 @@ impl WantedPage {
 }
 
 /// Returns a response with a page as JSON. `link` names the next page, if there is one.
-pub fn page_response(page: &Value, link: Option<String>) -> HandlerResult {
+pub(crate) fn page_response(page: &Value, link: Option<String>) -> HandlerResult {
     let headers = [("Content-Type", "application/json"), ("Link", link.as_deref().unwrap_or_default())];
     let shown = if link.is_some() { 2 } else { 1 };
     with_body(StatusCode::OK, &headers[..shown], Body::from(page.to_string() + "\n"))

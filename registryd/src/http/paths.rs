@@ -4,7 +4,7 @@ use std::borrow::Cow;
 
 /// The resource that a path names.
 #[derive(Debug, PartialEq, Eq)]
-pub enum Target<'p> {
+pub(crate) enum Target<'p> {
     /// end-1.
     Base,
     /// The list of repositories.
@@ -24,14 +24,14 @@ pub enum Target<'p> {
 }
 
 /// Decodes the percent-encoding of a path once (RFC 3986, 2.4). Returns `None` if the result is not UTF-8.
-pub fn decoded(path: &str) -> Option<Cow<'_, str>> {
+pub(crate) fn decoded(path: &str) -> Option<Cow<'_, str>> {
     percent_encoding::percent_decode_str(path).decode_utf8().ok()
 }
 
 impl<'p> Target<'p> {
     /// Returns the resource of a path, if there is one. The path is parsed from its end: `manifests`, `blobs`, `uploads`,
     /// `tags` and `list` may be parts of a repository's name, but a tag, a digest and an upload's name contain no `/`.
-    pub fn of(path: &'p str) -> Option<Target<'p>> {
+    pub(crate) fn of(path: &'p str) -> Option<Target<'p>> {
         if path == "/v2" || path == "/v2/" {
             return Some(Target::Base);
         }
@@ -59,7 +59,7 @@ impl<'p> Target<'p> {
     }
 
     /// Returns the methods that the path supports, in the form of a header `Allow`.
-    pub fn methods(&self) -> &'static str {
+    pub(crate) fn methods(&self) -> &'static str {
         match self {
             Target::Base | Target::Catalog | Target::Tags { .. } | Target::Referrers { .. } => "GET, HEAD",
             Target::Manifest { .. } => "GET, HEAD, PUT, DELETE",
@@ -70,7 +70,7 @@ impl<'p> Target<'p> {
     }
 
     /// Returns the repository of the path.
-    pub fn repo(&self) -> Option<&'p str> {
+    pub(crate) fn repo(&self) -> Option<&'p str> {
         match *self {
             Target::Base | Target::Catalog => None,
             Target::Tags { repo }
@@ -84,7 +84,7 @@ impl<'p> Target<'p> {
 }
 
 /// Returns the first value of a name in a query.
-pub fn query_value(query: Option<&str>, name: &str) -> Option<String> {
+pub(crate) fn query_value(query: Option<&str>, name: &str) -> Option<String> {
     let mut pairs = form_urlencoded::parse(query?.as_bytes());
     pairs.find(|(key, _)| key == name).map(|(_, value)| value.into_owned())
 }

@@ -1,11 +1,11 @@
 //! The ranges of the headers `Content-Range` and `Range`.
 
 /// The largest offset that a range may have in the store (docs/SEMANTICS.md, "Ranges").
-pub const MAX_PLACE: u64 = i64::MAX as u64;
+pub(crate) const MAX_PLACE: u64 = i64::MAX as u64;
 
 /// Parses the first and the last offset of a chunk: `<start>-<end>` (OCI Distribution Specification 1.1, "Pushing a blob in
 /// chunks"). Older clients write `bytes ` or `bytes=` before it, or `/<length>` after it.
-pub fn content_range(text: &str) -> Option<(u64, u64)> {
+pub(crate) fn content_range(text: &str) -> Option<(u64, u64)> {
     let text = text.strip_prefix("bytes").map_or(text, |text| text.trim_start_matches(&[' ', '='][..]));
     let (start, end) = text.split('/').next()?.split_once('-')?;
     let (start, end) = (number(start)?, number(end)?);
@@ -14,7 +14,7 @@ pub fn content_range(text: &str) -> Option<(u64, u64)> {
 
 /// The range of a header `Range`, independent of the size of the blob.
 #[derive(Clone, Copy, Debug, PartialEq, Eq)]
-pub enum RequestedRange {
+pub(crate) enum RequestedRange {
     All,
     /// From one offset to another, both included.
     Between(u64, u64),
@@ -24,7 +24,7 @@ pub enum RequestedRange {
 
 /// The range of a blob of known size.
 #[derive(Debug, PartialEq, Eq)]
-pub enum Part {
+pub(crate) enum Part {
     All,
     /// From one offset to another, both included.
     Some(u64, u64),
@@ -37,7 +37,7 @@ const MAX_RANGES: usize = 16;
 
 /// Parses a header `Range` (RFC 9110, 14.1.2 and 14.2). Returns one or several ranges. A header that is malformed, or has more
 /// ranges than the maximum, is ignored: its only range is all of the content.
-pub fn requested_ranges(text: &str) -> Vec<RequestedRange> {
+pub(crate) fn requested_ranges(text: &str) -> Vec<RequestedRange> {
     let members = text.strip_prefix("bytes=").unwrap_or_default().split(',').map(str::trim).filter(|member| !member.is_empty());
     let ranges: Option<Vec<RequestedRange>> = members.take(MAX_RANGES + 1).map(requested_range).collect();
     ranges.filter(|ranges| (1..=MAX_RANGES).contains(&ranges.len())).unwrap_or_else(|| vec![RequestedRange::All])
@@ -57,7 +57,7 @@ fn requested_range(text: &str) -> Option<RequestedRange> {
 /// Returns the offsets of several ranges in a blob of `size` bytes, in their order, each with its first and its last offset. Ranges
 /// that have no byte of the blob are left out. Returns the one range that is served instead if at most one is left, or all of the
 /// blob if two overlap (RFC 9110, 14.2).
-pub fn parts(ranges: &[RequestedRange], size: u64) -> Result<Vec<(u64, u64)>, RequestedRange> {
+pub(crate) fn parts(ranges: &[RequestedRange], size: u64) -> Result<Vec<(u64, u64)>, RequestedRange> {
     let of = |range: &RequestedRange| match range.part(size) {
         Part::Some(start, last) => Some((start, last)),
         Part::All | Part::Unsatisfiable => None,
@@ -75,7 +75,7 @@ pub fn parts(ranges: &[RequestedRange], size: u64) -> Result<Vec<(u64, u64)>, Re
 
 impl RequestedRange {
     /// Returns the range in a blob of `size` bytes.
-    pub fn part(self, size: u64) -> Part {
+    pub(crate) fn part(self, size: u64) -> Part {
         let (start, last) = match self {
             RequestedRange::All => return Part::All,
             RequestedRange::Between(start, last) => (start, last),

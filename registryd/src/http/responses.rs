@@ -3,15 +3,15 @@ use crate::http::fault::Fault;
 use hyper::{Body, Response, StatusCode};
 
 /// The result of a request.
-pub type HandlerResult = Result<Response<Body>, Fault>;
+pub(crate) type HandlerResult = Result<Response<Body>, Fault>;
 
 /// Returns a response without content.
-pub fn empty(status: StatusCode, headers: &[(&str, &str)]) -> HandlerResult {
+pub(crate) fn empty(status: StatusCode, headers: &[(&str, &str)]) -> HandlerResult {
     with_body(status, headers, Body::empty())
 }
 
 /// Returns a response with headers and content.
-pub fn with_body(status: StatusCode, headers: &[(&str, &str)], body: Body) -> HandlerResult {
+pub(crate) fn with_body(status: StatusCode, headers: &[(&str, &str)], body: Body) -> HandlerResult {
     let mut response = Response::builder().status(status);
     for (name, value) in headers {
         response = response.header(*name, *value);

@@ -23,7 +23,7 @@ const MAX_HEAD: usize = 64 << 10;
 const REST: (Duration, Duration) = (Duration::from_millis(10), Duration::from_secs(1));
 
 /// Raises the limit on open files of this process to the system's maximum, and returns the limit.
-pub fn raise_file_limit() -> io::Result<u64> {
+pub(crate) fn raise_file_limit() -> io::Result<u64> {
     let mut limit = libc::rlimit { rlim_cur: 0, rlim_max: 0 };
     // SAFETY: `limit` has room for the struct that the call writes.
     if unsafe { libc::getrlimit(libc::RLIMIT_NOFILE, &mut limit) } != 0 {
@@ -60,7 +60,7 @@ async fn accept(listener: &TcpListener) -> (TcpStream, std::net::SocketAddr) {
 
 /// Accepts connections and serves their requests until the sender of `stop` is dropped. Then it accepts no more, and each
 /// connection ends with its current request. With `tls`, each connection begins with a handshake in its own task.
-pub async fn serve<A, F>(
+pub(crate) async fn serve<A, F>(
     listener: TcpListener,
     tls: Option<Tls>,
     connections: Arc<Connections>,

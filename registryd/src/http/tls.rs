@@ -67,7 +67,7 @@ fn check_pair(certificate: &Certificate, key: &dyn SigningKey) -> Result<(), &'s
 /// - A file cannot be read, or has no PEM of its kind.
 /// - The key is of no supported type: RSA from 2,048 bits, ECDSA with P-256 or P-384, Ed25519.
 /// - The certificate is of another key.
-pub fn read(certificate: &Path, key: &Path) -> Result<ServerConfig, String> {
+pub(crate) fn read(certificate: &Path, key: &Path) -> Result<ServerConfig, String> {
     let (chain, private) = (certificates(certificate)?, private_key(key)?);
     let unsupported = || format!("cannot use the private key: {}: not RSA, ECDSA or Ed25519", key.display());
     let signing = any_supported_type(&private).map_err(|_| unsupported())?;
@@ -81,15 +81,15 @@ pub fn read(certificate: &Path, key: &Path) -> Result<ServerConfig, String> {
 
 /// The settings of handshakes.
 #[derive(Clone)]
-pub struct Tls {
-    pub config: Arc<FromFile<ServerConfig>>,
+pub(crate) struct Tls {
+    pub(crate) config: Arc<FromFile<ServerConfig>>,
     /// The time for a handshake.
-    pub limit: Duration,
+    pub(crate) limit: Duration,
 }
 
 impl Tls {
     /// Makes a handshake with the certificate that was read last.
-    pub async fn accept(&self, stream: WatchedStream) -> io::Result<TlsStream<WatchedStream>> {
+    pub(super) async fn accept(&self, stream: WatchedStream) -> io::Result<TlsStream<WatchedStream>> {
         let handshake = TlsAcceptor::from(self.config.get()).accept(stream);
         tokio::time::timeout(self.limit, handshake).await.unwrap_or_else(|_| Err(io::ErrorKind::TimedOut.into()))
     }

@@ -4,10 +4,10 @@ use std::ops::{Add, Sub};
 
 /// The manifests of a tenant or of a repository, their bytes, and its tags.
 #[derive(Clone, Copy, Debug, Default, PartialEq, Eq)]
-pub struct Totals {
-    pub manifests: u64,
-    pub manifest_bytes: u64,
-    pub tags: u64,
+pub(crate) struct Totals {
+    pub(crate) manifests: u64,
+    pub(crate) manifest_bytes: u64,
+    pub(crate) tags: u64,
 }
 
 impl Totals {
@@ -42,15 +42,15 @@ const LEAST_MANIFEST_BYTES: u64 = 16 << 20;
 
 /// The maximum totals of each tenant. A missing number is not limited.
 #[derive(Clone, Copy, Debug, Default, PartialEq, Eq)]
-pub struct Bounds {
-    pub manifests: Option<u64>,
-    pub manifest_bytes: Option<u64>,
-    pub tags: Option<u64>,
+pub(crate) struct Bounds {
+    pub(crate) manifests: Option<u64>,
+    pub(crate) manifest_bytes: Option<u64>,
+    pub(crate) tags: Option<u64>,
 }
 
 /// A bound that a push would exceed.
 #[derive(Clone, Copy, Debug, PartialEq, Eq)]
-pub enum Excess {
+pub(crate) enum Excess {
     /// The number of manifests.
     Manifests { most: u64 },
     /// The bytes of the manifests.
@@ -62,7 +62,7 @@ pub enum Excess {
 impl Bounds {
     /// Returns the bounds of a tenant with a quota. The bytes of its manifests have a default: a tenth of the quota, and at
     /// least 16 MiB.
-    pub fn with_quota(self, quota: u64) -> Bounds {
+    pub(crate) fn with_quota(self, quota: u64) -> Bounds {
         let most = self.manifest_bytes.unwrap_or_else(|| (quota / 10).max(LEAST_MANIFEST_BYTES));
         Bounds { manifest_bytes: Some(most), ..self }
     }
@@ -73,7 +73,7 @@ impl Bounds {
     /// # Errors
     ///
     /// Fails with the first bound that would be exceeded: manifests, their bytes, tags.
-    pub fn check(&self, used: Totals, added: Totals) -> Result<(), Excess> {
+    pub(super) fn check(&self, used: Totals, added: Totals) -> Result<(), Excess> {
         let exceeded =
             |most: Option<u64>, used: u64, added: u64| most.filter(|most| added > 0 && added > most.saturating_sub(used));
         if let Some(most) = exceeded(self.manifests, used.manifests, added.manifests) {

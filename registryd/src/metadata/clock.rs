@@ -27,7 +27,7 @@ fn difference(recorded: Option<u64>, time_of_day: Duration, steady: Duration) ->
 }
 
 /// Begins the time, after the last recorded one in seconds since 1970, if there is one.
-pub fn begin(recorded: Option<u64>) {
+pub(crate) fn begin(recorded: Option<u64>) {
     DIFFERENCE.store(difference(recorded, day(), steady()), Ordering::SeqCst);
 }
 
@@ -37,17 +37,17 @@ fn time() -> Duration {
 }
 
 /// Returns the time in seconds since 1970.
-pub fn now() -> u64 {
+pub(crate) fn now() -> u64 {
     time().as_secs()
 }
 
 /// Returns the time of day in seconds since 1970.
-pub fn time_of_day() -> u64 {
+pub(crate) fn time_of_day() -> u64 {
     day().as_secs()
 }
 
 /// Returns the time of day at which it was this time, if the clock of the day is right and the program ran since then.
-pub fn of_day(past: u64) -> u64 {
+pub(crate) fn of_day(past: u64) -> u64 {
     let behind = day().as_nanos() as i128 - time().as_nanos() as i128;
     let seconds = (behind + 500_000_000).div_euclid(1_000_000_000);
     u64::try_from(i128::from(past) + seconds).unwrap_or(0)

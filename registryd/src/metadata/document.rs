@@ -9,28 +9,28 @@ use std::fmt;
 use std::io::{self, Read};
 
 /// The maximum length of a media type and of a digest, in bytes.
-pub const MAX_LEN: usize = 255;
+pub(super) const MAX_LEN: usize = 255;
 
 /// What the registry keeps of a manifest's content.
 #[derive(Clone, Debug, Default, PartialEq, Eq)]
-pub struct Facts {
-    pub media_type: String,
+pub(crate) struct Facts {
+    pub(crate) media_type: String,
     /// The length, in bytes.
-    pub size: u64,
+    pub(crate) size: u64,
     /// The type of the artifact: that of the document, or for an image manifest without one the media type of its config.
-    pub artifact_type: Option<String>,
+    pub(crate) artifact_type: Option<String>,
     /// The digest of the manifest that this one describes.
-    pub subject: Option<String>,
+    pub(crate) subject: Option<String>,
     /// The digests of the manifests that an index lists, in order and each once.
-    pub lists: Vec<String>,
+    pub(crate) lists: Vec<String>,
 }
 
 /// The members of a document that its media type and its facts depend on.
 #[derive(Debug, Default, PartialEq, Eq)]
-pub struct Document {
-    pub media_type: Option<String>,
+pub(crate) struct Document {
+    pub(super) media_type: Option<String>,
     /// Whether it has a member `manifests`, as an index has.
-    pub is_index: bool,
+    pub(super) is_index: bool,
     artifact_type: Option<String>,
     config_type: Option<String>,
     subject: Part,
@@ -62,7 +62,7 @@ impl Part {
 }
 
 /// Returns whether a text is a digest (OCI Image Specification 1.1, "Digests").
-pub fn is_digest(text: &str) -> bool {
+pub(crate) fn is_digest(text: &str) -> bool {
     let is_small = |byte: u8| byte.is_ascii_lowercase() || byte.is_ascii_digit();
     let is_hex = |text: &str, len| text.len() == len && text.bytes().all(|byte| matches!(byte, b'0'..=b'9' | b'a'..=b'f'));
     let is_algorithm = |text: &str| text.split(&['+', '.', '_', '-']).all(|word| !word.is_empty() && word.bytes().all(is_small));
@@ -86,7 +86,7 @@ fn is_of_manifest(digest: &str) -> bool {
 /// # Errors
 ///
 /// - The content is not a JSON object, or its `mediaType` is not a text.
-pub fn read(content: &[Bytes]) -> Result<Document, Fault> {
+pub(crate) fn read(content: &[Bytes]) -> Result<Document, Fault> {
     serde_json::from_reader(Parts { parts: content.iter().cloned().collect() })
         .map_err(|error| Fault::manifest_invalid(format!("the content is not a manifest: {error}")))
 }
@@ -98,7 +98,7 @@ impl Document {
     ///
     /// - `subject` is neither null nor a descriptor with a valid digest.
     /// - The type of the artifact has more than 255 bytes.
-    pub fn facts(self, media_type: String, size: u64) -> Result<Facts, Fault> {
+    pub(crate) fn facts(self, media_type: String, size: u64) -> Result<Facts, Fault> {
         let subject = match self.subject {
             Part::Null => None,
             Part::Descriptor { digest: Some(digest), .. } if is_digest(&digest) => Some(digest),
@@ -117,20 +117,20 @@ impl Document {
     }
 
     /// Returns the facts of a manifest that the store already has. What `facts` refuses is left out of them.
-    pub fn facts_of_stored(self, media_type: String, size: u64) -> Facts {
+    pub(crate) fn facts_of_stored(self, media_type: String, size: u64) -> Facts {
         let bare = Facts { media_type: media_type.clone(), size, ..Facts::default() };
         self.facts(media_type, size).unwrap_or(bare)
     }
 }
 
 /// Returns the JSON text of a manifest's annotations, if they are an object of texts.
-pub fn annotations(content: &[u8]) -> Option<Box<RawValue>> {
+pub(crate) fn annotations(content: &[u8]) -> Option<Box<RawValue>> {
     let Annotated(found) = serde_json::from_slice(content).ok()?;
     found.filter(|value| serde_json::from_str::<Texts>(value.get()).is_ok())
 }
 
 /// Returns the digests of the blobs that a manifest refers to: those of its config and of its layers.
-pub fn blobs(content: &[u8]) -> Vec<String> {
+pub(crate) fn blobs(content: &[u8]) -> Vec<String> {
     serde_json::from_slice(content).map_or(Vec::new(), |Blobs(digests)| digests)
 }
 

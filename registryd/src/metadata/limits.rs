@@ -1,21 +1,21 @@
 //! The limits of a tenant and of a repository in the store, which reports all of them with one status.
 
 /// The maximum number of open uploads of a tenant in the store.
-pub const MAX_UPLOADS: usize = 64;
+pub(crate) const MAX_UPLOADS: usize = 64;
 
 /// The maximum number of a tenant's uploads that stay open for a later request. The others of the store are for requests that open
 /// an upload and end it.
-pub const MAX_LASTING: usize = 60;
+pub(crate) const MAX_LASTING: usize = 60;
 
 /// The maximum number of repositories of a tenant.
-pub const MAX_REPOSITORIES: usize = 1024;
+pub(crate) const MAX_REPOSITORIES: usize = 1024;
 
 /// The maximum number of manifests of a repository.
-pub const MAX_MANIFESTS: usize = 1024;
+pub(crate) const MAX_MANIFESTS: usize = 1024;
 
 /// A limit that a call has reached.
 #[derive(Clone, Copy, Debug, PartialEq, Eq)]
-pub enum Limit {
+pub(crate) enum Limit {
     /// The uploads of the store.
     Uploads,
     /// The uploads that stay open for a later request.

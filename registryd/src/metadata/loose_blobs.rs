@@ -15,7 +15,7 @@ use std::sync::{Arc, Mutex};
 use std::time::{Duration, Instant};
 
 /// A repository and a blob's digest.
-pub type Key = (String, String);
+pub(super) type Key = (String, String);
 
 /// A blob that is to be unlinked after some time.
 struct Loose {
@@ -27,25 +27,25 @@ struct Loose {
 
 /// The blobs that are to be unlinked after some time.
 #[derive(Default)]
-pub struct LooseBlobs {
+pub(crate) struct LooseBlobs {
     /// Whether blobs are unlinked. Otherwise there are none here.
-    pub is_on: bool,
+    pub(crate) is_on: bool,
     writer: Option<Arc<Writer>>,
     by_key: Mutex<HashMap<Key, Loose>>,
     /// Those who link a blob and those who unlink it take turns.
-    pub turns: Turns,
+    pub(crate) turns: Turns,
 }
 
 impl LooseBlobs {
     /// Makes the table, with the blobs of a database. Their time begins now.
-    pub fn new(writer: Option<Arc<Writer>>, known: Vec<Key>) -> LooseBlobs {
+    pub(crate) fn new(writer: Option<Arc<Writer>>, known: Vec<Key>) -> LooseBlobs {
         let loose = || Loose { since: Instant::now(), is_leaving: false };
         let by_key = known.into_iter().map(|key| (key, loose())).collect();
         LooseBlobs { is_on: true, writer, by_key: Mutex::new(by_key), turns: Turns::default() }
     }
 
     /// Notes a request for a blob. Fails if it is being unlinked.
-    pub fn ask(&self, repo: &str, digest: &str) -> Result<(), Fault> {
+    pub(crate) fn ask(&self, repo: &str, digest: &str) -> Result<(), Fault> {
         if !self.is_on {
             return Ok(());
         }
@@ -60,7 +60,7 @@ impl LooseBlobs {
     }
 
     /// Waits until nobody unlinks a blob, and prevents it until the turn ends.
-    pub async fn begin_link(&self, repo: &str, digest: &str) -> Option<Turn<'_>> {
+    pub(crate) async fn begin_link(&self, repo: &str, digest: &str) -> Option<Turn<'_>> {
         match self.is_on {
             true => Some(self.turns.take(repo, digest).await),
             false => None,
@@ -68,14 +68,14 @@ impl LooseBlobs {
     }
 
     /// Adds a blob that was linked, or begins its time anew, unless the store refused to link it.
-    pub fn end_link<T>(&self, repo: &str, digest: &str, answer: &Answer<T>) {
+    pub(crate) fn end_link<T>(&self, repo: &str, digest: &str, answer: &Answer<T>) {
         if !matches!(answer, Ok(Err(_))) {
             self.add(repo, digest, |loose| loose.is_leaving = false);
         }
     }
 
     /// Adds a blob of a manifest that was deleted, or begins its time anew. One that is being unlinked stays marked.
-    pub fn loosen(&self, repo: &str, digest: &str) {
+    pub(crate) fn loosen(&self, repo: &str, digest: &str) {
         self.add(repo, digest, |_| ());
     }
 
@@ -103,7 +103,7 @@ impl LooseBlobs {
     }
 
     /// Removes a blob that is unlinked.
-    pub fn remove(&self, repo: &str, digest: &str) {
+    pub(crate) fn remove(&self, repo: &str, digest: &str) {
         let removed = guard_of(self.by_key.lock()).remove(&(repo.to_string(), digest.to_string()));
         if let (Some(_), Some(writer)) = (removed, &self.writer) {
             writer.note(Change::RemoveLooseBlob { repo: repo.to_string(), digest: digest.to_string() });
@@ -111,13 +111,13 @@ impl LooseBlobs {
     }
 
     /// Returns the blobs that nobody has asked for in this time.
-    pub fn unasked(&self, time: Duration) -> Vec<Key> {
+    pub(crate) fn unasked(&self, time: Duration) -> Vec<Key> {
         let by_key = guard_of(self.by_key.lock());
         by_key.iter().filter(|(_, loose)| loose.since.elapsed() >= time).map(|(key, _)| key.clone()).collect()
     }
 
     /// Marks a blob before the store is asked to unlink it, if nobody has asked for it in this time.
-    pub fn begin_unlink(&self, key: &Key, time: Duration) -> bool {
+    pub(crate) fn begin_unlink(&self, key: &Key, time: Duration) -> bool {
         match guard_of(self.by_key.lock()).get_mut(key) {
             Some(loose) if loose.since.elapsed() >= time => {
                 loose.is_leaving = true;
@@ -128,14 +128,14 @@ impl LooseBlobs {
     }
 
     /// Removes the mark of a blob that the store did not unlink.
-    pub fn undo_unlink(&self, key: &Key) {
+    pub(crate) fn undo_unlink(&self, key: &Key) {
         if let Some(loose) = guard_of(self.by_key.lock()).get_mut(key) {
             loose.is_leaving = false;
         }
     }
 
     /// Removes a blob to which a manifest refers, unless a manifest that refers to it was deleted in this time.
-    pub fn keep_linked(&self, key: &Key, time: Duration) {
+    pub(crate) fn keep_linked(&self, key: &Key, time: Duration) {
         self.undo_unlink(key);
         if self.begin_unlink(key, time) {
             self.remove(&key.0, &key.1);

@@ -8,11 +8,11 @@ use std::ops::Bound;
 
 /// A manifest that has a subject.
 #[derive(Debug, PartialEq, Eq)]
-pub struct Referrer {
-    pub digest: String,
-    pub media_type: String,
-    pub artifact_type: Option<String>,
-    pub size: u64,
+pub(crate) struct Referrer {
+    pub(crate) digest: String,
+    pub(crate) media_type: String,
+    pub(crate) artifact_type: Option<String>,
+    pub(crate) size: u64,
 }
 
 impl Referrer {
@@ -24,35 +24,35 @@ impl Referrer {
 
 /// A manifest without a tag.
 #[derive(Debug, PartialEq, Eq)]
-pub struct Untagged {
-    pub repo: String,
-    pub digest: String,
-    pub media_type: String,
-    pub size: u64,
+pub(crate) struct Untagged {
+    pub(crate) repo: String,
+    pub(crate) digest: String,
+    pub(crate) media_type: String,
+    pub(crate) size: u64,
     /// The last time at which it was pushed, asked for by its digest, or something ceased to hold it, in seconds since 1970.
-    pub since: u64,
+    pub(crate) since: u64,
     /// The index that lists it, or its subject, if it is there.
-    pub held_by: Option<String>,
+    pub(crate) held_by: Option<String>,
 }
 
 /// What a repository has.
 #[derive(Debug, Default, PartialEq, Eq)]
-pub struct Overview {
+pub(crate) struct Overview {
     /// The number of manifests.
-    pub manifests: usize,
+    pub(crate) manifests: usize,
     /// The first tags in order.
-    pub tags: Vec<TagOverview>,
+    pub(crate) tags: Vec<TagOverview>,
     /// Whether more tags follow.
-    pub more: bool,
+    pub(crate) more: bool,
 }
 
 /// What a tag names.
 #[derive(Debug, PartialEq, Eq)]
-pub struct TagOverview {
-    pub name: String,
-    pub manifest: NamedManifest,
+pub(crate) struct TagOverview {
+    pub(crate) name: String,
+    pub(crate) manifest: NamedManifest,
     /// The first manifests, in the order of their digests, whose subject is the tag's manifest.
-    pub referrers: Page<Referrer>,
+    pub(crate) referrers: Page<Referrer>,
 }
 
 impl Repository {
@@ -68,7 +68,7 @@ impl Repository {
 impl ManifestTable {
     /// Returns the first tags after `last` in order, at most `most` and at most `MAX_PAGE`. Returns `None` if the repository
     /// has no manifest.
-    pub fn page(&self, repo: &str, last: &str, most: usize) -> Option<Page<String>> {
+    pub(crate) fn page(&self, repo: &str, last: &str, most: usize) -> Option<Page<String>> {
         let page = |repo: &mut Repository| {
             if !repo.is_visible() {
                 return None;
@@ -82,7 +82,7 @@ impl ManifestTable {
 
     /// Returns the first repositories after `last` in order that have manifests and that may be listed, at most `most` and at
     /// most `MAX_PAGE`.
-    pub fn repositories(&self, last: &str, most: usize, may_list: impl Fn(&str) -> bool) -> Page<String> {
+    pub(crate) fn repositories(&self, last: &str, most: usize, may_list: impl Fn(&str) -> bool) -> Page<String> {
         let repos = guard_of(self.repos.read());
         let after = repos.range::<str, _>((Bound::Excluded(last), Bound::Unbounded));
         let visible = after.filter(|(name, repo)| may_list(name) && guard_of(repo.lock()).is_visible());
@@ -90,12 +90,12 @@ impl ManifestTable {
     }
 
     /// Returns the names of all repositories, in order.
-    pub fn names(&self) -> Vec<String> {
+    pub(crate) fn names(&self) -> Vec<String> {
         guard_of(self.repos.read()).keys().cloned().collect()
     }
 
     /// Returns the manifests of a repository that have no tag, in the order of digests.
-    pub fn untagged(&self, name: &str) -> Vec<Untagged> {
+    pub(crate) fn untagged(&self, name: &str) -> Vec<Untagged> {
         let find = |repo: &mut Repository| {
             let tagged = repo.tagged();
             let visible = repo.manifests.iter().filter(|(digest, manifest)| !manifest.is_leaving && !tagged.contains(digest));
@@ -118,7 +118,7 @@ impl ManifestTable {
     /// Returns the first manifests after `last` in order whose subject is a digest, at most `most` and at most `MAX_PAGE`.
     /// With `artifact_type` it returns those of this type. After the first, no one is added that makes their sizes exceed
     /// `most_bytes`.
-    pub fn referrers(
+    pub(crate) fn referrers(
         &self,
         repo: &str,
         subject: &str,
@@ -146,7 +146,7 @@ impl ManifestTable {
     }
 
     /// Returns what a repository has, with at most `most` tags, and at most `most_referrers` referrers of each.
-    pub fn overview(&self, repo: &str, most: usize, most_referrers: usize) -> Overview {
+    pub(crate) fn overview(&self, repo: &str, most: usize, most_referrers: usize) -> Overview {
         let overview = |repo: &mut Repository| {
             let mut visible = repo.tags.iter().filter_map(|(tag, digest)| Some((tag, repo.named(digest)?)));
             let tags = visible.by_ref().take(most).map(|(tag, named)| repo.tag_overview(tag, named, most_referrers)).collect();

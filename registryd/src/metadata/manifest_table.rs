@@ -18,14 +18,14 @@ const RECORDED: u64 = 3600;
 
 /// The tags and manifests of all repositories. Each repository has its own lock. The store bounds their number.
 #[derive(Default)]
-pub struct ManifestTable {
-    pub repos: RwLock<BTreeMap<String, Arc<Mutex<Repository>>>>,
+pub(crate) struct ManifestTable {
+    pub(super) repos: RwLock<BTreeMap<String, Arc<Mutex<Repository>>>>,
     /// For each tenant, the sum of its repositories' totals. This lock is taken after that of a repository.
     totals: Mutex<HashMap<String, Totals>>,
 }
 
 /// Room for a manifest that is being pushed, and for its tag if there is one. Dropping this returns the room that was not used.
-pub struct ReservedPush<'t> {
+pub(crate) struct ReservedPush<'t> {
     table: &'t ManifestTable,
     repo: &'t str,
     digest: &'t str,
@@ -34,7 +34,7 @@ pub struct ReservedPush<'t> {
 
 impl ManifestTable {
     /// Calls `look` with a repository. Returns `None` if the repository has never had a manifest.
-    pub fn with<T>(&self, repo: &str, look: impl FnOnce(&mut Repository) -> T) -> Option<T> {
+    pub(super) fn with<T>(&self, repo: &str, look: impl FnOnce(&mut Repository) -> T) -> Option<T> {
         let found = guard_of(self.repos.read()).get(repo)?.clone();
         Some(self.counted(repo, &found, look))
     }
@@ -59,7 +59,7 @@ impl ManifestTable {
     }
 
     /// Returns the totals of a tenant's manifests and tags, with those that are being pushed.
-    pub fn totals(&self, tenant: &str) -> Totals {
+    pub(crate) fn totals(&self, tenant: &str) -> Totals {
         guard_of(self.totals.lock()).get(tenant).copied().unwrap_or_default()
     }
 
@@ -69,7 +69,7 @@ impl ManifestTable {
     /// # Errors
     ///
     /// Fails with the bound that would be exceeded.
-    pub fn check_push(&self, repo: &str, reference: &str, len: Option<u64>, bounds: &Bounds) -> Result<(), Excess> {
+    pub(crate) fn check_push(&self, repo: &str, reference: &str, len: Option<u64>, bounds: &Bounds) -> Result<(), Excess> {
         let added = self.with(repo, |repo| repo.least_added(reference, len));
         let added = added.unwrap_or_else(|| Repository::default().least_added(reference, len));
         bounds.check(self.totals(tenant_of(repo)), added)
@@ -81,7 +81,7 @@ impl ManifestTable {
     /// # Errors
     ///
     /// Fails with the bound of the repository's tenant that would be exceeded.
-    pub fn reserve<'t>(
+    pub(crate) fn reserve<'t>(
         &'t self,
         repo: &'t str,
         (digest, size): (&'t str, u64),
@@ -122,17 +122,17 @@ impl ManifestTable {
     }
 
     /// Returns the manifest with a digest.
-    pub fn by_digest(&self, repo: &str, digest: &str) -> Option<NamedManifest> {
+    pub(crate) fn by_digest(&self, repo: &str, digest: &str) -> Option<NamedManifest> {
         self.with(repo, |repo| repo.named(digest)).flatten()
     }
 
     /// Returns the manifest with a tag.
-    pub fn by_tag(&self, repo: &str, tag: &str) -> Option<NamedManifest> {
+    pub(crate) fn by_tag(&self, repo: &str, tag: &str) -> Option<NamedManifest> {
         self.with(repo, |repo| repo.named(repo.tags.get(tag)?)).flatten()
     }
 
     /// Adds a manifest that the store accepted, and its tag if it was put under one.
-    pub fn put(&self, repo: &str, digest: &str, facts: Facts, tag: Option<&str>, now: u64) {
+    pub(crate) fn put(&self, repo: &str, digest: &str, facts: Facts, tag: Option<&str>, now: u64) {
         self.counted(repo, &self.made(repo), |repo| {
             repo.put(digest, facts, now);
             if let Some(tag) = tag {
@@ -142,12 +142,12 @@ impl ManifestTable {
     }
 
     /// Adds a tag of a manifest that is here.
-    pub fn add_tag(&self, repo: &str, tag: &str, digest: &str) {
+    pub(crate) fn add_tag(&self, repo: &str, tag: &str, digest: &str) {
         self.with(repo, |repo| repo.tags.insert(tag.to_string(), digest.to_string()));
     }
 
     /// Removes a tag. Returns whether it was there.
-    pub fn remove_tag(&self, repo: &str, tag: &str, now: u64) -> bool {
+    pub(super) fn remove_tag(&self, repo: &str, tag: &str, now: u64) -> bool {
         let remove = |repo: &mut Repository| {
             let is_there = repo.tags.get(tag).map_or(false, |digest| repo.manifest(digest).is_some());
             if is_there {
@@ -159,7 +159,7 @@ impl ManifestTable {
     }
 
     /// Removes a tag, also if its manifest is marked. Returns it if it was there.
-    pub fn take_tag(&self, repo: &str, tag: String, now: u64) -> Option<String> {
+    pub(crate) fn take_tag(&self, repo: &str, tag: String, now: u64) -> Option<String> {
         let take = |repo: &mut Repository| {
             let is_there = repo.tags.contains_key(&tag);
             repo.remove_tag(&tag, now);
@@ -169,7 +169,7 @@ impl ManifestTable {
     }
 
     /// Removes all tags of a manifest, and returns them.
-    pub fn take_tags_of(&self, repo: &str, digest: &str) -> Vec<String> {
+    pub(crate) fn take_tags_of(&self, repo: &str, digest: &str) -> Vec<String> {
         let take = |repo: &mut Repository| {
             let tags: Vec<String> = repo.tags.iter().filter(|(_, named)| *named == digest).map(|(tag, _)| tag.clone()).collect();
             repo.tags.retain(|_, named| named != digest);
@@ -179,7 +179,7 @@ impl ManifestTable {
     }
 
     /// Adds a manifest and its tags that were removed. A tag that names another manifest by now stays as it is.
-    pub fn restore(&self, repo: &str, digest: &str, facts: Facts, since: u64, tags: Vec<String>) {
+    pub(crate) fn restore(&self, repo: &str, digest: &str, facts: Facts, since: u64, tags: Vec<String>) {
         self.put(repo, digest, facts, None, since);
         self.with(repo, |repo| {
             for tag in tags {
@@ -189,24 +189,24 @@ impl ManifestTable {
     }
 
     /// Returns whether a manifest is known, marked or not.
-    pub fn is_known(&self, repo: &str, digest: &str) -> bool {
+    pub(crate) fn is_known(&self, repo: &str, digest: &str) -> bool {
         self.with(repo, |repo| repo.manifests.contains_key(digest)).unwrap_or(false)
     }
 
     /// Returns how many of these manifests a repository does not have.
-    pub fn count_missing(&self, repo: &str, digests: &[String]) -> usize {
+    pub(crate) fn count_missing(&self, repo: &str, digests: &[String]) -> usize {
         let count = |repo: &mut Repository| digests.iter().filter(|digest| repo.manifest(digest).is_none()).count();
         self.with(repo, count).unwrap_or(digests.len())
     }
 
     /// Returns the facts of a manifest, marked or not, and since when it is held as it is.
-    pub fn any_facts(&self, repo: &str, digest: &str) -> Option<(Facts, u64)> {
+    pub(crate) fn any_facts(&self, repo: &str, digest: &str) -> Option<(Facts, u64)> {
         let find = |repo: &mut Repository| repo.manifests.get(digest).map(|manifest| (manifest.facts.clone(), manifest.since));
         self.with(repo, find).flatten()
     }
 
     /// Marks a manifest before it is deleted. Fails if it is not to be deleted on this condition.
-    pub fn begin_removal(&self, repo: &str, digest: &str, removal: Removal) -> Result<(), Kept> {
+    pub(super) fn begin_removal(&self, repo: &str, digest: &str, removal: Removal) -> Result<(), Kept> {
         let begin = |repo: &mut Repository| {
             repo.check_removal(digest, removal)?;
             if let Some(manifest) = repo.manifests.get_mut(digest) {
@@ -218,7 +218,7 @@ impl ManifestTable {
     }
 
     /// Removes the mark of a manifest.
-    pub fn end_removal(&self, repo: &str, digest: &str) {
+    pub(super) fn end_removal(&self, repo: &str, digest: &str) {
         self.with(repo, |repo| {
             if let Some(manifest) = repo.manifests.get_mut(digest) {
                 manifest.is_leaving = false;
@@ -227,13 +227,13 @@ impl ManifestTable {
     }
 
     /// Removes a manifest that the store has deleted, and its tags.
-    pub fn remove_manifest(&self, repo: &str, digest: &str, now: u64) {
+    pub(crate) fn remove_manifest(&self, repo: &str, digest: &str, now: u64) {
         self.with(repo, |repo| repo.remove(digest, now));
     }
 
     /// Notes that a client asked for a manifest by its digest, and so may be about to push something that holds it. Returns
     /// whether the database is to be told: the time that it has is an hour old.
-    pub fn touch(&self, repo: &str, digest: &str, now: u64) -> bool {
+    pub(super) fn touch(&self, repo: &str, digest: &str, now: u64) -> bool {
         let touch = |repo: &mut Repository| {
             repo.manifests.get_mut(digest).map_or(false, |manifest| {
                 manifest.since = now;

@@ -10,13 +10,13 @@ use std::ops::Deref;
 use std::sync::Arc;
 
 /// The tags, and the writer of the database if there is one. What is read is in this process.
-pub struct Manifests {
+pub(crate) struct Manifests {
     table: Arc<ManifestTable>,
     writer: Option<Arc<Writer>>,
 }
 
 /// The tags of a manifest that is being deleted.
-pub struct RemovedTags(Vec<String>);
+pub(crate) struct RemovedTags(Vec<String>);
 
 impl Deref for Manifests {
     type Target = ManifestTable;
@@ -27,17 +27,17 @@ impl Deref for Manifests {
 }
 
 impl Manifests {
-    pub fn new(table: Arc<ManifestTable>, writer: Option<Arc<Writer>>) -> Manifests {
+    pub(crate) fn new(table: Arc<ManifestTable>, writer: Option<Arc<Writer>>) -> Manifests {
         Manifests { table, writer }
     }
 
     /// Returns whether the manifests and tags survive the end of this program.
-    pub fn is_kept(&self) -> bool {
+    pub(crate) fn is_kept(&self) -> bool {
         self.writer.is_some()
     }
 
     /// Adds a manifest that the store accepted, and its tag if it was put under one.
-    pub async fn put(&self, repo: &str, digest: &str, facts: Facts, tag: Option<&str>) -> Result<(), WriteFailure> {
+    pub(crate) async fn put(&self, repo: &str, digest: &str, facts: Facts, tag: Option<&str>) -> Result<(), WriteFailure> {
         let writer = match &self.writer {
             Some(writer) => writer,
             None => {
@@ -51,21 +51,21 @@ impl Manifests {
     }
 
     /// Notes that a client asked for a manifest by its digest.
-    pub fn touch(&self, repo: &str, digest: &str) {
+    pub(crate) fn touch(&self, repo: &str, digest: &str) {
         if let (true, Some(writer)) = (self.table.touch(repo, digest, now()), &self.writer) {
             writer.note(Change::TouchManifest { repo: repo.to_string(), digest: digest.to_string() });
         }
     }
 
     /// Records the time, by which the ages of manifests count.
-    pub fn record_time(&self) {
+    pub(crate) fn record_time(&self) {
         if let Some(writer) = &self.writer {
             writer.note(Change::KeepTime);
         }
     }
 
     /// Removes a tag. Returns whether it was there.
-    pub async fn remove_tag(&self, repo: &str, tag: &str) -> Result<bool, WriteFailure> {
+    pub(crate) async fn remove_tag(&self, repo: &str, tag: &str) -> Result<bool, WriteFailure> {
         let writer = match &self.writer {
             Some(writer) if self.table.by_tag(repo, tag).is_some() => writer,
             _ => return Ok(self.table.remove_tag(repo, tag, now())),
@@ -77,7 +77,7 @@ impl Manifests {
     /// Marks a manifest that the store is going to be asked to delete. With a database, it and its tags are removed there
     /// before the store deletes it, so that no tag names a missing manifest after a crash. Fails if it is not to be deleted
     /// on this condition.
-    pub async fn begin_removal(
+    pub(crate) async fn begin_removal(
         &self,
         repo: &str,
         digest: &str,
@@ -103,7 +103,7 @@ impl Manifests {
     }
 
     /// Shows a manifest and its tags again that the store did not delete. A tag that names another manifest by now stays.
-    pub async fn undo_removal(&self, repo: &str, digest: &str, tags: RemovedTags) -> Result<(), WriteFailure> {
+    pub(crate) async fn undo_removal(&self, repo: &str, digest: &str, tags: RemovedTags) -> Result<(), WriteFailure> {
         if let (Some(writer), Some((facts, since))) = (&self.writer, self.table.any_facts(repo, digest)) {
             let (repo, digest) = (repo.to_string(), digest.to_string());
             writer.write(Change::RestoreManifest { repo, digest, facts, since, tags: tags.0 }).await?;

@@ -8,17 +8,17 @@ const IMAGE_TYPES: [&str; 2] =
     ["application/vnd.oci.image.manifest.v1+json", "application/vnd.docker.distribution.manifest.v2+json"];
 
 /// The standard's media type of an image index.
-pub const INDEX_TYPE: &str = "application/vnd.oci.image.index.v1+json";
+pub(crate) const INDEX_TYPE: &str = "application/vnd.oci.image.index.v1+json";
 
 /// The media types of an image index, the standard's first.
 const INDEX_TYPES: [&str; 2] = [INDEX_TYPE, "application/vnd.docker.distribution.manifest.list.v2+json"];
 
 /// The media type of a manifest.
 #[derive(Debug, PartialEq, Eq)]
-pub struct MediaType {
-    pub text: String,
+pub(crate) struct MediaType {
+    pub(crate) text: String,
     /// Whether the header or the document has it. Otherwise it is the standard's media type for the document's form.
-    pub is_given: bool,
+    pub(crate) is_given: bool,
 }
 
 /// Returns the media type of a manifest that was sent with a header `Content-Type`, if any.
@@ -28,7 +28,7 @@ pub struct MediaType {
 /// - The header and the document have different media types.
 /// - A media type is malformed or has more than 255 bytes.
 /// - The media type is that of an image manifest and the document is an index, or the other way round.
-pub fn media_type_of(header: Option<&str>, document: &Document) -> Result<MediaType, Fault> {
+pub(crate) fn media_type_of(header: Option<&str>, document: &Document) -> Result<MediaType, Fault> {
     let given = header.map(without_parameters).filter(|text| !text.is_empty());
     let known = if document.is_index { INDEX_TYPES[0] } else { IMAGE_TYPES[0] };
     let is_given = given.is_some() || document.media_type.is_some();
@@ -58,7 +58,7 @@ pub fn media_type_of(header: Option<&str>, document: &Document) -> Result<MediaT
 /// # Errors
 ///
 /// Fails with any other media type.
-pub fn check_inert(text: &str) -> Result<(), Fault> {
+pub(crate) fn check_inert(text: &str) -> Result<(), Fault> {
     let text = text.to_ascii_lowercase();
     let is_active = |subtype: &str| {
         subtype == "xml" || subtype.starts_with("xml-") || subtype.ends_with("+xml") || subtype.ends_with("script")

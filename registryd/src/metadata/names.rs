@@ -4,12 +4,12 @@
 const MAX_NAME: usize = 255;
 
 /// Returns whether a text is a repository's name (OCI Distribution Specification 1.1, "Pulling manifests").
-pub fn is_repository(text: &str) -> bool {
+pub(crate) fn is_repository(text: &str) -> bool {
     text.len() <= MAX_NAME && text.split('/').all(is_component)
 }
 
 /// Returns whether a text is one component of a repository's name (OCI Distribution Specification 1.1, "Pulling manifests").
-pub fn is_component(text: &str) -> bool {
+pub(crate) fn is_component(text: &str) -> bool {
     let is_letter = |byte: u8| byte.is_ascii_lowercase() || byte.is_ascii_digit();
     let bytes = text.as_bytes();
     let has_ends = bytes.first().map_or(false, |byte| is_letter(*byte)) && bytes.last().map_or(false, |byte| is_letter(*byte));
@@ -19,12 +19,12 @@ pub fn is_component(text: &str) -> bool {
 }
 
 /// Returns the tenant of a repository.
-pub fn tenant_of(repo: &str) -> &str {
+pub(crate) fn tenant_of(repo: &str) -> &str {
     repo.split('/').next().unwrap_or(repo)
 }
 
 /// Returns whether a text is a tag (OCI Distribution Specification 1.1, "Pulling manifests").
-pub fn is_tag(text: &str) -> bool {
+pub(crate) fn is_tag(text: &str) -> bool {
     let is_word = |byte: u8| byte.is_ascii_alphanumeric() || byte == b'_';
     let bytes = text.as_bytes();
     (1..=128).contains(&bytes.len())

@@ -14,9 +14,9 @@ use uuid::Uuid;
 
 /// An upload: its repository, its session, its length, and its use.
 #[derive(Clone, Debug, PartialEq, Eq)]
-pub struct Upload {
-    pub repo: String,
-    pub session: u32,
+pub(crate) struct Upload {
+    pub(crate) repo: String,
+    pub(crate) session: u32,
     length: Length,
     /// The time at which its last request ended, or it was opened.
     used: Instant,
@@ -41,37 +41,37 @@ struct Length {
 
 /// The times after which unused uploads are abandoned.
 #[derive(Clone, Copy, Debug)]
-pub struct UploadTimeouts {
+pub(crate) struct UploadTimeouts {
     /// The time for an upload with bytes.
-    pub begun: Duration,
+    pub(crate) begun: Duration,
     /// The time for an upload without bytes.
-    pub empty: Duration,
+    pub(crate) empty: Duration,
 }
 
 impl UploadTimeouts {
     /// Returns the shorter of both times.
-    pub fn least(&self) -> Duration {
+    pub(crate) fn least(&self) -> Duration {
         self.begun.min(self.empty)
     }
 }
 
 /// The open uploads.
-pub struct OpenUploads {
+pub(crate) struct OpenUploads {
     secret: Secret,
     writer: Option<Arc<Writer>>,
     by_name: Mutex<HashMap<Uuid, Upload>>,
 }
 
 /// An upload that a request is using. It is not abandoned before this is dropped.
-pub struct UploadInUse<'u> {
+pub(crate) struct UploadInUse<'u> {
     uploads: &'u OpenUploads,
-    pub name: Uuid,
-    pub session: u32,
+    pub(crate) name: Uuid,
+    pub(crate) session: u32,
 }
 
 /// A request that is appending to an upload, until this is dropped.
-pub struct AppendingRequest<'u> {
-    pub upload: UploadInUse<'u>,
+pub(crate) struct AppendingRequest<'u> {
+    pub(crate) upload: UploadInUse<'u>,
     length: Option<u64>,
 }
 
@@ -113,12 +113,12 @@ impl Upload {
 
 impl OpenUploads {
     /// Makes a table whose names are made with a secret.
-    pub fn new(secret: Secret, writer: Option<Arc<Writer>>) -> OpenUploads {
+    pub(crate) fn new(secret: Secret, writer: Option<Arc<Writer>>) -> OpenUploads {
         OpenUploads { secret, writer, by_name: Mutex::default() }
     }
 
     /// Adds an upload that was opened, and returns its name. It does not count as one that stays open.
-    pub fn add(&self, repo: &str, session: u32) -> Uuid {
+    pub(crate) fn add(&self, repo: &str, session: u32) -> Uuid {
         if let Some(writer) = &self.writer {
             writer.note(Change::OpenUpload { repo: repo.to_string(), number: session });
         }
@@ -126,7 +126,7 @@ impl OpenUploads {
     }
 
     /// Adds an upload that was opened before a restart, and returns its name. It counts as used now.
-    pub fn add_known(&self, repo: &str, session: u32, received: u64) -> Uuid {
+    pub(crate) fn add_known(&self, repo: &str, session: u32, received: u64) -> Uuid {
         self.insert(Upload { is_lasting: true, ..Upload::of(repo, session, received) })
     }
 
@@ -137,7 +137,7 @@ impl OpenUploads {
     }
 
     /// Lets an upload stay open for a later request, unless its tenant has the maximum number of them. Returns whether it stays.
-    pub fn keep_open(&self, name: &Uuid) -> bool {
+    pub(crate) fn keep_open(&self, name: &Uuid) -> bool {
         let mut uploads = guard_of(self.by_name.lock());
         let has_room = uploads.get(name).map_or(false, |upload| has_room(&uploads, tenant_of(&upload.repo)));
         match uploads.get_mut(name).filter(|_| has_room) {
@@ -150,12 +150,12 @@ impl OpenUploads {
     }
 
     /// Returns whether a tenant has less than the maximum number of uploads that stay open.
-    pub fn have_room(&self, tenant: &str) -> bool {
+    pub(crate) fn have_room(&self, tenant: &str) -> bool {
         has_room(&*guard_of(self.by_name.lock()), tenant)
     }
 
     /// Begins to use an upload of a repository.
-    pub fn enter(&self, repo: &str, name: Uuid) -> Result<UploadInUse<'_>, Fault> {
+    pub(crate) fn enter(&self, repo: &str, name: Uuid) -> Result<UploadInUse<'_>, Fault> {
         // Names are compared in constant time before they are looked up.
         self.secret.session(repo, &name).ok_or_else(Fault::upload_unknown)?;
         match guard_of(self.by_name.lock()).get_mut(&name) {
@@ -168,7 +168,7 @@ impl OpenUploads {
     }
 
     /// Removes an upload that has ended.
-    pub fn remove(&self, name: &Uuid) {
+    pub(crate) fn remove(&self, name: &Uuid) {
         let removed = guard_of(self.by_name.lock()).remove(name);
         if let Some(upload) = removed {
             self.forget(upload);
@@ -176,32 +176,32 @@ impl OpenUploads {
     }
 
     /// Removes the row of an upload that was removed here and has ended.
-    pub fn forget(&self, upload: Upload) {
+    pub(crate) fn forget(&self, upload: Upload) {
         if let Some(writer) = &self.writer {
             writer.note(Change::EndUpload { repo: upload.repo, number: upload.session });
         }
     }
 
-    pub fn len(&self) -> usize {
+    pub(crate) fn len(&self) -> usize {
         guard_of(self.by_name.lock()).len()
     }
 
     /// Returns the names of the uploads to abandon.
-    pub fn unused(&self, patience: UploadTimeouts) -> Vec<Uuid> {
+    pub(crate) fn unused(&self, patience: UploadTimeouts) -> Vec<Uuid> {
         let uploads = guard_of(self.by_name.lock());
         let unused = uploads.iter().filter(|(_, upload)| upload.is_unused(patience));
         unused.map(|(name, _)| *name).collect()
     }
 
     /// Removes an upload if it is still unused.
-    pub fn take_unused(&self, name: &Uuid, patience: UploadTimeouts) -> Option<Upload> {
+    pub(crate) fn take_unused(&self, name: &Uuid, patience: UploadTimeouts) -> Option<Upload> {
         let mut uploads = guard_of(self.by_name.lock());
         uploads.get(name).filter(|upload| upload.is_unused(patience))?;
         uploads.remove(name)
     }
 
     /// Puts back an upload that the store could not abandon. It counts as used now.
-    pub fn put_back(&self, name: Uuid, upload: Upload) {
+    pub(crate) fn put_back(&self, name: Uuid, upload: Upload) {
         guard_of(self.by_name.lock()).insert(name, Upload { used: Instant::now(), ..upload });
     }
 }
@@ -213,7 +213,7 @@ fn has_room(uploads: &HashMap<Uuid, Upload>, tenant: &str) -> bool {
 
 impl<'u> UploadInUse<'u> {
     /// Begins to append to it.
-    pub fn add(self) -> AppendingRequest<'u> {
+    pub(crate) fn add(self) -> AppendingRequest<'u> {
         let mut uploads = guard_of(self.uploads.by_name.lock());
         let length = uploads.get_mut(&self.name).and_then(|upload| upload.length.begin());
         drop(uploads);
@@ -221,7 +221,7 @@ impl<'u> UploadInUse<'u> {
     }
 
     /// Notes that a client sent a byte of it.
-    pub fn begin(&self) {
+    pub(crate) fn begin(&self) {
         if let Some(upload) = guard_of(self.uploads.by_name.lock()).get_mut(&self.name) {
             upload.is_begun = true;
         }
@@ -230,17 +230,17 @@ impl<'u> UploadInUse<'u> {
 
 impl AppendingRequest<'_> {
     /// Returns the upload's length, if it is known. The store decides: it rejects bytes at any other offset.
-    pub fn length(&self) -> Option<u64> {
+    pub(crate) fn length(&self) -> Option<u64> {
         self.length
     }
 
     /// Notes that bytes are sent to the store. The length is unknown until the store has accepted all of them.
-    pub fn send(&mut self) {
+    pub(crate) fn send(&mut self) {
         self.length = None;
     }
 
     /// Notes that the store accepted all bytes sent, and returned the length.
-    pub fn accepted(&mut self, length: u64) {
+    pub(crate) fn accepted(&mut self, length: u64) {
         self.length = Some(length);
     }
 }

@@ -4,7 +4,7 @@ use std::collections::HashMap;
 
 /// The manifests that are being pushed, and the tags under which they are pushed.
 #[derive(Default)]
-pub struct Pushes {
+pub(super) struct Pushes {
     /// For each manifest, its size, and the number of its pushes.
     manifests: HashMap<String, (u64, usize)>,
     /// For each tag, the number of pushes under it.
@@ -13,7 +13,7 @@ pub struct Pushes {
 
 impl Pushes {
     /// Adds a push of a manifest of `size` bytes, and of its tag if it is pushed under one.
-    pub fn begin(&mut self, (digest, size): (&str, u64), tag: Option<&str>) {
+    pub(super) fn begin(&mut self, (digest, size): (&str, u64), tag: Option<&str>) {
         self.manifests.entry(digest.to_string()).or_insert((size, 0)).1 += 1;
         if let Some(tag) = tag {
             *self.tags.entry(tag.to_string()).or_default() += 1;
@@ -21,7 +21,7 @@ impl Pushes {
     }
 
     /// Removes a push that has ended.
-    pub fn end(&mut self, digest: &str, tag: Option<&str>) {
+    pub(super) fn end(&mut self, digest: &str, tag: Option<&str>) {
         if let Some((_, count)) = self.manifests.get_mut(digest) {
             *count -= 1;
         }
@@ -33,27 +33,27 @@ impl Pushes {
     }
 
     /// Returns whether no push is in progress.
-    pub fn is_empty(&self) -> bool {
+    pub(super) fn is_empty(&self) -> bool {
         self.manifests.is_empty() && self.tags.is_empty()
     }
 
     /// Returns the manifests, each once, with their sizes in bytes.
-    pub fn manifests(&self) -> impl Iterator<Item = (&String, u64)> + Clone {
+    pub(super) fn manifests(&self) -> impl Iterator<Item = (&String, u64)> + Clone {
         self.manifests.iter().map(|(digest, (size, _))| (digest, *size))
     }
 
     /// Returns the tags, each once.
-    pub fn tags(&self) -> impl Iterator<Item = &String> {
+    pub(super) fn tags(&self) -> impl Iterator<Item = &String> {
         self.tags.keys()
     }
 
     /// Returns whether a manifest is being pushed.
-    pub fn has_manifest(&self, digest: &str) -> bool {
+    pub(super) fn has_manifest(&self, digest: &str) -> bool {
         self.manifests.contains_key(digest)
     }
 
     /// Returns whether a manifest is being pushed under a tag.
-    pub fn has_tag(&self, tag: &str) -> bool {
+    pub(super) fn has_tag(&self, tag: &str) -> bool {
         self.tags.contains_key(tag)
     }
 }

@@ -16,7 +16,7 @@ use std::sync::{Arc, Mutex};
 /// not may stay here after a crash, a late reply, or a delete during the mount that created it. It is removed here
 /// after the next delete in it, or at the next start.
 #[derive(Default)]
-pub struct Repositories {
+pub(crate) struct Repositories {
     table: Mutex<Table>,
     writer: Option<Arc<Writer>>,
     /// The repositories that requests in progress may create or remove.
@@ -43,20 +43,20 @@ struct Changing {
 
 /// A request that may create or remove a repository. After the last one the record of the repository is removed, if the
 /// repository is not there.
-pub struct ChangingRequest<'r> {
+pub(crate) struct ChangingRequest<'r> {
     repositories: &'r Repositories,
     repo: &'r str,
     is_recorded: bool,
 }
 
 /// A request that may open an upload, and so create a repository. The repository is added if the outcome is unknown.
-pub struct Entering<'r> {
+pub(crate) struct Entering<'r> {
     request: ChangingRequest<'r>,
     is_settled: bool,
 }
 
 /// A request that may remove a repository.
-pub struct Removing<'r> {
+pub(crate) struct Removing<'r> {
     request: ChangingRequest<'r>,
     /// The number of the repository's last addition before the store is asked.
     addition: Option<u64>,
@@ -64,19 +64,19 @@ pub struct Removing<'r> {
 
 impl Repositories {
     /// Makes the table of a registry with a database.
-    pub fn recorded_by(writer: Option<Arc<Writer>>) -> Repositories {
+    pub(crate) fn recorded_by(writer: Option<Arc<Writer>>) -> Repositories {
         Repositories { writer, ..Repositories::default() }
     }
 
     /// Begins a request that may create or remove a repository.
-    pub fn begin_change<'r>(&'r self, repo: &'r str) -> ChangingRequest<'r> {
+    pub(crate) fn begin_change<'r>(&'r self, repo: &'r str) -> ChangingRequest<'r> {
         guard_of(self.changing.lock()).entry(repo.to_string()).or_default().requests += 1;
         // A repository that is here after the request is counted keeps its record until the request ends.
         ChangingRequest { repositories: self, repo, is_recorded: self.has(repo) }
     }
 
     /// Begins a request that may open an upload. With a database, the repository is recorded when this returns.
-    pub async fn enter<'r>(&'r self, repo: &'r str) -> Result<Entering<'r>, WriteFailure> {
+    pub(crate) async fn enter<'r>(&'r self, repo: &'r str) -> Result<Entering<'r>, WriteFailure> {
         let mut entering = Entering { request: self.begin_change(repo), is_settled: false };
         if let Some(writer) = self.writer.as_ref().filter(|_| !entering.request.is_recorded) {
             entering.request.is_recorded = true;
@@ -89,17 +89,17 @@ impl Repositories {
     }
 
     /// Begins a request that may remove a repository, before the store is asked.
-    pub fn begin_removal<'r>(&'r self, repo: &'r str) -> Removing<'r> {
+    pub(crate) fn begin_removal<'r>(&'r self, repo: &'r str) -> Removing<'r> {
         Removing { request: self.begin_change(repo), addition: self.addition(repo) }
     }
 
     /// Returns whether the numbers of a tenant's uploads have to be found before one is opened.
-    pub fn wants_number(&self, tenant: &str) -> bool {
+    pub(crate) fn wants_number(&self, tenant: &str) -> bool {
         self.writer.is_some() && !guard_of(self.numbered.lock()).contains(tenant)
     }
 
     /// Records that the store used all numbers of a repository's tenant up to this one.
-    pub async fn begin_numbers(&self, repo: &str, number: u32) -> Result<(), WriteFailure> {
+    pub(crate) async fn begin_numbers(&self, repo: &str, number: u32) -> Result<(), WriteFailure> {
         if let Some(writer) = &self.writer {
             writer.write(Change::BeginUploads { repo: repo.to_string(), number }).await?;
             self.set_numbered(tenant_of(repo));
@@ -108,12 +108,12 @@ impl Repositories {
     }
 
     /// Notes that the database has a number of a tenant.
-    pub fn set_numbered(&self, tenant: &str) {
+    pub(crate) fn set_numbered(&self, tenant: &str) {
         guard_of(self.numbered.lock()).insert(tenant.to_string());
     }
 
     /// Returns whether repositories are recorded in a database.
-    pub fn are_recorded(&self) -> bool {
+    pub(crate) fn are_recorded(&self) -> bool {
         self.writer.is_some()
     }
 
@@ -128,12 +128,12 @@ impl Repositories {
     }
 
     /// Returns the number of repositories of a tenant.
-    pub fn count(&self, tenant: &str) -> usize {
+    pub(crate) fn count(&self, tenant: &str) -> usize {
         guard_of(self.table.lock()).by_tenant.get(tenant).map_or(0, HashMap::len)
     }
 
     /// Returns the first repositories of a tenant after `last` in order, at most `most`, and whether more follow.
-    pub fn page(&self, tenant: &str, last: &str, most: usize) -> (Vec<String>, bool) {
+    pub(crate) fn page(&self, tenant: &str, last: &str, most: usize) -> (Vec<String>, bool) {
         let table = guard_of(self.table.lock());
         let repos = table.by_tenant.get(tenant).into_iter().flat_map(HashMap::keys);
         let mut names: Vec<String> = repos.filter(|repo| repo.as_str() > last).cloned().collect();
@@ -144,7 +144,7 @@ impl Repositories {
     }
 
     /// Adds a repository after the store accepted a call that may have created it. With a database, it has to be recorded.
-    pub fn add(&self, repo: &str) {
+    pub(crate) fn add(&self, repo: &str) {
         let mut table = guard_of(self.table.lock());
         table.last += 1;
         let number = table.last;
@@ -159,7 +159,7 @@ impl Repositories {
 
     /// Returns the limit that a call on a repository has reached. This is `Repositories` if the repository is new and its
     /// tenant has the maximum number, and `own` otherwise.
-    pub fn reached(&self, repo: &str, own: Limit) -> Limit {
+    pub(crate) fn reached(&self, repo: &str, own: Limit) -> Limit {
         match guard_of(self.table.lock()).by_tenant.get(tenant_of(repo)) {
             Some(repos) if repos.len() >= MAX_REPOSITORIES && !repos.contains_key(repo) => Limit::Repositories,
             _ => own,
@@ -169,7 +169,7 @@ impl Repositories {
 
 impl Entering<'_> {
     /// Notes that the outcome is known: the store refused the request, or the repository is added.
-    pub fn settle(&mut self) {
+    pub(crate) fn settle(&mut self) {
         self.is_settled = true;
     }
 }
@@ -185,7 +185,7 @@ impl Drop for Entering<'_> {
 impl Removing<'_> {
     /// Removes the repository here after the store replied that it no longer has it. It stays if it was added since the
     /// store was asked: it may have been created again.
-    pub fn removed(self) {
+    pub(crate) fn removed(self) {
         let ChangingRequest { repositories, repo, .. } = self.request;
         let mut table = guard_of(repositories.table.lock());
         if let Some(repos) = table.by_tenant.get_mut(tenant_of(repo)) {

@@ -8,43 +8,43 @@ use crate::metadata::reverse_references::ReverseReferences;
 use std::collections::{BTreeMap, HashMap, HashSet};
 
 /// A manifest of the store.
-pub struct Manifest {
-    pub facts: Facts,
+pub(super) struct Manifest {
+    pub(super) facts: Facts,
     /// The last time at which it was pushed, asked for by its digest, or something ceased to hold it, in seconds since 1970.
-    pub since: u64,
+    pub(super) since: u64,
     /// The part of this time that the database has.
-    pub recorded: u64,
+    pub(super) recorded: u64,
     /// Whether the manifest is marked: the store is being asked to delete it.
-    pub is_leaving: bool,
+    pub(super) is_leaving: bool,
 }
 
 /// A repository's tags and manifests.
 #[derive(Default)]
-pub struct Repository {
+pub(super) struct Repository {
     /// For each tag, the digest of its manifest.
-    pub tags: BTreeMap<String, String>,
+    pub(super) tags: BTreeMap<String, String>,
     /// The manifests by digest.
-    pub manifests: HashMap<String, Manifest>,
+    pub(super) manifests: HashMap<String, Manifest>,
     /// The indexes that list a manifest, marked or not.
     listed: ReverseReferences,
     /// The manifests whose subject is a manifest, marked or not.
     referrers: ReverseReferences,
     /// The sum of the manifests' sizes, in bytes.
     bytes: u64,
-    pub pushes: Pushes,
+    pub(super) pushes: Pushes,
 }
 
 /// The manifest that a reference names.
 #[derive(Clone, Debug, PartialEq, Eq)]
-pub struct NamedManifest {
-    pub digest: String,
-    pub media_type: String,
-    pub size: u64,
+pub(crate) struct NamedManifest {
+    pub(crate) digest: String,
+    pub(crate) media_type: String,
+    pub(crate) size: u64,
 }
 
 /// The condition on which a manifest is deleted.
 #[derive(Clone, Copy, Debug)]
-pub enum Removal {
+pub(crate) enum Removal {
     /// No index lists it: a client asked for the delete.
     Asked,
     /// None: a client asked for the delete, and may delete what an index lists.
@@ -55,7 +55,7 @@ pub enum Removal {
 
 /// The reason why a manifest is not deleted.
 #[derive(Debug, PartialEq, Eq)]
-pub enum Kept {
+pub(crate) enum Kept {
     /// An index lists it.
     ListedBy(String),
     /// Something else holds it, or did not long ago.
@@ -64,28 +64,28 @@ pub enum Kept {
 
 impl Repository {
     /// Returns the manifest of a digest, unless it is marked.
-    pub fn manifest(&self, digest: &str) -> Option<&Manifest> {
+    pub(super) fn manifest(&self, digest: &str) -> Option<&Manifest> {
         self.manifests.get(digest).filter(|manifest| !manifest.is_leaving)
     }
 
-    pub fn named(&self, digest: &str) -> Option<NamedManifest> {
+    pub(super) fn named(&self, digest: &str) -> Option<NamedManifest> {
         let manifest = self.manifest(digest)?;
         let Facts { media_type, size, .. } = &manifest.facts;
         Some(NamedManifest { digest: digest.to_string(), media_type: media_type.clone(), size: *size })
     }
 
     /// Returns whether it has no manifest and no tag, and none is being pushed.
-    pub fn is_empty(&self) -> bool {
+    pub(super) fn is_empty(&self) -> bool {
         self.manifests.is_empty() && self.tags.is_empty() && self.pushes.is_empty()
     }
 
     /// Returns whether it has a manifest that is not marked.
-    pub fn is_visible(&self) -> bool {
+    pub(super) fn is_visible(&self) -> bool {
         self.manifests.values().any(|manifest| !manifest.is_leaving)
     }
 
     /// Returns the totals of its manifests and tags, with those that are being pushed.
-    pub fn totals(&self) -> Totals {
+    pub(super) fn totals(&self) -> Totals {
         let new = self.pushes.manifests().filter(|(digest, _)| !self.manifests.contains_key(*digest));
         let new_tags = self.pushes.tags().filter(|tag| !self.tags.contains_key(*tag));
         Totals {
@@ -97,7 +97,7 @@ impl Repository {
 
     /// Returns the least totals that a push adds whose content is not read yet. They have no manifest if the repository may have
     /// it already: by its digest, or by its length if it is pushed under a tag.
-    pub fn least_added(&self, reference: &str, len: Option<u64>) -> Totals {
+    pub(super) fn least_added(&self, reference: &str, len: Option<u64>) -> Totals {
         let is_digest = !is_tag(reference);
         let sizes = self.manifests.values().map(|manifest| manifest.facts.size);
         let mut all_sizes = sizes.chain(self.pushes.manifests().map(|(_, size)| size));
@@ -112,7 +112,7 @@ impl Repository {
     }
 
     /// Adds a manifest, or replaces its facts and shows it.
-    pub fn put(&mut self, digest: &str, facts: Facts, now: u64) {
+    pub(super) fn put(&mut self, digest: &str, facts: Facts, now: u64) {
         self.take(digest);
         self.bytes += facts.size;
         facts.lists.iter().for_each(|named| self.listed.add(named, digest));
@@ -130,20 +130,20 @@ impl Repository {
     }
 
     /// Returns the manifests after `last` in the order of their digests whose subject is a digest, with their facts.
-    pub fn referrers_after<'r>(&'r self, subject: &str, last: &str) -> impl Iterator<Item = (&'r String, &'r Facts)> {
+    pub(super) fn referrers_after<'r>(&'r self, subject: &str, last: &str) -> impl Iterator<Item = (&'r String, &'r Facts)> {
         let all = self.referrers.after(subject, last);
         all.filter_map(|digest| Some((digest, &self.manifest(digest)?.facts)))
     }
 
     /// Adds a tag, or moves it.
-    pub fn put_tag(&mut self, tag: &str, digest: &str, now: u64) {
+    pub(super) fn put_tag(&mut self, tag: &str, digest: &str, now: u64) {
         if let Some(before) = self.tags.insert(tag.to_string(), digest.to_string()) {
             self.release(&before, now);
         }
     }
 
     /// Removes a tag.
-    pub fn remove_tag(&mut self, tag: &str, now: u64) {
+    pub(super) fn remove_tag(&mut self, tag: &str, now: u64) {
         if let Some(digest) = self.tags.remove(tag) {
             self.release(&digest, now);
         }
@@ -157,18 +157,18 @@ impl Repository {
     }
 
     /// Returns what holds a manifest other than a tag: an index that lists it, or its subject.
-    pub fn holder(&self, digest: &str) -> Option<&String> {
+    pub(super) fn holder(&self, digest: &str) -> Option<&String> {
         let subject = self.manifests.get(digest).and_then(|manifest| manifest.facts.subject.as_ref());
         self.listed.first(digest).or_else(|| subject.filter(|subject| self.manifests.contains_key(*subject)))
     }
 
     /// Returns the digests that have a tag.
-    pub fn tagged(&self) -> HashSet<&String> {
+    pub(super) fn tagged(&self) -> HashSet<&String> {
         self.tags.values().collect()
     }
 
     /// Fails if a manifest is not to be deleted on a condition.
-    pub fn check_removal(&self, digest: &str, removal: Removal) -> Result<(), Kept> {
+    pub(super) fn check_removal(&self, digest: &str, removal: Removal) -> Result<(), Kept> {
         match removal {
             Removal::Asked => self.listed.first(digest).map_or(Ok(()), |index| Err(Kept::ListedBy(index.clone()))),
             Removal::AskedEvenIfListed => Ok(()),
@@ -187,7 +187,7 @@ impl Repository {
     }
 
     /// Removes a manifest and its tags. It ceases to hold what it lists, and what has it as subject.
-    pub fn remove(&mut self, digest: &str, now: u64) {
+    pub(super) fn remove(&mut self, digest: &str, now: u64) {
         let facts = match self.take(digest) {
             Some(facts) => facts,
             None => return,

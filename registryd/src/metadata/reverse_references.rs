@@ -5,18 +5,18 @@ use std::ops::Bound;
 
 /// For each digest, the manifests that name it.
 #[derive(Default)]
-pub struct ReverseReferences {
+pub(super) struct ReverseReferences {
     by_digest: HashMap<String, BTreeSet<String>>,
 }
 
 impl ReverseReferences {
     /// Notes that a manifest names a digest.
-    pub fn add(&mut self, named: &str, namer: &str) {
+    pub(super) fn add(&mut self, named: &str, namer: &str) {
         self.by_digest.entry(named.to_string()).or_default().insert(namer.to_string());
     }
 
     /// Removes a manifest that named a digest.
-    pub fn remove(&mut self, named: &str, namer: &str) {
+    pub(super) fn remove(&mut self, named: &str, namer: &str) {
         if let Some(namers) = self.by_digest.get_mut(named) {
             namers.remove(namer);
             if namers.is_empty() {
@@ -26,12 +26,12 @@ impl ReverseReferences {
     }
 
     /// Returns the first manifest that names a digest.
-    pub fn first(&self, named: &str) -> Option<&String> {
+    pub(super) fn first(&self, named: &str) -> Option<&String> {
         self.by_digest.get(named).and_then(|namers| namers.iter().next())
     }
 
     /// Returns the manifests after `last` that name a digest, in order.
-    pub fn after<'n>(&'n self, named: &str, last: &str) -> impl Iterator<Item = &'n String> {
+    pub(super) fn after<'n>(&'n self, named: &str, last: &str) -> impl Iterator<Item = &'n String> {
         let bounds = (Bound::Excluded(last), Bound::Unbounded);
         self.by_digest.get(named).map(|namers| namers.range::<str, _>(bounds)).into_iter().flatten()
     }

@@ -9,12 +9,12 @@ type Key = (String, String);
 
 /// The manifests that are being changed. Each has a lock that its writers take in turn.
 #[derive(Default)]
-pub struct Turns {
+pub(crate) struct Turns {
     by_key: Mutex<HashMap<Key, Arc<tokio::sync::Mutex<()>>>>,
 }
 
 /// A writer's turn, or its place in the queue. Dropping it ends the turn.
-pub struct Turn<'t> {
+pub(crate) struct Turn<'t> {
     turns: &'t Turns,
     key: Key,
     lock: Arc<tokio::sync::Mutex<()>>,
@@ -23,7 +23,7 @@ pub struct Turn<'t> {
 
 impl Turns {
     /// Waits until no other writer changes the manifest with this digest in this repository.
-    pub async fn take(&self, repo: &str, digest: &str) -> Turn<'_> {
+    pub(crate) async fn take(&self, repo: &str, digest: &str) -> Turn<'_> {
         let key = (repo.to_string(), digest.to_string());
         let lock = guard_of(self.by_key.lock()).entry(key.clone()).or_default().clone();
         let mut turn = Turn { turns: self, key, lock, guard: None };

@@ -9,18 +9,18 @@ use std::io::{self, Read};
 use uuid::Uuid;
 
 /// The length of the secret, in bytes.
-pub const SECRET_LEN: usize = 32;
+pub(crate) const SECRET_LEN: usize = 32;
 
 /// The bits of a UUID that its version and its variant fix (RFC 9562, 4.1, 4.2), and their values.
 const FIXED: (u128, u128) = (0xf << 76 | 3 << 62, 8 << 76 | 2 << 62);
 
 /// The key of the hash in the names of uploads.
 #[derive(Clone, Copy, PartialEq, Eq)]
-pub struct Secret(pub [u8; SECRET_LEN]);
+pub(crate) struct Secret(pub(crate) [u8; SECRET_LEN]);
 
 impl Secret {
     /// Makes a secret of random bytes.
-    pub fn random() -> io::Result<Secret> {
+    pub(crate) fn random() -> io::Result<Secret> {
         let mut bytes = [0; SECRET_LEN];
         File::open("/dev/urandom")?.read_exact(&mut bytes)?;
         Ok(Secret(bytes))
@@ -28,7 +28,7 @@ impl Secret {
 
     /// Returns the name of a session of a repository. Its first 32 bits are the number, and 90 of the others are a hash of the
     /// number and the repository.
-    pub fn name(&self, repo: &str, session: u32) -> Uuid {
+    pub(super) fn name(&self, repo: &str, session: u32) -> Uuid {
         let mut hash = Hmac::<Sha256>::new_from_slice(&self.0).expect("a key of any length is valid");
         hash.update(&session.to_be_bytes());
         hash.update(repo.as_bytes());
@@ -40,7 +40,7 @@ impl Secret {
 
     /// Returns the session that a name names in a repository, if this secret made the name. The time does not depend on the
     /// bits that differ, because they are compared as one number.
-    pub fn session(&self, repo: &str, name: &Uuid) -> Option<u32> {
+    pub(super) fn session(&self, repo: &str, name: &Uuid) -> Option<u32> {
         let session = (name.as_u128() >> 96) as u32;
         let difference = self.name(repo, session).as_u128() ^ name.as_u128();
         (difference == 0).then_some(session)

@@ -10,7 +10,7 @@ use tokio::time::timeout;
 const NOTHING_FREED_REST: Duration = Duration::from_millis(10);
 
 /// The requests for a sweep. One sweep serves all requests that were made before it began.
-pub struct SweepRequests {
+pub(crate) struct SweepRequests {
     asked: Notify,
     /// The number of sweeps that have begun.
     begun: AtomicU64,
@@ -26,7 +26,7 @@ impl Default for SweepRequests {
 
 impl SweepRequests {
     /// Waits until a sweep has ended that began after this call, at most for this time.
-    pub async fn wait(&self, limit: Duration) {
+    pub(crate) async fn wait(&self, limit: Duration) {
         let mut ended = self.ended.subscribe();
         let next = self.begun.load(Ordering::SeqCst) + 1;
         self.asked.notify_one();
@@ -60,7 +60,7 @@ impl SweepRequests {
 
 impl Registry {
     /// Sweeps the store at intervals, and for requests, until the store ends.
-    pub async fn sweep(&self, rest: Duration) {
+    pub(crate) async fn sweep(&self, rest: Duration) {
         while !self.store.has_ended() {
             self.sweep_requests.begin();
             let least = self.sweep_once().await;

@@ -19,23 +19,23 @@ const DAMAGED: u8 = 8;
 const NOT_WRITTEN: u8 = 9;
 
 /// The exit status for a log that needs other settings.
-pub const OTHER_SETTINGS: u8 = 10;
+pub(crate) const OTHER_SETTINGS: u8 = 10;
 
 /// A failure that ends the program: its exit status, and what is logged.
 #[derive(Debug)]
-pub struct Failure {
-    pub status: u8,
+pub(crate) struct Failure {
+    pub(crate) status: u8,
     text: String,
 }
 
 impl Failure {
     /// Makes a failure with the status 1.
-    pub fn new(text: impl Into<String>) -> Failure {
+    pub(crate) fn new(text: impl Into<String>) -> Failure {
         Failure { status: 1, text: text.into() }
     }
 
     /// `blobd` ended by itself. A status that it has for a folder is the status of this program too.
-    pub fn of_blobd(what: &str, ended: ExitStatus) -> Failure {
+    pub(crate) fn of_blobd(what: &str, ended: ExitStatus) -> Failure {
         let (status, advice) = match (ended.code(), ended.signal()) {
             (_, Some(_)) => (1, "start again"),
             (Some(5), _) => (1, "out of memory: give the store more, or lower --slots, --max-blob or the quotas"),
@@ -57,36 +57,36 @@ impl Failure {
     }
 
     /// A file of the folder cannot be used.
-    pub fn of_folder(what: &str, path: &Path, error: &io::Error) -> Failure {
+    pub(crate) fn of_folder(what: &str, path: &Path, error: &io::Error) -> Failure {
         let text = format!("{what}: {}: {error}: see to its rights and its disk", path.display());
         Failure { status: UNUSABLE, text }
     }
 
     /// Another process has the folder.
-    pub fn of_taken_folder() -> Failure {
+    pub(crate) fn of_taken_folder() -> Failure {
         Failure { status: TAKEN, text: "another process has the folder of --data: end that one".to_string() }
     }
 
     /// Something that was on the disk is lost.
-    pub fn of_loss(loss: &Loss) -> Failure {
+    pub(crate) fn of_loss(loss: &Loss) -> Failure {
         let advice = "restore what is missing from a backup, or accept the loss with --accept-loss";
         Failure { status: DAMAGED, text: format!("data that was on the disk is lost: {loss}: {advice}") }
     }
 
     /// A file that the programs have open is gone from its place.
-    pub fn of_gone(path: &Path) -> Failure {
+    pub(crate) fn of_gone(path: &Path) -> Failure {
         let text = format!("{} was removed, moved or replaced: put it back before the next start", path.display());
         Failure { status: NOT_WRITTEN, text }
     }
 
     /// The log could not be synced.
-    pub fn of_log(error: &io::Error) -> Failure {
+    pub(crate) fn of_log(error: &io::Error) -> Failure {
         let advice = "make room or replace the disk, and start again";
         Failure { status: NOT_WRITTEN, text: format!("the log cannot be synced: {error}: {advice}") }
     }
 
     /// A transaction of the database failed.
-    pub fn of_database(why: &str) -> Failure {
+    pub(crate) fn of_database(why: &str) -> Failure {
         let advice = "make room or replace the disk, and start again";
         Failure { status: NOT_WRITTEN, text: format!("the database cannot be written any more: {why}: {advice}") }
     }

@@ -5,14 +5,14 @@ use crate::store::client::StoreUnavailable;
 use hyper::StatusCode;
 
 /// The path whose reply is 200 as long as the program runs.
-pub const ALIVE: &str = "/livez";
+pub(crate) const ALIVE: &str = "/livez";
 
 /// The path whose reply is 200 if the store replies.
-pub const HEALTH: &str = "/healthz";
+pub(crate) const HEALTH: &str = "/healthz";
 
 impl Registry {
     /// Returns a response without content if the store replies.
-    pub async fn probe(&self, headers: &[(&str, &str)]) -> HandlerResult {
+    pub(crate) async fn probe(&self, headers: &[(&str, &str)]) -> HandlerResult {
         match self.store.replies().await {
             true => empty(StatusCode::OK, headers),
             false => Err(StoreUnavailable.into()),

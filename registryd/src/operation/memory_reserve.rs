@@ -23,13 +23,13 @@ static RESERVE: AtomicPtr<libc::c_void> = AtomicPtr::new(null_mut());
 static IS_SHORT: AtomicBool = AtomicBool::new(false);
 
 /// Returns whether requests have to end because the system is out of memory.
-pub fn is_short() -> bool {
+pub(crate) fn is_short() -> bool {
     IS_SHORT.load(Ordering::Relaxed)
 }
 
 /// Maps the reserve, and maps it again whenever it was released. Requests are served again after it is mapped, or after the
 /// allocator has the same number of free bytes.
-pub async fn keep_reserve() {
+pub(crate) async fn keep_reserve() {
     loop {
         if is_short() {
             tracing::error!("out of memory: requests with content fail for now");
@@ -70,7 +70,7 @@ fn put_reserve_aside() {
 
 /// The system's allocator with retries. If a small block is not available, it signals requests to end, releases the reserve,
 /// and asks again while they end. A long block fails at once.
-pub struct Reserving;
+pub(crate) struct Reserving;
 
 /// Retries the allocation of a small block.
 fn ask_again(size: usize, ask: impl Fn() -> *mut u8) -> *mut u8 {

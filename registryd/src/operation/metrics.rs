@@ -12,17 +12,17 @@ use std::sync::Arc;
 use std::time::Duration;
 
 /// The media type of the text that Prometheus reads.
-pub const CONTENT_TYPE: &str = "text/plain; version=0.0.4";
+pub(super) const CONTENT_TYPE: &str = "text/plain; version=0.0.4";
 
 /// The transactions of the database: their number, and the time of the last one.
 #[derive(Clone)]
-pub struct Commits {
+pub(crate) struct Commits {
     total: IntCounter,
     last: IntGauge,
 }
 
 impl Commits {
-    pub fn new() -> Commits {
+    pub(crate) fn new() -> Commits {
         let total = IntCounter::new("registryd_database_commits_total", "Transactions of the database of tags.");
         let help = "Time of the last transaction of the database of tags, in seconds since 1970.";
         let last = IntGauge::new("registryd_last_commit_timestamp_seconds", help);
@@ -30,12 +30,12 @@ impl Commits {
     }
 
     /// Returns the number of transactions.
-    pub fn total(&self) -> u64 {
+    pub(crate) fn total(&self) -> u64 {
         self.total.get()
     }
 
     /// Counts a transaction.
-    pub fn count(&self) {
+    pub(crate) fn count(&self) {
         self.total.inc();
         self.last.set(clock::time_of_day() as i64);
     }
@@ -69,7 +69,7 @@ impl Syncs {
 
 /// The counters and gauges. Clones share them.
 #[derive(Clone)]
-pub struct Metrics(Arc<Inner>);
+pub(crate) struct Metrics(Arc<Inner>);
 
 struct Inner {
     registry: Registry,
@@ -99,7 +99,7 @@ struct Inner {
 }
 
 impl Metrics {
-    pub fn new() -> Metrics {
+    pub(crate) fn new() -> Metrics {
         let registry = Registry::new();
         let counter = |name, help| IntCounter::new(name, help).expect("a counter's name");
         let gauge = |name, help| IntGauge::new(name, help).expect("a gauge's name");
@@ -157,7 +157,7 @@ impl Metrics {
     }
 
     /// Counts a request that was served.
-    pub fn count_request(&self, method: &Method, status: StatusCode, took: Duration) {
+    pub(crate) fn count_request(&self, method: &Method, status: StatusCode, took: Duration) {
         // A client may invent methods, and each label would be kept for ever.
         let method = match *method {
             Method::GET | Method::HEAD | Method::POST | Method::PUT | Method::PATCH | Method::DELETE => method.as_str(),
@@ -167,59 +167,59 @@ impl Metrics {
         self.0.seconds.with_label_values(&[method]).observe(took.as_secs_f64());
     }
 
-    pub fn received(&self, bytes: usize) {
+    pub(crate) fn received(&self, bytes: usize) {
         self.0.received.inc_by(bytes as u64);
     }
 
-    pub fn sent(&self, bytes: usize) {
+    pub(crate) fn sent(&self, bytes: usize) {
         self.0.sent.inc_by(bytes as u64);
     }
 
-    pub fn count_sweep(&self, swept: &SweepResult) {
+    pub(super) fn count_sweep(&self, swept: &SweepResult) {
         self.0.sweeps.inc();
         self.0.freed.inc_by(swept.freed);
         self.0.held.set(swept.held as i64);
     }
 
     /// Sets whether the store's program was proved.
-    pub fn set_verified(&self, is_verified: bool) {
+    pub(crate) fn set_verified(&self, is_verified: bool) {
         self.0.verified.set(i64::from(is_verified));
     }
 
     /// Returns the number of sweeps, of slots that they freed, and of slots that the last one did not free.
-    pub fn swept(&self) -> (u64, u64, i64) {
+    pub(super) fn swept(&self) -> (u64, u64, i64) {
         (self.0.sweeps.get(), self.0.freed.get(), self.0.held.get())
     }
 
     /// Returns whether a change is on the disk before its reply.
-    pub fn is_durable(&self) -> bool {
+    pub(super) fn is_durable(&self) -> bool {
         self.0.durable.get() != 0
     }
 
     /// Returns the number of the database's transactions, and the time of the last one in seconds since 1970.
-    pub fn committed(&self) -> (u64, Option<i64>) {
+    pub(super) fn committed(&self) -> (u64, Option<i64>) {
         let commits = &self.0.commits;
         (commits.total(), Some(commits.last.get()).filter(|time| *time != 0))
     }
 
     /// Notes how often the log was synced.
-    pub fn note_syncs(&self, count: u64) {
+    pub(super) fn note_syncs(&self, count: u64) {
         self.0.syncs.note(count);
     }
 
     /// Returns the number of syncs of the log, and the time at which it was last found to be greater, in seconds since 1970.
-    pub fn synced(&self) -> (u64, Option<i64>) {
+    pub(super) fn synced(&self) -> (u64, Option<i64>) {
         let syncs = &self.0.syncs;
         (syncs.total.get(), Some(syncs.last.get()).filter(|time| *time != 0))
     }
 
     /// Adds a metric. Each name is added once.
-    pub fn add(&self, metric: Box<dyn prometheus::core::Collector>) {
+    pub(crate) fn add(&self, metric: Box<dyn prometheus::core::Collector>) {
         self.0.registry.register(metric).expect("each name is registered once");
     }
 
     /// Adds the metrics of a folder, and returns the counter of the database's transactions.
-    pub fn add_folder(&self, is_durable: bool) -> Commits {
+    pub(crate) fn add_folder(&self, is_durable: bool) -> Commits {
         let Inner { registry, durable, log, live, database, free, reserve, commits, syncs, .. } = &*self.0;
         durable.set(i64::from(is_durable));
         let all: [Box<dyn prometheus::core::Collector>; 9] = [
@@ -240,7 +240,7 @@ impl Metrics {
     }
 
     /// Sets the metrics of the folder.
-    pub fn set_folder(&self, folder: &Folder) {
+    pub(super) fn set_folder(&self, folder: &Folder) {
         self.0.log.set(folder.log_bytes() as i64);
         self.0.database.set(folder.database_bytes() as i64);
         if let Some(free) = folder.room.free() {
@@ -250,7 +250,13 @@ impl Metrics {
     }
 
     /// Returns the text of all metrics. It asks the store for the free slots, and for each tenant's use, quota, blobs and share.
-    pub async fn text(&self, store: &Store, tenants: &[String], slots: u32, uploads: usize) -> Result<String, StoreUnavailable> {
+    pub(super) async fn text(
+        &self,
+        store: &Store,
+        tenants: &[String],
+        slots: u32,
+        uploads: usize,
+    ) -> Result<String, StoreUnavailable> {
         let Inner { registry, free_slots, used, quota, blobs, share, .. } = &*self.0;
         self.0.uploads.set(uploads as i64);
         self.0.slots.set(i64::from(slots));

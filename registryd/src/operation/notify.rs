@@ -9,7 +9,7 @@ use std::os::unix::net::UnixDatagram;
 use std::time::Duration;
 
 /// The variables of the protocol. They are for this process and not for the store.
-pub const VARIABLES: [&str; 3] = ["NOTIFY_SOCKET", "WATCHDOG_USEC", "WATCHDOG_PID"];
+pub(crate) const VARIABLES: [&str; 3] = ["NOTIFY_SOCKET", "WATCHDOG_USEC", "WATCHDOG_PID"];
 
 /// The pause between two notices of a start, and the time in which a start has to go on.
 const START_REST: Duration = Duration::from_secs(5);
@@ -53,14 +53,14 @@ fn watchdog_of(time: Option<String>, process: Option<String>) -> Option<Duration
 }
 
 /// Sends notices to the service manager, if there is one.
-pub struct Notifier {
+pub(crate) struct Notifier {
     socket: Option<(UnixDatagram, Address)>,
     watchdog: Option<Duration>,
 }
 
 impl Notifier {
     /// Makes a notifier for the socket and the watchdog of the environment.
-    pub fn of_environment() -> io::Result<Notifier> {
+    pub(crate) fn of_environment() -> io::Result<Notifier> {
         let watchdog = watchdog_of(std::env::var("WATCHDOG_USEC").ok(), std::env::var("WATCHDOG_PID").ok());
         let socket = match std::env::var_os("NOTIFY_SOCKET").and_then(|name| address_of(name.as_bytes())) {
             Some(address) => {
@@ -74,7 +74,7 @@ impl Notifier {
     }
 
     /// Sends a notice, which is one or more lines.
-    pub fn send(&self, notice: &str) {
+    pub(crate) fn send(&self, notice: &str) {
         let (socket, (address, length)) = match &self.socket {
             Some(socket) => (&socket.0, &socket.1),
             None => return,
@@ -90,7 +90,7 @@ impl Notifier {
     }
 
     /// Sends the status of a start again and again, and gives the start more time each time that it has gone on. It never returns.
-    pub async fn extend_start<T>(&self, progress: impl Fn() -> Progress) -> T {
+    pub(crate) async fn extend_start<T>(&self, progress: impl Fn() -> Progress) -> T {
         let mut last = None;
         loop {
             let found = progress();
@@ -105,7 +105,7 @@ impl Notifier {
 
     /// Notifies the watchdog of the service manager several times in its time, each time only if the service is alive. It never
     /// returns.
-    pub async fn keep_alive<T, A: Future<Output = bool>>(&self, is_alive: impl Fn() -> A) -> T {
+    pub(crate) async fn keep_alive<T, A: Future<Output = bool>>(&self, is_alive: impl Fn() -> A) -> T {
         let rest = match self.watchdog {
             Some(time) => time / LOOKS,
             None => return std::future::pending().await,

@@ -11,20 +11,20 @@ use tokio::signal::unix::{signal, Signal, SignalKind};
 type Read<T> = Box<dyn Fn() -> Result<T, String> + Send + Sync>;
 
 /// A value that was read from files.
-pub struct FromFile<T> {
+pub(crate) struct FromFile<T> {
     read: Read<T>,
     current: RwLock<Arc<T>>,
 }
 
 impl<T> FromFile<T> {
     /// Reads a value by `read`, which will read it again.
-    pub fn new(read: impl Fn() -> Result<T, String> + Send + Sync + 'static) -> Result<Arc<FromFile<T>>, String> {
+    pub(crate) fn new(read: impl Fn() -> Result<T, String> + Send + Sync + 'static) -> Result<Arc<FromFile<T>>, String> {
         let current = RwLock::new(Arc::new(read()?));
         Ok(Arc::new(FromFile { read: Box::new(read), current }))
     }
 
     /// Returns the value that was read last.
-    pub fn get(&self) -> Arc<T> {
+    pub(crate) fn get(&self) -> Arc<T> {
         guard_of(self.current.read()).clone()
     }
 }
@@ -35,7 +35,7 @@ impl<T> FromFile<T> {
 ///
 /// - The file cannot be opened or read.
 /// - It is not a regular file.
-pub fn read_file(path: &Path) -> io::Result<Vec<u8>> {
+pub(crate) fn read_file(path: &Path) -> io::Result<Vec<u8>> {
     let mut file = OpenOptions::new().read(true).custom_flags(libc::O_NONBLOCK).open(path)?;
     if !file.metadata()?.is_file() {
         return Err(io::Error::new(io::ErrorKind::InvalidInput, "not a regular file"));
@@ -46,12 +46,12 @@ pub fn read_file(path: &Path) -> io::Result<Vec<u8>> {
 }
 
 /// Reads a regular file whose content is UTF-8.
-pub fn read_text(path: &Path) -> io::Result<String> {
+pub(crate) fn read_text(path: &Path) -> io::Result<String> {
     String::from_utf8(read_file(path)?).map_err(|_| io::Error::new(io::ErrorKind::InvalidData, "not UTF-8"))
 }
 
 /// A value that can be read again.
-pub trait Reload: Send + Sync {
+pub(crate) trait Reload: Send + Sync {
     /// Reads the value again. If this fails, the value is unchanged.
     fn reload(&self) -> Result<(), String>;
 }
@@ -65,19 +65,19 @@ impl<T: Send + Sync> Reload for FromFile<T> {
 }
 
 /// The values that SIGHUP reads again, each with a name for the log.
-pub type Reloads = Vec<(&'static str, Arc<dyn Reload>)>;
+pub(crate) type Reloads = Vec<(&'static str, Arc<dyn Reload>)>;
 
 /// The signal SIGHUP, which ends the program no more once this is made.
-pub struct Hangup(Signal);
+pub(crate) struct Hangup(Signal);
 
 impl Hangup {
     /// Handles the signal from now on.
-    pub fn new() -> io::Result<Hangup> {
+    pub(crate) fn new() -> io::Result<Hangup> {
         Ok(Hangup(signal(SignalKind::hangup())?))
     }
 
     /// Reads the values again after each signal. A value that cannot be read stays as it was. It never returns.
-    pub async fn reload(mut self, values: Reloads) {
+    pub(crate) async fn reload(mut self, values: Reloads) {
         let values = Arc::new(values);
         while self.0.recv().await.is_some() {
             let values = values.clone();

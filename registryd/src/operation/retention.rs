@@ -15,7 +15,7 @@ const TIME_RECORDED: Duration = Duration::from_secs(60);
 impl Registry {
     /// Deletes manifests at intervals that nothing has held for this time, and blobs to which no manifest has referred for this
     /// time, until the store ends.
-    pub async fn keep_untagged(&self, time: Duration) {
+    pub(crate) async fn keep_untagged(&self, time: Duration) {
         let rest = (time / 60).clamp(Duration::from_millis(100), Duration::from_secs(60));
         let mut recorded = Instant::now();
         while !self.store.has_ended() {
@@ -46,7 +46,7 @@ impl Registry {
     }
 
     /// Unlinks the blobs that nobody has asked for in this time and to which no manifest refers.
-    pub async fn unlink_loose(&self, time: Duration) {
+    pub(super) async fn unlink_loose(&self, time: Duration) {
         for key in self.loose.unasked(time) {
             let (repo, digest) = (&key.0, &key.1);
             let turn = self.loose.turns.take(repo, digest).await;

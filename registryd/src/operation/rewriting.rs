@@ -11,7 +11,7 @@ const CLOSE_TIME: Duration = Duration::from_secs(10);
 const CLOSE_REST: Duration = Duration::from_millis(100);
 
 /// Asks the store to rewrite its log after each signal. A signal that arrives during the start is obeyed after it.
-pub async fn rewrite_on_signal(mut asked: Signal, registry: Arc<Registry>) {
+pub(crate) async fn rewrite_on_signal(mut asked: Signal, registry: Arc<Registry>) {
     while asked.recv().await.is_some() {
         match registry.folder.as_ref().map(Folder::ask_for_rewriting) {
             Some(Ok(())) => {
@@ -27,7 +27,7 @@ pub async fn rewrite_on_signal(mut asked: Signal, registry: Arc<Registry>) {
 impl Registry {
     /// Lets the store close the last file of its log after it was asked to rewrite it: it does so at the next change. An upload is opened
     /// and abandoned for that.
-    pub async fn close_last_file(&self) {
+    pub(super) async fn close_last_file(&self) {
         let folder = match &self.folder {
             Some(folder) if self.has_room() => folder,
             _ => return tracing::warn!("the disk has no room: the last file of the log is not closed"),

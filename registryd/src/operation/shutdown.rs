@@ -35,7 +35,7 @@ async fn watch_folder(registry: &Registry, database: &Option<(Arc<Writer>, Write
 }
 
 /// Serves requests until a signal arrives, and then lets open requests finish.
-pub async fn serve(started: Started, serving: Serving, mut signals: Signals, notifier: &Notifier) -> Result<(), Failure> {
+pub(crate) async fn serve(started: Started, serving: Serving, mut signals: Signals, notifier: &Notifier) -> Result<(), Failure> {
     let Started { registry, mut child, database, synced } = started;
     let Serving { connections, server, stop } = serving;
     tokio::select! {

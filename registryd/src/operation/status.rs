@@ -32,7 +32,7 @@ const MAX_SWEEPS: usize = 10;
 
 /// A resource that shows the data of all tenants.
 #[derive(Clone, Copy, Debug, PartialEq, Eq)]
-pub enum View {
+pub(crate) enum View {
     /// The page.
     Page,
     /// The JSON that the page shows.
@@ -43,7 +43,7 @@ pub enum View {
 
 impl View {
     /// Returns the resource of a path.
-    pub fn of(path: &str) -> Option<View> {
+    pub(crate) fn of(path: &str) -> Option<View> {
         match path {
             "/" => Some(View::Page),
             "/status" => Some(View::Status),
@@ -63,11 +63,11 @@ struct Sweep {
 
 /// The last sweeps of the collector that freed something, the newest first.
 #[derive(Default)]
-pub struct SweepHistory(Mutex<VecDeque<Sweep>>);
+pub(crate) struct SweepHistory(Mutex<VecDeque<Sweep>>);
 
 impl SweepHistory {
     /// Adds a sweep if it freed something.
-    pub fn add(&self, swept: &SweepResult) {
+    pub(super) fn add(&self, swept: &SweepResult) {
         if swept.freed > 0 {
             let mut sweeps = guard_of(self.0.lock());
             sweeps.truncate(MAX_SWEEPS - 1);
@@ -108,7 +108,7 @@ fn page() -> HandlerResult {
 
 impl Registry {
     /// Serves a view. The caller checks that the client may read it.
-    pub async fn view(&self, view: View, method: &Method, query: Option<&str>) -> HandlerResult {
+    pub(crate) async fn view(&self, view: View, method: &Method, query: Option<&str>) -> HandlerResult {
         if !matches!(*method, Method::GET | Method::HEAD) {
             return Err(Fault::method("GET, HEAD"));
         }
@@ -205,7 +205,7 @@ impl Registry {
     }
 
     /// Asks the store how often its log was synced, if it has one, and notes the number.
-    pub async fn note_syncs(&self) -> Result<(), StoreUnavailable> {
+    pub(super) async fn note_syncs(&self) -> Result<(), StoreUnavailable> {
         if self.folder.is_some() {
             if let Ok(count) = self.store.sync_count().await? {
                 self.metrics.note_syncs(count);
@@ -215,7 +215,7 @@ impl Registry {
     }
 
     /// Returns the metrics of all tenants.
-    pub async fn metrics_text(&self) -> Result<String, StoreUnavailable> {
+    pub(super) async fn metrics_text(&self) -> Result<String, StoreUnavailable> {
         if let Some(folder) = &self.folder {
             self.metrics.set_folder(folder);
         }

@@ -8,7 +8,7 @@ use uuid::Uuid;
 
 impl Registry {
     /// Abandons unused uploads at intervals until the store ends.
-    pub async fn expire(&self, patience: UploadTimeouts) {
+    pub(crate) async fn expire(&self, patience: UploadTimeouts) {
         let rest = (patience.least() / 10).clamp(Duration::from_millis(100), Duration::from_secs(60));
         while !self.store.has_ended() {
             let _ = self.expire_once(patience).await;

@@ -22,7 +22,7 @@ fn total_of(text: &str) -> Option<u64> {
 }
 
 /// Warns if the tenants together may take more slots or more memory than there are.
-pub fn warn_of_sums(tenants: &[Tenant], slots: u32) {
+pub(super) fn warn_of_sums(tenants: &[Tenant], slots: u32) {
     let default = default_share(slots, tenants.len()).unwrap_or_else(|| u64::from(slots));
     let shares = tenants.iter().map(|tenant| tenant.share.unwrap_or(default)).sum::<u64>();
     if shares > u64::from(slots) {
@@ -69,7 +69,7 @@ fn available_memory() -> Option<u64> {
 }
 
 /// Warns if a log is longer than the available memory, in which the store keeps what it reads.
-pub fn warn_of_memory(log_bytes: u64) {
+pub(crate) fn warn_of_memory(log_bytes: u64) {
     if let Some(available) = available_memory().filter(|available| log_bytes > *available) {
         tracing::warn!(log_bytes, available, "the log is longer than the available memory: the start may run out of it");
     }

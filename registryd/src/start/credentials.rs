@@ -35,7 +35,7 @@ fn issuer(options: &Options, reloads: &mut Reloads) -> Result<Option<Arc<Issuer>
 }
 
 /// Reads the files of users and rights that there are, and the keys of the issuer.
-pub fn access(options: &Options, reloads: &mut Reloads) -> Result<Access, Failure> {
+pub(crate) fn access(options: &Options, reloads: &mut Reloads) -> Result<Access, Failure> {
     let mut access = Access { issuer: issuer(options, reloads)?, ..Access::default() };
     if let Some(path) = options.htpasswd.clone() {
         let (metrics_user, logins) = (options.metrics_user.clone(), Logins::new());
@@ -52,7 +52,7 @@ pub fn access(options: &Options, reloads: &mut Reloads) -> Result<Access, Failur
 }
 
 /// Reads the certificate and its key, if there are files of them.
-pub fn tls(options: &Options, reloads: &mut Reloads) -> Result<Option<Tls>, Failure> {
+pub(crate) fn tls(options: &Options, reloads: &mut Reloads) -> Result<Option<Tls>, Failure> {
     let (certificate, key) = match (options.tls_cert.clone(), options.tls_key.clone()) {
         (Some(certificate), Some(key)) => (certificate, key),
         _ => return Ok(None),

@@ -11,7 +11,7 @@ use std::time::Duration;
 use tokio::process::Child;
 
 /// Returns the share of each tenant that has none of its own, or `None` if there is one tenant, which may take all slots.
-pub fn default_share(slots: u32, tenants: usize) -> Option<u64> {
+pub(super) fn default_share(slots: u32, tenants: usize) -> Option<u64> {
     (tenants > 1).then(|| (u64::from(slots) / tenants as u64).max(1))
 }
 
@@ -48,7 +48,7 @@ async fn start_with(options: &Options, writer: &Option<Arc<Writer>>, tenants: &[
 /// Starts the store with a share for each tenant. If a tenant of the folder has more blobs than the default share, it has no
 /// share, so that a folder of an earlier version needs no other settings and takes pushes as before. To find these tenants,
 /// the store is started without default shares first.
-pub async fn start_store(options: &Options, writer: Option<Arc<Writer>>) -> Result<(Store, Child), Failure> {
+pub(super) async fn start_store(options: &Options, writer: Option<Arc<Writer>>) -> Result<(Store, Child), Failure> {
     let tenants = options.tenants();
     let default = default_share(options.slots, tenants.len());
     let shared = arguments(&tenants, default, &HashSet::new());

@@ -32,14 +32,14 @@ use std::time::Duration;
 use tokio::process::Child;
 
 /// A registry, and what runs for it.
-pub struct Started {
-    pub registry: Arc<Registry>,
+pub(crate) struct Started {
+    pub(crate) registry: Arc<Registry>,
     /// The process of `blobd`.
-    pub child: Child,
+    pub(crate) child: Child,
     /// The writer of the database and its thread, if there is a database.
-    pub database: Option<(Arc<Writer>, WriterThread)>,
+    pub(crate) database: Option<(Arc<Writer>, WriterThread)>,
     /// The folder, if each change is on the disk before its reply.
-    pub synced: Option<PathBuf>,
+    pub(crate) synced: Option<PathBuf>,
 }
 
 /// Returns the bounds on the manifests and tags of each tenant. A tenant that has more than a default has no such bound.
@@ -125,7 +125,7 @@ impl Tables {
 }
 
 /// Starts the store, reads the database if there is one, and makes the registry over both.
-pub async fn start(options: &Options, access: Access) -> Result<Started, Failure> {
+pub(crate) async fn start(options: &Options, access: Access) -> Result<Started, Failure> {
     let provenance = Provenance::of(&options.blobd);
     provenance.log();
     let metrics = Metrics::new();

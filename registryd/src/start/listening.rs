@@ -13,16 +13,21 @@ use tokio::sync::watch;
 use tokio::task::JoinHandle;
 
 /// The server of the clients, which accepts connections from the begin of the start.
-pub struct Serving {
-    pub connections: Arc<Connections>,
-    pub server: JoinHandle<()>,
+pub(crate) struct Serving {
+    pub(crate) connections: Arc<Connections>,
+    pub(crate) server: JoinHandle<()>,
     /// Dropping it ends the server.
-    pub stop: watch::Sender<()>,
+    pub(crate) stop: watch::Sender<()>,
 }
 
 impl Serving {
     /// Begins to accept connections.
-    pub fn begin(listener: TcpListener, tls: Option<Tls>, connections: Arc<Connections>, service: Arc<Service>) -> Serving {
+    pub(super) fn begin(
+        listener: TcpListener,
+        tls: Option<Tls>,
+        connections: Arc<Connections>,
+        service: Arc<Service>,
+    ) -> Serving {
         let (stop, stopped) = watch::channel(());
         let answer = move |request| service.clone().serve(request);
         let server = tokio::spawn(server::serve(listener, tls, connections.clone(), stopped, answer));
@@ -42,15 +47,15 @@ const OTHER_FILES: u64 = 64;
 const FILES_PER_STORE_CONNECTION: u64 = 4;
 
 /// What serves the addresses.
-pub struct Listening {
-    pub service: Arc<Service>,
-    pub serving: Serving,
-    pub address: SocketAddr,
-    pub metrics_address: Option<SocketAddr>,
+pub(crate) struct Listening {
+    pub(crate) service: Arc<Service>,
+    pub(crate) serving: Serving,
+    pub(crate) address: SocketAddr,
+    pub(crate) metrics_address: Option<SocketAddr>,
 }
 
 /// Listens on the addresses of the options. What is served there are the replies of a start, until it ends.
-pub async fn listen(options: &Options, tls: Option<Tls>, connections: Arc<Connections>) -> Result<Listening, Failure> {
+pub(crate) async fn listen(options: &Options, tls: Option<Tls>, connections: Arc<Connections>) -> Result<Listening, Failure> {
     let listener = bind(options.listen).await?;
     let address = listener.local_addr()?;
     let metrics = match options.metrics_listen {
@@ -84,7 +89,7 @@ fn serve_metrics(service: &Arc<Service>, listener: TcpListener, options: &Option
 }
 
 /// Returns the limits of client connections. The number of open files limits their number too.
-pub fn limits(options: &Options) -> Result<Limits, Failure> {
+pub(crate) fn limits(options: &Options) -> Result<Limits, Failure> {
     let files = server::raise_file_limit()?;
     let room = files.saturating_sub(OTHER_FILES + FILES_PER_STORE_CONNECTION * u64::from(options.lines));
     if room == 0 {

@@ -13,7 +13,7 @@ const NAMED: usize = 10;
 
 /// Something that was on the disk and is lost.
 #[derive(Debug, PartialEq, Eq)]
-pub enum Loss {
+pub(crate) enum Loss {
     /// There is a log, and no database.
     Database,
     /// The database was replaced by one with this number of transactions fewer.
@@ -67,7 +67,7 @@ impl fmt::Display for Loss {
 impl Loss {
     /// Returns what is lost of the log or of the database by their marks, if anything is. `has_log` is whether there is a log,
     /// and `end` its end, if that can be read.
-    pub fn by_marks(marks: &Marks, older_by: u64, has_log: bool, end: Option<LogEnd>) -> Option<Loss> {
+    pub(super) fn by_marks(marks: &Marks, older_by: u64, has_log: bool, end: Option<LogEnd>) -> Option<Loss> {
         match (marks.log_end, end) {
             (Some(_), _) if !has_log => Some(Loss::Log),
             (Some(kept), Some(end)) if kept.log != end.log => Some(Loss::OtherLog),
@@ -86,7 +86,7 @@ impl Loss {
     }
 
     /// Returns the loss of manifests and their tags. The tags are named first.
-    pub fn of_manifests(missing: &[ManifestRow], tags: &[TagRow]) -> Loss {
+    pub(super) fn of_manifests(missing: &[ManifestRow], tags: &[TagRow]) -> Loss {
         let lost: BTreeSet<(&str, &str)> = missing.iter().map(|row| (&*row.repo, &*row.digest)).collect();
         let tags = tags.iter().filter(|row| lost.contains(&(&*row.repo, &*row.digest)));
         let tags: BTreeSet<(&str, &str, &str)> = tags.map(|row| (&*row.repo, &*row.tag, &*row.digest)).collect();
@@ -100,7 +100,7 @@ impl Loss {
 
 /// What a start does about a loss.
 #[derive(Clone, Copy, Debug, PartialEq, Eq)]
-pub enum OnLoss {
+pub(super) enum OnLoss {
     /// It ends.
     End,
     /// It goes on, because the operator accepts the loss.
@@ -111,7 +111,7 @@ pub enum OnLoss {
 
 impl OnLoss {
     /// Logs a loss, or fails with it.
-    pub fn meet(self, loss: &Loss) -> Result<(), Failure> {
+    pub(super) fn meet(self, loss: &Loss) -> Result<(), Failure> {
         match self {
             OnLoss::End => return Err(Failure::of_loss(loss)),
             OnLoss::Accept => {

@@ -1,13 +1,13 @@
 //! The start of the program: its options, what it opens, and what it compares and finds to be lost.
 pub(crate) mod capacity;
 pub(crate) mod credentials;
-pub(crate) mod default_shares;
+mod default_shares;
 pub(crate) mod launch;
 pub(crate) mod listening;
 pub(crate) mod losses;
-pub(crate) mod opening;
+mod opening;
 pub(crate) mod options;
 pub(crate) mod provenance;
 pub(crate) mod recovery;
 pub(crate) mod start_replies;
-pub(crate) mod tenants;
+mod tenants;

@@ -21,13 +21,13 @@ const WAIT: Duration = Duration::from_secs(5);
 const REST: Duration = Duration::from_millis(50);
 
 /// A folder with its open database.
-pub struct Opened {
-    pub folder: PathBuf,
-    pub database: Database,
+pub(super) struct Opened {
+    pub(super) folder: PathBuf,
+    pub(super) database: Database,
     /// Whether each change is on the disk before its reply.
-    pub is_synced: bool,
+    pub(super) is_synced: bool,
     /// Whether the disk has no room, so that the start changes nothing.
-    pub is_full: bool,
+    pub(super) is_full: bool,
     on_loss: OnLoss,
     /// The length of the log if the store may cut it because the operator accepts what that loses.
     cuttable: Option<u64>,
@@ -35,7 +35,7 @@ pub struct Opened {
 
 impl Opened {
     /// Returns what the start does about a loss that it finds after the store has started.
-    pub fn on_loss(&self) -> OnLoss {
+    pub(super) fn on_loss(&self) -> OnLoss {
         let is_cut = self.cuttable.map_or(false, |before| files::log_length(&self.folder).unwrap_or(0) < before);
         match self.on_loss {
             OnLoss::End if is_cut => OnLoss::Accept,
@@ -111,7 +111,7 @@ fn is_full(room: &DiskRoom, folder: &Path) -> bool {
 }
 
 /// Opens the folder of the options. Drops its cached pages before anything reads them.
-pub fn open(options: &Options, folder: PathBuf, room: &DiskRoom) -> Result<Opened, Failure> {
+pub(super) fn open(options: &Options, folder: PathBuf, room: &DiskRoom) -> Result<Opened, Failure> {
     let is_synced = options.is_durable();
     make(&folder).map_err(|error| Failure::of_folder("cannot make the folder", &folder, &error))?;
     warn_of_access(&folder);

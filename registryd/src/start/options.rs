@@ -20,7 +20,7 @@ const RESERVE: u64 = 64 << 20;
 
 /// When changes are on the disk.
 #[derive(Clone, Copy, Debug, PartialEq, Eq, ValueEnum)]
-pub enum SyncPolicy {
+pub(super) enum SyncPolicy {
     /// Each change but a chunk is on the disk before its reply
     Closes,
     /// Chunks too
@@ -32,118 +32,118 @@ pub enum SyncPolicy {
 /// Container registry (OCI Distribution Specification 1.1). Without --data, all data is lost when the program exits.
 #[derive(Clone, Debug, Parser)]
 #[command(name = "registryd", version)]
-pub struct Options {
+pub(crate) struct Options {
     /// Listen on this address
     #[arg(long, value_name = "ADDR:PORT", default_value = "127.0.0.1:5000")]
-    pub listen: SocketAddr,
+    pub(super) listen: SocketAddr,
     /// Set the maximum number of different blobs
     #[arg(long, value_name = "N", default_value_t = 4096, value_parser = clap::value_parser!(u32).range(1..=65536))]
-    pub slots: u32,
+    pub(super) slots: u32,
     /// Limit the length of a blob
     #[arg(long, value_name = "BYTES", default_value_t = 1 << 32)]
-    pub max_blob: u64,
+    pub(super) max_blob: u64,
     /// Limit manifest bytes [default: a tenth of the quota]
     #[arg(long, value_name = "BYTES")]
-    pub manifest_bytes: Option<u64>,
+    pub(super) manifest_bytes: Option<u64>,
     /// Limit the number of each tenant's manifests
     #[arg(long, value_name = "N")]
-    pub manifests: Option<u64>,
+    pub(super) manifests: Option<u64>,
     /// Limit the number of each tenant's tags
     #[arg(long, value_name = "N")]
-    pub tags: Option<u64>,
+    pub(super) tags: Option<u64>,
     /// Open N connections to the store; a large read takes two
     #[arg(long, value_name = "N", default_value_t = 32, value_parser = clap::value_parser!(u16).range(1..=1024))]
-    pub lines: u16,
+    pub(super) lines: u16,
     /// Limit the time of a call to the store
     #[arg(long, value_name = "S", default_value_t = 60, value_parser = clap::value_parser!(u64).range(1..=86400))]
-    pub call_s: u64,
+    pub(super) call_s: u64,
     /// Limit the memory of requests and responses in progress
     #[arg(long, value_name = "BYTES", default_value_t = 1 << 29, value_parser = clap::value_parser!(u64).range(8 << 20..))]
-    pub memory_in_flight: u64,
+    pub(super) memory_in_flight: u64,
     /// Limit the number of client connections
     #[arg(long, value_name = "N", default_value_t = 2048, value_parser = clap::value_parser!(u32).range(1..=1 << 20))]
-    pub connections: u32,
+    pub(super) connections: u32,
     /// Close a connection if a request head takes longer
     #[arg(long, value_name = "S", default_value_t = 30, value_parser = clap::value_parser!(u64).range(1..=86400))]
-    pub head_s: u64,
+    pub(super) head_s: u64,
     /// Close a connection after this time without a byte
     #[arg(long, value_name = "S", default_value_t = 120, value_parser = clap::value_parser!(u64).range(1..=86400))]
-    pub idle_s: u64,
+    pub(super) idle_s: u64,
     /// Pause between garbage-collection sweeps
     #[arg(long, value_name = "MS", default_value_t = 1000)]
-    pub sweep_ms: u64,
+    pub(super) sweep_ms: u64,
     /// Abandon an upload after this time without a request
     #[arg(long, value_name = "S", default_value_t = 3600)]
-    pub session_s: u64,
+    pub(super) session_s: u64,
     /// Abandon an upload without bytes after this time
     #[arg(long, value_name = "S", default_value_t = 60)]
-    pub empty_session_s: u64,
+    pub(super) empty_session_s: u64,
     /// Delete manifests that nothing has held for this time
     #[arg(long, value_name = "HOURS", value_parser = hours)]
-    pub keep_untagged: Option<Duration>,
+    pub(super) keep_untagged: Option<Duration>,
     /// Let clients delete manifests that an index lists
     #[arg(long)]
-    pub delete_listed: bool,
+    pub(super) delete_listed: bool,
     /// Keep all data in this folder
     #[arg(long, value_name = "DIR")]
-    pub data: Option<PathBuf>,
+    pub(super) data: Option<PathBuf>,
     /// Decide what is on the disk before a reply [default: closes]
     #[arg(long, value_name = "POLICY", requires = "data")]
-    pub sync: Option<SyncPolicy>,
+    pub(super) sync: Option<SyncPolicy>,
     /// Cut a damaged log at this byte and start
     #[arg(long, value_name = "BYTE", requires = "data")]
-    pub accept_loss_after: Option<u64>,
+    pub(super) accept_loss_after: Option<u64>,
     /// Drop what a log or database has lost and start
     #[arg(long, requires = "data")]
-    pub accept_loss: bool,
+    pub(super) accept_loss: bool,
     /// Read the log again at this pace [default: 4]; 0: never
     #[arg(long, value_name = "N", requires = "data", value_parser = clap::value_parser!(u64).range(..=1 << 20))]
-    pub scrub_mib_s: Option<u64>,
+    pub(super) scrub_mib_s: Option<u64>,
     /// Accept no content if less is free [default: 67108864]
     #[arg(long, value_name = "BYTES", requires = "data")]
-    pub min_free: Option<u64>,
+    pub(super) min_free: Option<u64>,
     /// Keep a reserve for deletes on a full disk [default: 67108864]
     #[arg(long, value_name = "BYTES", requires = "data")]
-    pub reserve: Option<u64>,
+    pub(super) reserve: Option<u64>,
     /// Serve HTTPS with this certificate and its chain in PEM
     #[arg(long, value_name = "FILE", requires = "tls_key")]
-    pub tls_cert: Option<PathBuf>,
+    pub(super) tls_cert: Option<PathBuf>,
     /// Use this private key in PEM for HTTPS
     #[arg(long, value_name = "FILE", requires = "tls_cert")]
-    pub tls_key: Option<PathBuf>,
+    pub(super) tls_key: Option<PathBuf>,
     /// Require a user and password of this htpasswd file
     #[arg(long, value_name = "FILE")]
-    pub htpasswd: Option<PathBuf>,
+    pub(super) htpasswd: Option<PathBuf>,
     /// Give users the rights of this file
     #[arg(long, value_name = "FILE", requires = "htpasswd")]
-    pub rights: Option<PathBuf>,
+    pub(super) rights: Option<PathBuf>,
     /// Accept tokens that are signed with these public keys
     #[arg(long, value_name = "FILE", requires_all = ["token_realm", "token_service", "token_issuer"])]
-    pub token_key: Option<PathBuf>,
+    pub(super) token_key: Option<PathBuf>,
     /// Let clients ask for tokens at this URL
     #[arg(long, value_name = "URL", requires = "token_key", value_parser = quotable)]
-    pub token_realm: Option<String>,
+    pub(super) token_realm: Option<String>,
     /// Accept tokens for a service with this name
     #[arg(long, value_name = "NAME", requires = "token_key", value_parser = quotable)]
-    pub token_service: Option<String>,
+    pub(super) token_service: Option<String>,
     /// Accept tokens of an issuer with this name
     #[arg(long, value_name = "NAME", requires = "token_key", value_parser = quotable)]
-    pub token_issuer: Option<String>,
+    pub(super) token_issuer: Option<String>,
     /// Serve without passwords on non-loopback addresses
     #[arg(long)]
-    pub let_anybody_in: bool,
+    pub(super) let_anybody_in: bool,
     /// Serve the metrics only to this user
     #[arg(long, value_name = "USER", requires = "htpasswd")]
-    pub metrics_user: Option<String>,
+    pub(super) metrics_user: Option<String>,
     /// Serve the metrics only on this address, to everybody
     #[arg(long, value_name = "ADDR:PORT", conflicts_with = "metrics_user")]
-    pub metrics_listen: Option<SocketAddr>,
+    pub(super) metrics_listen: Option<SocketAddr>,
     /// Run this program as the store
     #[arg(long, value_name = "PATH", default_value = "blobd")]
-    pub blobd: PathBuf,
+    pub(super) blobd: PathBuf,
     /// Serve this tenant with a quota in bytes and a number of blobs
     #[arg(value_name = "TENANT=QUOTA[,BLOBS]", required = true, value_parser = tenant_word)]
-    pub tenants: Vec<String>,
+    pub(super) tenants: Vec<String>,
 }
 
 /// Returns the time that an argument in hours means.
@@ -151,7 +151,7 @@ pub struct Options {
 /// # Errors
 ///
 /// Fails if it is not a positive number, or more than 100 years.
-pub fn hours(text: &str) -> Result<Duration, String> {
+pub(super) fn hours(text: &str) -> Result<Duration, String> {
     match text.parse::<f64>() {
         Ok(hours) if hours > 0.0 && hours <= 876_600.0 => Ok(Duration::from_secs_f64(3600.0 * hours)),
         _ => Err("write a number of hours such as 48 or 0.5".to_string()),
@@ -169,7 +169,7 @@ fn quotable(text: &str) -> Result<String, String> {
 
 impl Options {
     /// Returns why the options contradict each other, if they do.
-    pub fn conflict(&self) -> Option<String> {
+    pub(crate) fn conflict(&self) -> Option<String> {
         let open = !self.has_users() && !self.listen.ip().is_loopback() && !self.let_anybody_in;
         let text = format!("cannot listen: {}: give --htpasswd, --token-key or --let-anybody-in", self.listen);
         open.then_some(text).or_else(|| tenants::conflict(&self.tenants))
@@ -181,19 +181,19 @@ impl Options {
     }
 
     /// Returns the times after which unused uploads are abandoned.
-    pub fn patience(&self) -> UploadTimeouts {
+    pub(super) fn patience(&self) -> UploadTimeouts {
         let (begun, empty) = (Duration::from_secs(self.session_s), Duration::from_secs(self.empty_session_s));
         UploadTimeouts { begun, empty }
     }
 
     /// Returns the bounds on the manifests and tags of each tenant, as far as they are given.
-    pub fn bounds(&self) -> Bounds {
+    pub(super) fn bounds(&self) -> Bounds {
         let Options { manifests, manifest_bytes, tags, .. } = *self;
         Bounds { manifests, manifest_bytes, tags }
     }
 
     /// Returns the condition on which a client's delete of a manifest is made.
-    pub fn asked_removal(&self) -> Removal {
+    pub(super) fn asked_removal(&self) -> Removal {
         match self.delete_listed {
             true => Removal::AskedEvenIfListed,
             false => Removal::Asked,
@@ -201,32 +201,32 @@ impl Options {
     }
 
     /// Returns when changes are on the disk.
-    pub fn sync_policy(&self) -> SyncPolicy {
+    pub(super) fn sync_policy(&self) -> SyncPolicy {
         self.sync.unwrap_or(SyncPolicy::Closes)
     }
 
     /// Returns the number of bytes that stay free on the disk of the folder.
-    pub fn min_free(&self) -> u64 {
+    pub(super) fn min_free(&self) -> u64 {
         self.min_free.unwrap_or(MIN_FREE)
     }
 
     /// Returns the pace at which closed files of the log are read again, in MiB a second, or `None` if they are not.
-    pub fn scrub_pace(&self) -> Option<u64> {
+    pub(super) fn scrub_pace(&self) -> Option<u64> {
         Some(self.scrub_mib_s.unwrap_or(DEFAULT_PACE)).filter(|pace| self.data.is_some() && *pace > 0)
     }
 
     /// Returns the length of the reserve, in bytes.
-    pub fn reserve(&self) -> u64 {
+    pub(super) fn reserve(&self) -> u64 {
         self.reserve.unwrap_or(RESERVE)
     }
 
     /// Returns whether changes are on the disk before their replies.
-    pub fn is_durable(&self) -> bool {
+    pub(super) fn is_durable(&self) -> bool {
         self.data.is_some() && self.sync_policy() != SyncPolicy::Never
     }
 
     /// Returns the options of `blobd`.
-    pub fn store_options(&self) -> Vec<OsString> {
+    pub(super) fn store_options(&self) -> Vec<OsString> {
         let data = match &self.data {
             Some(data) => data,
             None => return Vec::new(),
@@ -244,7 +244,7 @@ impl Options {
     }
 
     /// Returns the rule that decides who may read the metrics.
-    pub fn metrics_access(&self) -> MetricsAccess {
+    pub(super) fn metrics_access(&self) -> MetricsAccess {
         match (&self.metrics_listen, &self.metrics_user) {
             (Some(_), _) => MetricsAccess::Elsewhere,
             (None, Some(user)) => MetricsAccess::User(user.clone()),
@@ -254,12 +254,12 @@ impl Options {
     }
 
     /// Returns the tenants.
-    pub fn tenants(&self) -> Vec<Tenant> {
+    pub(super) fn tenants(&self) -> Vec<Tenant> {
         self.tenants.iter().filter_map(|word| Tenant::of(word)).collect()
     }
 
     /// Returns the names of the tenants.
-    pub fn tenant_names(&self) -> Vec<String> {
+    pub(super) fn tenant_names(&self) -> Vec<String> {
         self.tenants().into_iter().map(|tenant| tenant.name).collect()
     }
 }

@@ -9,7 +9,7 @@ use std::path::{Path, PathBuf};
 
 /// Where a program comes from.
 #[derive(Debug, PartialEq, Eq)]
-pub enum Provenance {
+pub(crate) enum Provenance {
     /// It was proved.
     Proved {
         /// The commit whose sources were proved.
@@ -44,7 +44,7 @@ fn read_record(program: &Path) -> Option<HashMap<String, String>> {
 
 impl Provenance {
     /// Returns where a program comes from.
-    pub fn of(program: &Path) -> Provenance {
+    pub(super) fn of(program: &Path) -> Provenance {
         let not_verified = |why: &str| Provenance::NotVerified(format!("{}: {why}", program.display()));
         let path = match find(program) {
             Some(path) => path,
@@ -67,12 +67,12 @@ impl Provenance {
         }
     }
 
-    pub fn is_proved(&self) -> bool {
+    pub(super) fn is_proved(&self) -> bool {
         matches!(self, Provenance::Proved { .. })
     }
 
     /// Writes to the log where the store's program comes from.
-    pub fn log(&self) {
+    pub(super) fn log(&self) {
         match self {
             Provenance::Proved { commit, toolchain, by, date } => {
                 tracing::info!(commit, toolchain, by, date, "the store's program was proved");
@@ -81,7 +81,7 @@ impl Provenance {
         }
     }
 
-    pub fn json(&self) -> Value {
+    pub(crate) fn json(&self) -> Value {
         match self {
             Provenance::Proved { commit, toolchain, by, date } => {
                 json!({ "verified": true, "commit": commit, "toolchain": toolchain, "proved_by": by, "date": date })
@@ -92,7 +92,7 @@ impl Provenance {
 }
 
 /// Returns the text of `--version`, for the program of the store that the arguments name.
-pub fn version(mut arguments: impl Iterator<Item = OsString>) -> String {
+pub(crate) fn version(mut arguments: impl Iterator<Item = OsString>) -> String {
     let named = arguments.find(|word| word == "--blobd").and_then(|_| arguments.next());
     let store = match Provenance::of(Path::new(&named.unwrap_or_else(|| "blobd".into()))) {
         Provenance::Proved { commit, toolchain, by, date } => {

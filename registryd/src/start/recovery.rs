@@ -34,23 +34,23 @@ const SEARCHED: (u32, u32) = (128, 4096);
 const MOST_SEARCHED: u32 = 65_536;
 
 /// An upload that was opened before the start.
-pub struct FoundUpload {
-    pub repo: String,
-    pub number: u32,
-    pub received: u64,
+pub(super) struct FoundUpload {
+    pub(super) repo: String,
+    pub(super) number: u32,
+    pub(super) received: u64,
 }
 
 /// What the database and the store have of the time before the start.
-pub struct Recovered {
-    pub database: Database,
-    pub secret: Secret,
-    pub manifests: ManifestTable,
-    pub repositories: Vec<String>,
-    pub uploads: Vec<FoundUpload>,
+pub(super) struct Recovered {
+    pub(super) database: Database,
+    pub(super) secret: Secret,
+    pub(super) manifests: ManifestTable,
+    pub(super) repositories: Vec<String>,
+    pub(super) uploads: Vec<FoundUpload>,
     /// The repositories and digests of blobs that are to be unlinked after some time.
-    pub loose_blobs: Vec<(String, String)>,
+    pub(super) loose_blobs: Vec<(String, String)>,
     /// For each tenant, a number up to which all uploads are recorded.
-    pub recorded: HashMap<String, u32>,
+    pub(super) recorded: HashMap<String, u32>,
 }
 
 /// What a start finds and changes.
@@ -65,7 +65,7 @@ struct Findings {
 
 /// Compares the database of a folder with the store, and corrects it. Ends the start if the store has lost something that was on
 /// the disk.
-pub async fn recover(store: &Store, opened: Opened) -> Result<Recovered, Failure> {
+pub(super) async fn recover(store: &Store, opened: Opened) -> Result<Recovered, Failure> {
     let on_loss = opened.on_loss();
     let Opened { folder, mut database, is_synced, is_full, .. } = opened;
     let (database, mut rows) = blocking(move || {
@@ -147,7 +147,9 @@ impl Correction {
 }
 
 /// Runs work that waits for the disk in a thread of its own.
-pub async fn blocking<T: Send + 'static>(work: impl FnOnce() -> Result<T, Failure> + Send + 'static) -> Result<T, Failure> {
+pub(crate) async fn blocking<T: Send + 'static>(
+    work: impl FnOnce() -> Result<T, Failure> + Send + 'static,
+) -> Result<T, Failure> {
     let done = tokio::task::spawn_blocking(work).await;
     done.unwrap_or_else(|_| Err(Failure::new("a bug in this program stopped the start")))
 }

@@ -15,10 +15,10 @@ use std::time::Instant;
 use tokio::sync::OnceCell;
 
 /// How far a start is.
-pub struct Progress {
+pub(crate) struct Progress {
     seconds: u64,
     /// The number of bytes that the store has read, if that is known.
-    pub read: Option<u64>,
+    pub(crate) read: Option<u64>,
     log_bytes: u64,
 }
 
@@ -33,7 +33,7 @@ impl fmt::Display for Progress {
 }
 
 /// What the addresses serve: the replies of a start, and the registry after it.
-pub struct Service {
+pub(crate) struct Service {
     begun: Instant,
     /// The length of the log that the store reads, in bytes.
     log_bytes: u64,
@@ -42,23 +42,23 @@ pub struct Service {
 
 impl Service {
     /// Makes the service of a start that begins now.
-    pub fn new(folder: Option<&Path>) -> Arc<Service> {
+    pub(super) fn new(folder: Option<&Path>) -> Arc<Service> {
         let log_bytes = folder.and_then(files::log_length).unwrap_or(0);
         Arc::new(Service { begun: Instant::now(), log_bytes, registry: OnceCell::new() })
     }
 
     /// Returns the length of the log at the begin of the start, in bytes.
-    pub fn log_bytes(&self) -> u64 {
+    pub(crate) fn log_bytes(&self) -> u64 {
         self.log_bytes
     }
 
     /// Serves the registry from now on.
-    pub fn end_start(&self, registry: Arc<Registry>) {
+    pub(crate) fn end_start(&self, registry: Arc<Registry>) {
         let _ = self.registry.set(registry);
     }
 
     /// Serves a request of a client.
-    pub async fn serve(self: Arc<Self>, request: Request<Body>) -> Response<Body> {
+    pub(super) async fn serve(self: Arc<Self>, request: Request<Body>) -> Response<Body> {
         match self.registry.get() {
             Some(registry) => registry.clone().serve(request).await,
             None => self.reply(request.uri().path()),
@@ -66,7 +66,7 @@ impl Service {
     }
 
     /// Serves a request on the metrics address.
-    pub async fn serve_metrics(self: Arc<Self>, request: Request<Body>) -> Response<Body> {
+    pub(super) async fn serve_metrics(self: Arc<Self>, request: Request<Body>) -> Response<Body> {
         match self.registry.get() {
             Some(registry) => registry.clone().serve_metrics(request).await,
             None => self.reply(request.uri().path()),
@@ -74,7 +74,7 @@ impl Service {
     }
 
     /// Returns how far the start is.
-    pub fn progress(&self) -> Progress {
+    pub(crate) fn progress(&self) -> Progress {
         Progress { seconds: self.begun.elapsed().as_secs(), read: process::bytes_read(), log_bytes: self.log_bytes }
     }
 

@@ -13,17 +13,17 @@ const MAX_SHARE: u64 = u32::MAX as u64;
 
 /// A tenant of the command line.
 #[derive(Clone, Debug, PartialEq, Eq)]
-pub struct Tenant {
-    pub name: String,
+pub(super) struct Tenant {
+    pub(super) name: String,
     /// The maximum number of bytes.
-    pub quota: u64,
+    pub(super) quota: u64,
     /// The maximum number of distinct blobs, if it is given.
-    pub share: Option<u64>,
+    pub(super) share: Option<u64>,
 }
 
 impl Tenant {
     /// Reads an argument that `tenant_word` accepts.
-    pub fn of(word: &str) -> Option<Tenant> {
+    pub(super) fn of(word: &str) -> Option<Tenant> {
         let (name, limits) = word.split_once('=')?;
         let (quota, share) = limits.split_once(',').map_or((limits, None), |(quota, share)| (quota, Some(share)));
         let share = share.map(str::parse).transpose().ok()?;
@@ -36,7 +36,7 @@ impl Tenant {
 /// # Errors
 ///
 /// Fails with a message that quotes the argument.
-pub fn tenant_word(word: &str) -> Result<String, String> {
+pub(super) fn tenant_word(word: &str) -> Result<String, String> {
     let (name, limits) = word.split_once('=').ok_or_else(|| format!("`{word}` is not TENANT=QUOTA[,BLOBS]"))?;
     if !is_component(name) {
         return Err(format!("invalid tenant `{name}` in `{word}`: write a name such as acme or acme-2"));
@@ -61,7 +61,7 @@ fn is_number_within(text: &str, most: u64) -> bool {
 }
 
 /// Returns why a store cannot have these tenants, if it cannot.
-pub fn conflict(words: &[String]) -> Option<String> {
+pub(super) fn conflict(words: &[String]) -> Option<String> {
     if words.len() > MAX_TENANTS {
         return Some(format!("too many tenants: {}: the maximum is {MAX_TENANTS}", words.len()));
     }

@@ -8,7 +8,7 @@ use tokio::sync::mpsc::Receiver;
 
 /// Appends a piece to a session at an offset, and then those that arrive while one is in progress. Returns the last reply,
 /// or the first that is a failure.
-pub async fn append_on(
+pub(super) async fn append_on(
     pooled: &mut PooledConnection,
     repo: &str,
     number: u32,
@@ -42,12 +42,12 @@ pub async fn append_on(
 }
 
 /// Returns the request that appends a body at an offset.
-pub fn append_request<'a>(repo: &'a str, number: u32, start: u64, body: &'a [Bytes]) -> Request<'a> {
+pub(super) fn append_request<'a>(repo: &'a str, number: u32, start: u64, body: &'a [Bytes]) -> Request<'a> {
     Request { repo, number, range: range_of(start, body), body, ..Request::new(Command::Append) }
 }
 
 /// Returns the range of a body that begins at an offset, or `None` if the body is empty.
-pub fn range_of(start: u64, body: &[Bytes]) -> Option<(u64, u64)> {
+pub(super) fn range_of(start: u64, body: &[Bytes]) -> Option<(u64, u64)> {
     let len = len_of(body);
     (len > 0).then(|| (start, start + len - 1))
 }

@@ -14,19 +14,19 @@ const RETRY_REST: Duration = Duration::from_secs(1);
 
 /// The number of a lease, and the sharer that has it.
 #[derive(Clone, Copy, Debug)]
-pub struct Lease {
+pub(crate) struct Lease {
     number: u32,
     sharer: usize,
 }
 
 /// A leased blob.
-pub struct LeasedBlob {
-    pub number: Lease,
-    pub size: u64,
+pub(crate) struct LeasedBlob {
+    pub(crate) number: Lease,
+    pub(crate) size: u64,
 }
 
 /// The result of a fetch.
-pub enum FetchResult {
+pub(crate) enum FetchResult {
     /// The bytes, at most `MAX_FETCHED`, and the blob's size.
     Piece { size: u64, bytes: Bytes },
     /// There are more bytes: the blob is leased.
@@ -34,10 +34,10 @@ pub enum FetchResult {
 }
 
 /// The longest piece that a fetch hands over, in bytes.
-pub const MAX_FETCHED: u64 = 1 << 20;
+pub(crate) const MAX_FETCHED: u64 = 1 << 20;
 
 /// The result of a mount.
-pub enum MountResult {
+pub(crate) enum MountResult {
     /// The blob is linked.
     Linked,
     /// No such blob can be mounted. A session was opened to upload it.
@@ -46,35 +46,35 @@ pub enum MountResult {
 
 /// The number of distinct blobs in a tenant's repositories, and the tenant's share, which is their maximum number if there is
 /// one.
-pub struct SlotUse {
-    pub blobs: u64,
-    pub share: Option<u64>,
+pub(crate) struct SlotUse {
+    pub(crate) blobs: u64,
+    pub(crate) share: Option<u64>,
 }
 
 /// The share in a reply for a tenant whose number of blobs is not limited.
 const UNLIMITED: u64 = u32::MAX as u64;
 
 /// The numbers of slots that a sweep freed, and that it did not free because of readers.
-pub struct SweepResult {
-    pub freed: u64,
-    pub held: u64,
+pub(crate) struct SweepResult {
+    pub(crate) freed: u64,
+    pub(crate) held: u64,
 }
 
 impl Store {
     /// Opens an upload session, and returns its number.
-    pub async fn start_upload(&self, repo: &str) -> Answer<u32> {
+    pub(crate) async fn start_upload(&self, repo: &str) -> Answer<u32> {
         let answer = self.ask_with(Request { repo, ..Request::new(Command::Start) }, Undo::Session).await?;
         Ok(answer.map(|reply| reply.first as u32))
     }
 
     /// Returns the number of bytes that a session has received.
-    pub async fn status(&self, repo: &str, number: u32) -> Answer<u64> {
+    pub(crate) async fn status(&self, repo: &str, number: u32) -> Answer<u64> {
         let answer = self.ask(Request { repo, number, ..Request::new(Command::Status) }).await?;
         Ok(answer.map(|reply| reply.first))
     }
 
     /// Appends bytes to a session at an offset, which has to be its end. Returns the number of bytes that it has received.
-    pub async fn append(&self, repo: &str, number: u32, start: u64, body: &[Bytes]) -> Answer<u64> {
+    pub(crate) async fn append(&self, repo: &str, number: u32, start: u64, body: &[Bytes]) -> Answer<u64> {
         let answer = self.ask(append_request(repo, number, start, body)).await?;
         Ok(answer.map(|reply| reply.first))
     }
@@ -83,7 +83,7 @@ impl Store {
     /// number of bytes that the session has received. The next piece is sent while the store hashes the last one. No second
     /// piece is sent before the first is accepted, so that nothing is appended if the first fails. No connection is held
     /// while it waits for a piece.
-    pub async fn append_all(&self, repo: &str, number: u32, start: u64, pieces: &mut Receiver<Vec<Bytes>>) -> Answer<u64> {
+    pub(crate) async fn append_all(&self, repo: &str, number: u32, start: u64, pieces: &mut Receiver<Vec<Bytes>>) -> Answer<u64> {
         let mut received = start;
         if let Some(first) = pieces.recv().await {
             match self.append(repo, number, start, &first).await? {
@@ -106,20 +106,20 @@ impl Store {
     }
 
     /// Appends the last bytes to a session, and makes it a blob. Returns the blob's size.
-    pub async fn close(&self, repo: &str, number: u32, digest: &str, start: u64, body: &[Bytes]) -> Answer<u64> {
+    pub(crate) async fn close(&self, repo: &str, number: u32, digest: &str, start: u64, body: &[Bytes]) -> Answer<u64> {
         let range = range_of(start, body);
         let answer = self.ask(Request { repo, number, digest, range, body, ..Request::new(Command::Close) }).await?;
         Ok(answer.map(|reply| reply.first))
     }
 
     /// Abandons a session.
-    pub async fn abandon(&self, repo: &str, number: u32) -> Answer<()> {
+    pub(crate) async fn abandon(&self, repo: &str, number: u32) -> Answer<()> {
         let answer = self.ask(Request { repo, number, ..Request::new(Command::Abandon) }).await?;
         Ok(answer.map(|_| ()))
     }
 
     /// Links a blob of the repository `source`, or of any repository of the tenant if `source` is empty.
-    pub async fn mount(&self, repo: &str, digest: &str, source: &str) -> Answer<MountResult> {
+    pub(crate) async fn mount(&self, repo: &str, digest: &str, source: &str) -> Answer<MountResult> {
         let request = Request { repo, digest, source, ..Request::new(Command::Mount) };
         let answer = self.ask_with(request, Undo::Session).await?;
         Ok(answer.map(|reply| match reply.first {
@@ -129,56 +129,56 @@ impl Store {
     }
 
     /// Removes the link of a blob.
-    pub async fn delete(&self, repo: &str, digest: &str) -> Answer<()> {
+    pub(crate) async fn delete(&self, repo: &str, digest: &str) -> Answer<()> {
         let answer = self.ask(Request { repo, digest, ..Request::new(Command::Delete) }).await?;
         Ok(answer.map(|_| ()))
     }
 
     /// Stores a manifest, and returns its digest.
-    pub async fn put_manifest(&self, repo: &str, body: &[Bytes]) -> Answer<String> {
+    pub(crate) async fn put_manifest(&self, repo: &str, body: &[Bytes]) -> Answer<String> {
         let answer = self.ask(Request { repo, body, ..Request::new(Command::PutManifest) }).await?;
         Ok(answer.map(|reply| reply.digest))
     }
 
     /// Returns the bytes of a manifest.
-    pub async fn get_manifest(&self, repo: &str, digest: &str) -> Answer<Bytes> {
+    pub(crate) async fn get_manifest(&self, repo: &str, digest: &str) -> Answer<Bytes> {
         let answer = self.ask(Request { repo, digest, ..Request::new(Command::GetManifest) }).await?;
         Ok(answer.map(|reply| reply.body))
     }
 
     /// Deletes a manifest.
-    pub async fn delete_manifest(&self, repo: &str, digest: &str) -> Answer<()> {
+    pub(crate) async fn delete_manifest(&self, repo: &str, digest: &str) -> Answer<()> {
         let answer = self.ask(Request { repo, digest, ..Request::new(Command::DeleteManifest) }).await?;
         Ok(answer.map(|_| ()))
     }
 
     /// Removes a repository that has no link, no manifest and no session.
-    pub async fn remove_repo(&self, repo: &str) -> Answer<()> {
+    pub(crate) async fn remove_repo(&self, repo: &str) -> Answer<()> {
         let answer = self.ask(Request { repo, ..Request::new(Command::RemoveRepo) }).await?;
         Ok(answer.map(|_| ()))
     }
 
     /// Returns the size of a blob that is linked in a repository.
-    pub async fn stat(&self, repo: &str, digest: &str) -> Answer<u64> {
+    pub(crate) async fn stat(&self, repo: &str, digest: &str) -> Answer<u64> {
         let answer = self.ask(Request { repo, digest, ..Request::new(Command::Stat) }).await?;
         Ok(answer.map(|reply| reply.first))
     }
 
     /// Returns the size of a manifest.
-    pub async fn stat_manifest(&self, repo: &str, digest: &str) -> Answer<u64> {
+    pub(crate) async fn stat_manifest(&self, repo: &str, digest: &str) -> Answer<u64> {
         let answer = self.ask(Request { repo, digest, ..Request::new(Command::StatManifest) }).await?;
         Ok(answer.map(|reply| reply.first))
     }
 
     /// Leases a blob. The caller has to release the lease.
-    pub async fn lease(&self, repo: &str, digest: &str) -> Answer<LeasedBlob> {
+    pub(crate) async fn lease(&self, repo: &str, digest: &str) -> Answer<LeasedBlob> {
         let answer = self.ask_with(Request { repo, digest, ..Request::new(Command::Lease) }, Undo::Lease).await?;
         Ok(answer.map(|reply| self.leased(repo, &reply)))
     }
 
     /// Fetches the bytes of a blob in a range of two offsets, both included, or all bytes without a range. If they are more
     /// than `MAX_FETCHED`, the blob is leased, and the caller has to release the lease.
-    pub async fn fetch(&self, repo: &str, digest: &str, range: Option<(u64, u64)>) -> Answer<FetchResult> {
+    pub(crate) async fn fetch(&self, repo: &str, digest: &str, range: Option<(u64, u64)>) -> Answer<FetchResult> {
         let request = Request { repo, digest, range, ..Request::new(Command::Fetch) };
         let answer = self.ask_with(request, Undo::Lease).await?;
         Ok(answer.map(|reply| match reply.second {
@@ -194,7 +194,7 @@ impl Store {
     }
 
     /// Returns the bytes of a leased blob from one offset to another, both included.
-    pub async fn read(&self, lease: Lease, digest: &str, start: u64, last: u64) -> Answer<Bytes> {
+    pub(crate) async fn read(&self, lease: Lease, digest: &str, start: u64, last: u64) -> Answer<Bytes> {
         let range = Some((start, last));
         let request = Request { number: lease.number, digest, range, ..Request::new(Command::Read) };
         let [answer] = self.ask_all(lease.sharer, self.limit, [request], Undo::Nothing).await?;
@@ -202,7 +202,7 @@ impl Store {
     }
 
     /// Returns the bytes of a leased blob as `read` does, and releases the lease. `range` is `None` only for an empty blob.
-    pub async fn read_last(&self, lease: Lease, digest: &str, range: Option<(u64, u64)>) -> Answer<Bytes> {
+    pub(crate) async fn read_last(&self, lease: Lease, digest: &str, range: Option<(u64, u64)>) -> Answer<Bytes> {
         let number = lease.number;
         let read = Request { number, digest, range, ..Request::new(Command::Read) };
         let give_back = Request { number, ..Request::new(Command::GiveBack) };
@@ -217,7 +217,7 @@ impl Store {
     }
 
     /// Releases a lease. It retries until the store gets the request or has ended, because nothing else releases the lease.
-    pub async fn give_back(&self, lease: Lease) -> Answer<()> {
+    pub(crate) async fn give_back(&self, lease: Lease) -> Answer<()> {
         loop {
             let request = Request { number: lease.number, ..Request::new(Command::GiveBack) };
             match self.ask_all(lease.sharer, self.limit, [request], Undo::Nothing).await {
@@ -229,31 +229,31 @@ impl Store {
     }
 
     /// Frees the slots of blobs that have no links and no readers.
-    pub async fn sweep(&self) -> Answer<SweepResult> {
+    pub(crate) async fn sweep(&self) -> Answer<SweepResult> {
         let answer = self.ask_own(self.limit, Request::new(Command::Sweep)).await?;
         Ok(answer.map(|reply| SweepResult { freed: reply.first, held: reply.second }))
     }
 
     /// Returns the number of free slots.
-    pub async fn free_slots(&self) -> Answer<u64> {
+    pub(crate) async fn free_slots(&self) -> Answer<u64> {
         let answer = self.ask_own(self.limit, Request::new(Command::FreeSlots)).await?;
         Ok(answer.map(|reply| reply.first))
     }
 
     /// Returns how often the store's log was synced since the store started.
-    pub async fn sync_count(&self) -> Answer<u64> {
+    pub(crate) async fn sync_count(&self) -> Answer<u64> {
         let answer = self.ask_own(self.limit, Request::new(Command::SyncCount)).await?;
         Ok(answer.map(|reply| reply.first))
     }
 
     /// Returns the bytes that a repository's tenant uses, and its quota.
-    pub async fn usage(&self, repo: &str) -> Answer<(u64, u64)> {
+    pub(crate) async fn usage(&self, repo: &str) -> Answer<(u64, u64)> {
         let answer = self.ask(Request { repo, ..Request::new(Command::Usage) }).await?;
         Ok(answer.map(|reply| (reply.first, reply.second)))
     }
 
     /// Returns the number of distinct blobs of a repository's tenant, and its share.
-    pub async fn slot_use(&self, repo: &str) -> Answer<SlotUse> {
+    pub(crate) async fn slot_use(&self, repo: &str) -> Answer<SlotUse> {
         let answer = self.ask(Request { repo, ..Request::new(Command::SlotUse) }).await?;
         let share = |number| Some(number).filter(|number| *number != UNLIMITED);
         Ok(answer.map(|reply| SlotUse { blobs: reply.first, share: share(reply.second) }))

@@ -22,32 +22,32 @@ use tokio::time::{timeout_at, Instant};
 const PROBE_TIME: Duration = Duration::from_secs(5);
 
 /// The parameters of a store.
-pub struct Setup<'a> {
-    pub blobd: &'a Path,
+pub(crate) struct Setup<'a> {
+    pub(crate) blobd: &'a Path,
     /// The options of `blobd`.
-    pub words: Vec<OsString>,
+    pub(crate) words: Vec<OsString>,
     /// The table that records uploads which are undone, if there is one.
-    pub writer: Option<Arc<Writer>>,
-    pub slots: u32,
-    pub max_blob: u64,
+    pub(crate) writer: Option<Arc<Writer>>,
+    pub(crate) slots: u32,
+    pub(crate) max_blob: u64,
     /// Arguments of the form `TENANT=QUOTA` or `TENANT=QUOTA,BLOBS`.
-    pub tenants: &'a [String],
+    pub(crate) tenants: &'a [String],
     /// The tenants' names.
-    pub names: Vec<String>,
+    pub(crate) names: Vec<String>,
     /// The number of connections, which is the maximum number of calls at once.
-    pub connections: usize,
+    pub(crate) connections: usize,
     /// The time limit of a call.
-    pub call: Duration,
+    pub(crate) call: Duration,
 }
 
 /// The store. A call uses one connection, and waits until its sharer may get one.
-pub struct Store {
+pub(crate) struct Store {
     pool: Arc<ConnectionPool>,
     /// The number of each tenant among the sharers of the connections. All unknown tenants share the next number, and the
     /// program itself has the last.
     sharers: HashMap<String, usize>,
     /// The time limit of a call.
-    pub limit: Duration,
+    pub(crate) limit: Duration,
     writer: Option<Arc<Writer>>,
     end_notice: Notify,
     has_ended: AtomicBool,
@@ -55,13 +55,13 @@ pub struct Store {
 
 /// A call to the store was not made, or its reply is late: the store has ended or hangs.
 #[derive(Debug)]
-pub struct StoreUnavailable;
+pub(crate) struct StoreUnavailable;
 
 /// The result of a call.
-pub type Answer<T> = Result<Result<T, Refusal>, StoreUnavailable>;
+pub(crate) type Answer<T> = Result<Result<T, Refusal>, StoreUnavailable>;
 
 /// The reason why a call has no reply.
-pub enum NoReply {
+pub(crate) enum NoReply {
     /// It was not made.
     NotMade,
     /// It was made, and its reply is late.
@@ -76,7 +76,7 @@ impl From<NoReply> for StoreUnavailable {
 
 impl Store {
     /// Starts `blobd`, and greets it on every connection.
-    pub async fn start(setup: Setup<'_>) -> Result<(Store, Child), Failure> {
+    pub(crate) async fn start(setup: Setup<'_>) -> Result<(Store, Child), Failure> {
         let own = std::process::id();
         let mut command = tokio::process::Command::new(setup.blobd);
         command.args(&setup.words).arg(setup.slots.to_string()).arg(setup.max_blob.to_string()).args(setup.tenants).arg("--");
@@ -123,38 +123,38 @@ impl Store {
     }
 
     /// Waits until the store has ended.
-    pub async fn ended(&self) {
+    pub(crate) async fn ended(&self) {
         self.end_notice.notified().await
     }
 
     /// Returns whether the store has ended.
-    pub fn has_ended(&self) -> bool {
+    pub(crate) fn has_ended(&self) -> bool {
         self.has_ended.load(Ordering::Relaxed)
     }
 
     /// Returns the number of sharers of the connections.
-    pub fn sharers(&self) -> usize {
+    pub(crate) fn sharers(&self) -> usize {
         self.sharers.len() + 2
     }
 
     /// Returns the sharer number of a repository's tenant.
-    pub fn sharer(&self, repo: &str) -> usize {
+    pub(crate) fn sharer(&self, repo: &str) -> usize {
         let tenant = repo.split('/').next().unwrap_or_default();
         self.sharers.get(tenant).copied().unwrap_or(self.sharers.len())
     }
 
     /// Returns whether a repository's tenant exists.
-    pub fn has_tenant(&self, repo: &str) -> bool {
+    pub(crate) fn has_tenant(&self, repo: &str) -> bool {
         self.sharers.contains_key(repo.split('/').next().unwrap_or_default())
     }
 
     /// Returns the sharer number of the program itself.
-    pub fn own(&self) -> usize {
+    pub(crate) fn own(&self) -> usize {
         self.sharers.len() + 1
     }
 
     /// Handles a failed connection: the store has ended.
-    pub fn connection_failed(&self, error: io::Error) {
+    pub(super) fn connection_failed(&self, error: io::Error) {
         tracing::error!(%error, "the store is gone");
         self.has_ended.store(true, Ordering::Relaxed);
         self.pool.close();
@@ -162,7 +162,7 @@ impl Store {
     }
 
     /// Takes a connection for a sharer, if one is available in time.
-    pub async fn take(&self, sharer: usize, end: Instant) -> Result<PooledConnection, StoreUnavailable> {
+    pub(super) async fn take(&self, sharer: usize, end: Instant) -> Result<PooledConnection, StoreUnavailable> {
         match timeout_at(end, self.pool.take(sharer)).await {
             Ok(Ok(pooled)) => Ok(pooled),
             Ok(Err(PoolError::Closed)) => Err(StoreUnavailable),
@@ -174,7 +174,7 @@ impl Store {
     }
 
     /// Makes a fixed number of calls as `ask_many` does.
-    pub async fn ask_all<const N: usize>(
+    pub(super) async fn ask_all<const N: usize>(
         &self,
         sharer: usize,
         limit: Duration,
@@ -186,7 +186,7 @@ impl Store {
 
     /// Makes calls of a sharer on one connection. All but the last have to be short. A call whose reply is late continues in
     /// the background, so that its connection can be used again, and is undone after the reply.
-    pub async fn ask_many(
+    pub(crate) async fn ask_many(
         &self,
         sharer: usize,
         limit: Duration,
@@ -220,24 +220,24 @@ impl Store {
     }
 
     /// Makes a call that needs no undo.
-    pub async fn ask(&self, request: Request<'_>) -> Answer<Reply> {
+    pub(super) async fn ask(&self, request: Request<'_>) -> Answer<Reply> {
         self.ask_with(request, Undo::Nothing).await
     }
 
     /// Makes a call for its repository's tenant.
-    pub async fn ask_with(&self, request: Request<'_>, undo: Undo) -> Answer<Reply> {
+    pub(super) async fn ask_with(&self, request: Request<'_>, undo: Undo) -> Answer<Reply> {
         let [answer] = self.ask_all(self.sharer(request.repo), self.limit, [request], undo).await?;
         Ok(answer)
     }
 
     /// Makes a call for the program itself.
-    pub async fn ask_own(&self, limit: Duration, request: Request<'_>) -> Answer<Reply> {
+    pub(super) async fn ask_own(&self, limit: Duration, request: Request<'_>) -> Answer<Reply> {
         let [answer] = self.ask_all(self.own(), limit, [request], Undo::Nothing).await?;
         Ok(answer)
     }
 
     /// Returns whether the store replies in a short time.
-    pub async fn replies(&self) -> bool {
+    pub(crate) async fn replies(&self) -> bool {
         let tenant = self.sharers.keys().next().map_or("", String::as_str);
         let request = Request { repo: tenant, ..Request::new(Command::Usage) };
         self.ask_own(self.limit.min(PROBE_TIME), request).await.is_ok()
@@ -245,7 +245,7 @@ impl Store {
 
     /// Closes the connections and waits for `blobd`, which ends then. It writes its totals to the standard error of this
     /// process. Fails if `blobd` fails, or does not end in time. Then it is killed.
-    pub async fn end(&self, child: Child) -> Result<(), Failure> {
+    pub(crate) async fn end(&self, child: Child) -> Result<(), Failure> {
         self.pool.close();
         process::wait_for(child).await
     }

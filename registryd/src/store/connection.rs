@@ -7,14 +7,14 @@ use std::os::unix::io::{AsRawFd, FromRawFd};
 use tokio::io::unix::AsyncFd;
 
 /// The preferred capacity of a pipe, in bytes.
-pub const PIPE_LEN: usize = 1 << 20;
+pub(super) const PIPE_LEN: usize = 1 << 20;
 
 /// The smallest capacity that is requested for a pipe, in bytes.
 const LEAST_PIPE_LEN: usize = 64 << 10;
 
 /// The longest body that fits into a pipe together with the pages of its head. The writer of such a body never waits for the
 /// reader.
-pub const WHOLE_LEN: usize = PIPE_LEN - (8 << 10);
+pub(crate) const WHOLE_LEN: usize = PIPE_LEN - (8 << 10);
 
 /// The maximum length of a digest that `blobd` sends, in bytes.
 const MAX_DIGEST: u32 = 256;
@@ -63,10 +63,10 @@ fn nonblocking(file: File) -> io::Result<AsyncFd<File>> {
 }
 
 /// The reply to a request.
-pub type ReplyResult = Result<Reply, Refusal>;
+pub(super) type ReplyResult = Result<Reply, Refusal>;
 
 /// An encoded request: its head and the pieces of its body.
-pub struct Frame {
+pub(super) struct Frame {
     head: Vec<u8>,
     body: Vec<Bytes>,
 }
@@ -78,22 +78,22 @@ impl From<&Request<'_>> for Frame {
 }
 
 /// A connection: this side's ends of its pipes.
-pub struct StoreConnection {
+pub(super) struct StoreConnection {
     to: AsyncFd<File>,
     from: AsyncFd<File>,
     /// The capacity of the smaller pipe, in bytes.
-    pub room: usize,
+    pub(super) room: usize,
 }
 
 /// The other side's ends of the pipes: one to read requests, one to write replies.
-pub struct PeerEnds {
-    pub requests: File,
-    pub replies: File,
+pub(super) struct PeerEnds {
+    pub(super) requests: File,
+    pub(super) replies: File,
 }
 
 impl StoreConnection {
     /// Makes a connection, and returns it with the other side's ends.
-    pub fn new() -> io::Result<(StoreConnection, PeerEnds)> {
+    pub(super) fn new() -> io::Result<(StoreConnection, PeerEnds)> {
         let (requests, to, room) = pipe()?;
         let (from, replies, back) = pipe()?;
         let connection = StoreConnection { to: nonblocking(to)?, from: nonblocking(from)?, room: room.min(back) };
@@ -101,7 +101,7 @@ impl StoreConnection {
     }
 
     /// Sends the greeting, and reads that of the other side.
-    pub async fn greet(&mut self) -> io::Result<()> {
+    pub(super) async fn greet(&mut self) -> io::Result<()> {
         self.write(vec![&GREETING]).await?;
         let mut greeting = [0; GREETING.len()];
         self.read(&mut greeting).await?;
@@ -113,7 +113,7 @@ impl StoreConnection {
 
     /// Sends requests, and then reads their replies. All requests but the last have to be short, because no reply is read
     /// before all are sent. After an error, or if the future is dropped early, the connection must not be used again.
-    pub async fn exchange(&self, frames: &[Frame]) -> io::Result<Vec<ReplyResult>> {
+    pub(super) async fn exchange(&self, frames: &[Frame]) -> io::Result<Vec<ReplyResult>> {
         self.send(frames).await?;
         let mut answers = Vec::with_capacity(frames.len());
         for _ in frames {
@@ -123,7 +123,7 @@ impl StoreConnection {
     }
 
     /// Sends requests. `answer` reads their replies, in order.
-    pub async fn send(&self, frames: &[Frame]) -> io::Result<()> {
+    pub(super) async fn send(&self, frames: &[Frame]) -> io::Result<()> {
         let mut slices: Vec<&[u8]> = Vec::new();
         for Frame { head, body } in frames {
             slices.push(head);
@@ -133,7 +133,7 @@ impl StoreConnection {
     }
 
     /// Reads the next reply. If the future is dropped early, the connection must not be used again.
-    pub async fn answer(&self) -> io::Result<ReplyResult> {
+    pub(super) async fn answer(&self) -> io::Result<ReplyResult> {
         let mut head = [0; HEAD_LEN];
         self.read(&mut head).await?;
         let head = ReplyHead::parse(&head);

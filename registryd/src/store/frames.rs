@@ -3,10 +3,10 @@
 use bytes::Bytes;
 
 /// The first bytes that each side sends: the name and the version.
-pub const GREETING: [u8; 8] = *b"blobd\0\x01\0";
+pub(super) const GREETING: [u8; 8] = *b"blobd\0\x01\0";
 
 /// The length of the fixed head of a request and of a reply, in bytes.
-pub const HEAD_LEN: usize = 32;
+pub(super) const HEAD_LEN: usize = 32;
 
 /// The length at which a repository name or a digest is cut, in bytes. A longer text is invalid, and stays invalid when it
 /// is cut.
@@ -15,7 +15,7 @@ const MAX_TEXT: usize = 1024;
 /// The command of a request.
 #[derive(Clone, Copy, Debug, PartialEq, Eq)]
 #[repr(u8)]
-pub enum Command {
+pub(crate) enum Command {
     Start = 1,
     Status = 2,
     Append = 3,
@@ -42,27 +42,27 @@ pub enum Command {
 
 /// A request.
 #[derive(Clone, Debug)]
-pub struct Request<'a> {
-    pub command: Command,
-    pub repo: &'a str,
-    pub digest: &'a str,
-    pub source: &'a str,
+pub(crate) struct Request<'a> {
+    pub(crate) command: Command,
+    pub(crate) repo: &'a str,
+    pub(crate) digest: &'a str,
+    pub(crate) source: &'a str,
     /// The number of a session or a lease.
-    pub number: u32,
+    pub(crate) number: u32,
     /// The offsets of the first and the last byte.
-    pub range: Option<(u64, u64)>,
+    pub(crate) range: Option<(u64, u64)>,
     /// The pieces of the body, in order.
-    pub body: &'a [Bytes],
+    pub(crate) body: &'a [Bytes],
 }
 
 impl<'a> Request<'a> {
     /// Makes a request whose fields are empty.
-    pub fn new(command: Command) -> Request<'a> {
+    pub(crate) fn new(command: Command) -> Request<'a> {
         Request { command, repo: "", digest: "", source: "", number: 0, range: None, body: &[] }
     }
 
     /// Encodes the frame without its body.
-    pub fn head(&self) -> Vec<u8> {
+    pub(super) fn head(&self) -> Vec<u8> {
         let texts = [self.repo, self.digest, self.source].map(|text| &text.as_bytes()[..text.len().min(MAX_TEXT)]);
         let body_len: usize = self.body.iter().map(Bytes::len).sum();
         let (start, end) = self.range.unwrap_or((0, 0));
@@ -85,16 +85,16 @@ impl<'a> Request<'a> {
 
 /// The fixed head of a reply.
 #[derive(Clone, Copy, Debug, PartialEq, Eq)]
-pub struct ReplyHead {
-    pub status: u32,
-    pub digest_len: u32,
-    pub first: u64,
-    pub second: u64,
-    pub body_len: u64,
+pub(super) struct ReplyHead {
+    pub(super) status: u32,
+    pub(super) digest_len: u32,
+    pub(super) first: u64,
+    pub(super) second: u64,
+    pub(super) body_len: u64,
 }
 
 impl ReplyHead {
-    pub fn parse(head: &[u8; HEAD_LEN]) -> ReplyHead {
+    pub(super) fn parse(head: &[u8; HEAD_LEN]) -> ReplyHead {
         let short = |at: usize| u32::from_le_bytes([head[at], head[at + 1], head[at + 2], head[at + 3]]);
         let long = |at: usize| short(at) as u64 | (short(at + 4) as u64) << 32;
         ReplyHead { status: short(0), digest_len: short(4), first: long(8), second: long(16), body_len: long(24) }
@@ -103,16 +103,16 @@ impl ReplyHead {
 
 /// A reply of success.
 #[derive(Clone, Debug, Default)]
-pub struct Reply {
-    pub first: u64,
-    pub second: u64,
-    pub digest: String,
-    pub body: Bytes,
+pub(crate) struct Reply {
+    pub(crate) first: u64,
+    pub(super) second: u64,
+    pub(super) digest: String,
+    pub(super) body: Bytes,
 }
 
 /// The reason why the store refused a request.
 #[derive(Clone, Copy, Debug, PartialEq, Eq)]
-pub enum Reason {
+pub(crate) enum Reason {
     NameInvalid,
     DigestInvalid,
     NameUnknown,
@@ -138,7 +138,7 @@ pub enum Reason {
 
 impl Reason {
     /// Returns the reason for a status other than 0.
-    pub fn of_status(status: u32) -> Reason {
+    pub(super) fn of_status(status: u32) -> Reason {
         match status {
             1 => Reason::NameInvalid,
             2 => Reason::DigestInvalid,
@@ -166,16 +166,16 @@ impl Reason {
 
 /// A reply of failure: the reason and its details.
 #[derive(Clone, Debug)]
-pub struct Refusal {
-    pub reason: Reason,
-    pub first: u64,
-    pub second: u64,
-    pub digest: String,
+pub(crate) struct Refusal {
+    pub(crate) reason: Reason,
+    pub(crate) first: u64,
+    pub(crate) second: u64,
+    pub(crate) digest: String,
 }
 
 impl Refusal {
     /// Makes a refusal without details.
-    pub fn of(reason: Reason) -> Refusal {
+    pub(crate) fn of(reason: Reason) -> Refusal {
         Refusal { reason, first: 0, second: 0, digest: String::new() }
     }
 }

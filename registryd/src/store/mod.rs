@@ -1,9 +1,9 @@
 //! The store: a `blobd` process and the connections to it.
-pub(crate) mod appending;
+mod appending;
 pub(crate) mod calls;
 pub(crate) mod client;
 pub(crate) mod connection;
 pub(crate) mod frames;
-pub(crate) mod pool;
+mod pool;
 pub(crate) mod process;
 pub(crate) mod undo;

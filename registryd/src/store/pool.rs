@@ -12,7 +12,7 @@ const MOST_WAITING: usize = 1024;
 
 /// The reason why no connection is returned.
 #[derive(Debug, PartialEq, Eq)]
-pub enum PoolError {
+pub(super) enum PoolError {
     /// The pool is closed.
     Closed,
     /// The maximum number of calls of the sharer already waits.
@@ -54,10 +54,10 @@ impl State {
 }
 
 /// The pool of connections to the store.
-pub struct ConnectionPool(Mutex<State>);
+pub(super) struct ConnectionPool(Mutex<State>);
 
 /// A connection in use by a sharer. Dropping it returns the connection, unless its last exchange is incomplete.
-pub struct PooledConnection {
+pub(super) struct PooledConnection {
     connection: Option<StoreConnection>,
     is_clean: bool,
     sharer: usize,
@@ -66,7 +66,7 @@ pub struct PooledConnection {
 
 impl ConnectionPool {
     /// Makes a pool for a number of sharers.
-    pub fn new(connections: Vec<StoreConnection>, sharers: usize) -> Arc<ConnectionPool> {
+    pub(super) fn new(connections: Vec<StoreConnection>, sharers: usize) -> Arc<ConnectionPool> {
         let count = connections.len();
         let sharers = (0..sharers).map(|_| Sharer::default()).collect();
         Arc::new(ConnectionPool(Mutex::new(State { idle: connections, count, sharers, last: 0, is_closed: false })))
@@ -77,7 +77,7 @@ impl ConnectionPool {
     }
 
     /// Takes a connection for a sharer after it may get one. Waiting calls of a sharer are served in order.
-    pub async fn take(self: &Arc<Self>, sharer: usize) -> Result<PooledConnection, PoolError> {
+    pub(super) async fn take(self: &Arc<Self>, sharer: usize) -> Result<PooledConnection, PoolError> {
         let receiver = {
             let mut state = self.state();
             if state.is_closed {
@@ -124,7 +124,7 @@ impl ConnectionPool {
     }
 
     /// Closes the idle connections, and each other one when it is returned. Waiting calls fail.
-    pub fn close(&self) {
+    pub(super) fn close(&self) {
         let mut state = self.state();
         state.is_closed = true;
         state.idle.clear();
@@ -136,18 +136,18 @@ impl ConnectionPool {
 
 impl PooledConnection {
     /// Returns the connection for an exchange. `done` ends the exchange.
-    pub fn begin(&mut self) -> io::Result<&StoreConnection> {
+    pub(super) fn begin(&mut self) -> io::Result<&StoreConnection> {
         self.is_clean = false;
         self.connection.as_ref().ok_or_else(|| io::ErrorKind::NotConnected.into())
     }
 
     /// Ends an exchange in which each request got its reply.
-    pub fn done(&mut self) {
+    pub(super) fn done(&mut self) {
         self.is_clean = true;
     }
 
     /// Sends requests, and reads their replies.
-    pub async fn exchange(&mut self, frames: &[Frame]) -> io::Result<Vec<ReplyResult>> {
+    pub(super) async fn exchange(&mut self, frames: &[Frame]) -> io::Result<Vec<ReplyResult>> {
         let answers = self.begin()?.exchange(frames).await?;
         self.done();
         Ok(answers)

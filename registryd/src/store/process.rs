@@ -20,7 +20,7 @@ fn read_in(text: &str) -> Option<u64> {
 
 /// Returns the number of bytes that the `blobd` that was started last has read from files and pipes, or `None` if it is not
 /// known.
-pub fn bytes_read() -> Option<u64> {
+pub(crate) fn bytes_read() -> Option<u64> {
     match LAST.load(Ordering::Relaxed) {
         0 => None,
         process => read_in(&std::fs::read_to_string(format!("/proc/{process}/io")).ok()?),
@@ -30,7 +30,7 @@ pub fn bytes_read() -> Option<u64> {
 /// Starts `blobd` in a process group of its own, ignoring the signals that stop this program. So a signal to all processes
 /// of a terminal or service does not stop the store before the requests. Closing its connections stops it, and SIGKILL does.
 /// Other users of the machine cannot read the files that it makes.
-pub fn spawn(mut command: Command) -> io::Result<Child> {
+pub(super) fn spawn(mut command: Command) -> io::Result<Child> {
     command.stdin(Stdio::null()).kill_on_drop(true);
     for name in VARIABLES {
         command.env_remove(name);
@@ -65,7 +65,7 @@ async fn ended(child: &mut Child) -> io::Result<Option<ExitStatus>> {
 }
 
 /// Waits until `blobd` has ended. Fails if its status is not 0, or if it does not end in time. Then it is killed.
-pub async fn wait_for(mut child: Child) -> Result<(), Failure> {
+pub(super) async fn wait_for(mut child: Child) -> Result<(), Failure> {
     match ended(&mut child).await? {
         Some(status) if status.success() => Ok(()),
         Some(status) => Err(Failure::of_blobd("cannot stop the store", status)),
@@ -74,7 +74,7 @@ pub async fn wait_for(mut child: Child) -> Result<(), Failure> {
 }
 
 /// Returns why `blobd` has closed its connections, after it has ended.
-pub async fn why_gone(child: &mut Child) -> Failure {
+pub(crate) async fn why_gone(child: &mut Child) -> Failure {
     match ended(child).await {
         Ok(Some(status)) => Failure::of_blobd("the store is gone", status),
         Ok(None) => Failure::new("the store is gone: blobd closed a connection, did not end, and was killed"),

@@ -6,7 +6,7 @@ use crate::store::pool::PooledConnection;
 
 /// The action that undoes a call if its reply arrives after the caller stopped waiting.
 #[derive(Clone, Copy)]
-pub enum Undo {
+pub(crate) enum Undo {
     Nothing,
     /// Abandons the session that was opened in the call's repository.
     Session,
@@ -29,7 +29,7 @@ impl Undo {
 
 /// Undoes the call of the first reply, on its connection. Returns what to record about the session that the call opened, if it
 /// opened one.
-pub async fn undo_on(pooled: &mut PooledConnection, undo: Undo, repo: &str, answers: &[ReplyResult]) -> Option<Change> {
+pub(super) async fn undo_on(pooled: &mut PooledConnection, undo: Undo, repo: &str, answers: &[ReplyResult]) -> Option<Change> {
     let reply = answers.first().and_then(|answer| answer.as_ref().ok())?;
     let request = undo.request(repo, reply)?;
     let answers = pooled.exchange(&[Frame::from(&request)]).await.ok()?;
