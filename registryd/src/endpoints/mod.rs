@@ -1,4 +1,4 @@
-//! The endpoints: which file serves which request, and how.
+//! The endpoints: the state that requests share, the routes, and one file for each resource.
 mod blobs;
 pub(crate) mod call;
 mod catalog;

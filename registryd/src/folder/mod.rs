@@ -1,4 +1,4 @@
-//! The folder of `--data`: its files, the room on its disk, and the looks at them while clients are served.
+//! The folder of `--data`: its files, the room on its disk, and the looks at both while clients are served.
 pub(crate) mod disk_room;
 pub(crate) mod files;
 mod frame_check;

@@ -1,4 +1,4 @@
-//! What this process knows of repositories, manifests, tags and uploads, which the store does not have.
+//! Tags, facts of manifests, repositories and open uploads: what this process keeps in addition to the store.
 pub(crate) mod bounds;
 pub(crate) mod clock;
 pub(crate) mod document;

@@ -74,12 +74,11 @@ async fn open_folder(options: &Options, room: &Option<Arc<DiskRoom>>) -> Result<
 }
 
 /// Compares the database with the store, if there is one. The store ends if this fails.
-async fn recover(store: &Store, child: Child, opened: Option<Opened>) -> Result<(Child, Option<Recovered>), Failure> {
+async fn recover(store: &Store, mut child: Child, opened: Option<Opened>) -> Result<(Child, Option<Recovered>), Failure> {
     let opened = match opened {
         Some(opened) => opened,
         None => return Ok((child, None)),
     };
-    let mut child = child;
     match recovery::recover(store, opened).await {
         Ok(recovered) => Ok((child, Some(recovered))),
         Err(_) if store.has_ended() => Err(process::why_gone(&mut child).await),

@@ -1,4 +1,4 @@
-//! The start of the program: its options, what it opens, and what it compares and finds to be lost.
+//! The start of the program: its options, the files that it reads, the launch, and the comparison of the database with the store.
 pub(crate) mod capacity;
 pub(crate) mod credentials;
 mod default_shares;
