@@ -1,5 +1,6 @@
 //! The store: a `blobd` process and the connections to it.
 use crate::database::writer::Writer;
+use crate::metadata::names::tenant_of;
 use crate::operation::exit::Failure;
 use crate::store::connection::{Frame, PeerEnds, StoreConnection, PIPE_LEN};
 use crate::store::frames::{Command, Refusal, Reply, Request};
@@ -139,13 +140,12 @@ impl Store {
 
     /// Returns the sharer number of a repository's tenant.
     pub(crate) fn sharer(&self, repo: &str) -> usize {
-        let tenant = repo.split('/').next().unwrap_or_default();
-        self.sharers.get(tenant).copied().unwrap_or(self.sharers.len())
+        self.sharers.get(tenant_of(repo)).copied().unwrap_or(self.sharers.len())
     }
 
     /// Returns whether a repository's tenant exists.
     pub(crate) fn has_tenant(&self, repo: &str) -> bool {
-        self.sharers.contains_key(repo.split('/').next().unwrap_or_default())
+        self.sharers.contains_key(tenant_of(repo))
     }
 
     /// Returns the sharer number of the program itself.
