@@ -17,7 +17,7 @@ use crate::operation::reload::{Hangup, Reloads};
 use crate::operation::signals::Signals;
 use crate::operation::{memory_reserve, rewriting, shutdown};
 use crate::start::listening::Listening;
-use crate::start::options::Options;
+use crate::start::options::{LogFormat, LogLevel, Options};
 use crate::start::{capacity, credentials, launch, listening, provenance};
 use clap::{CommandFactory, FromArgMatches};
 use std::process::ExitCode;
@@ -32,7 +32,7 @@ const REST_TIME: Duration = Duration::from_secs(1);
 
 fn main() -> ExitCode {
     let options = options();
-    tracing_subscriber::fmt().with_writer(std::io::stderr).with_ansi(false).init();
+    begin_log(&options);
     if let Some(conflict) = options.conflict() {
         tracing::error!("{conflict}");
         return ExitCode::from(2);
@@ -49,6 +49,20 @@ fn main() -> ExitCode {
             tracing::error!("{failure}");
             ExitCode::from(failure.status)
         }
+    }
+}
+
+/// Logs to standard error from now on.
+fn begin_log(options: &Options) {
+    let level = match options.log_level {
+        LogLevel::Error => tracing::Level::ERROR,
+        LogLevel::Warn => tracing::Level::WARN,
+        LogLevel::Info => tracing::Level::INFO,
+    };
+    let log = tracing_subscriber::fmt().with_writer(std::io::stderr).with_max_level(level);
+    match options.log_format {
+        LogFormat::Text => log.with_ansi(false).init(),
+        LogFormat::Json => log.json().init(),
     }
 }
 
@@ -92,7 +106,7 @@ async fn run(options: Options) -> Result<(), Failure> {
     notifier.send("READY=1\nSTATUS=serving");
     let registry = started.registry.clone();
     tokio::select! {
-        ended = shutdown::serve(started, serving, signals, &notifier) => ended,
+        ended = shutdown::serve(started, serving, signals, &notifier, Duration::from_secs(options.drain_s)) => ended,
         never = notifier.keep_alive(|| registry.store.replies()) => never,
     }
 }

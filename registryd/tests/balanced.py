@@ -1,5 +1,6 @@
 #!/usr/bin/env python3
-"""Tests two registries with folders behind HAProxy with docs/haproxy.cfg: each tenant always reaches the same one of them. After
+"""Tests two registries with folders behind HAProxy with docs/haproxy.cfg: each tenant always reaches the same one of them, and a request that
+names no tenant one that is there. After
 one is killed, its tenants get 503, and after its restart they have their content; the tenants of the other one notice nothing."""
 import contextlib, os, subprocess, tempfile
 
@@ -35,7 +36,7 @@ def balancer(folder, one, two):
     with open(f"{os.path.dirname(TOP)}/docs/haproxy.cfg") as example:
         text = example.read()
     for old, new in (("127.0.0.1:5001", one.address), ("127.0.0.1:5002", two.address), ("*:5000", address)):
-        assert text.count(old) == 1, old
+        assert text.count(old) in (1, 2), old
         text = text.replace(old, new)
     for name, content in (("haproxy.cfg", text), ("moving.list", ""), ("routes.map", "")):
         with open(f"{folder}/{name}", "w") as file:
@@ -66,6 +67,13 @@ def play(one, two, address):
     placed = [[server.ask("HEAD", f"/v2/{tenant}/a/blobs/{digest}").status for server in direct] for tenant in TENANTS]
     assert all(sorted(both) == [200, 404] for both in placed), placed
     assert len({tuple(both) for both in placed}) == 2, f"one registry has all: {placed}"
+    for dead in (one, two):
+        dead.kill()
+        # A connection that was open is not counted.
+        assert until(lambda: Client(address).ask("GET", "/v2/").status == 200), "no registry answers although one is there"
+        assert [Client(address).ask("GET", "/v2/").status for _ in range(10)] == [200] * 10
+        dead.begin()
+        assert until(lambda: all(Client(address).ask("GET", f"/v2/{tenant}/a/manifests/v1").status == 200 for tenant in TENANTS))
     one.kill()
     assert statuses("manifests/v1") == [503 if both[0] == 200 else 200 for both in placed], statuses("manifests/v1")
     one.begin()

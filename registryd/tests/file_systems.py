@@ -1,5 +1,6 @@
 #!/usr/bin/env python3
-"""Tests what a registry has acknowledged after the file system of its folder lost everything that was not on the disk, as by a loss of power.
+"""Tests what a registry has acknowledged after the file system of its folder lost everything that was not on the disk, as by a loss of power, what
+a registry says while its disk does not answer, and what a start says of kinds of file systems.
 
 The file system is on a loop device. It is shut down while clients push, without writing anything back, as ext4 and XFS can do, and mounted again. The
 tests need root and run in mounts of their own. They end with status 3 if such a file system cannot be made."""
@@ -7,9 +8,9 @@ import contextlib, fcntl, http.client, itertools, os, random, shutil, struct, su
 
 from playing import play, until
 from restarts import pulled, pushed
-from server import MANIFEST, serving
+from server import BLOBD, MANIFEST, REGISTRYD, serving
 
-TOOLS = ("unshare", "mkfs.ext4", "mkfs.xfs", "mount", "umount")
+TOOLS = ("unshare", "fsfreeze", "mkfs.ext4", "mkfs.xfs", "mount", "umount", "rclone", "fusermount3")
 # A file system is shut down by this call (linux/fs.h has FS_IOC_SHUTDOWN as XFS_IOC_GOINGDOWN), without its log.
 SHUTDOWN, NO_LOG_FLUSH = 0x8004587D, struct.pack("I", 2)
 PUSHERS, ROUNDS, CANNOT = 4, 3, 3
@@ -119,6 +120,51 @@ def without_syncs_something_is_lost(kind):
         assert lost, "nothing is lost without syncs"
 
 
+def the_kind_is_named():
+    with disk_of("xfs") as disk, serving("--data", f"{disk.at}/registry") as server:
+        assert "kind=xfs" in server.logged(), server.logged()
+        server.end()
+    with tempfile.TemporaryDirectory(dir="/dev/shm") as folder, serving("--data", folder) as server:
+        assert "the folder is in memory: all is lost when the machine ends kind=tmpfs" in server.logged(), server.logged()
+        server.end()
+
+
+def statuses(server):
+    return [server.client().ask("GET", path).status for path in ("/livez", "/healthz", "/readyz")]
+
+
+def a_disk_that_does_not_answer_is_seen():
+    """What is in memory is read meanwhile."""
+    with disk_of("ext4") as disk, serving("--data", f"{disk.at}/registry") as server:
+        image = pushed(server.client())
+        assert statuses(server) == [200, 200, 200], statuses(server)
+        run("fsfreeze", "-f", disk.at)
+        try:
+            assert until(lambda: statuses(server) == [200, 503, 503]), statuses(server)
+            assert pulled(server.client(), "acme/one", "v1") == (image, MANIFEST)
+        finally:
+            run("fsfreeze", "-u", disk.at)
+        assert until(lambda: statuses(server) == [200, 200, 200]), statuses(server)
+        server.end()
+
+
+def a_kind_that_broke_a_promise_is_refused():
+    with tempfile.TemporaryDirectory() as top:
+        source, at = f"{top}/source", f"{top}/mount"
+        for path in (source, at):
+            os.makedirs(path)
+        run("rclone", "--config", "", "mount", source, at, "--vfs-cache-mode", "writes", "--daemon")
+        try:
+            words = ("--data", f"{at}/registry")
+            ended = subprocess.run([REGISTRYD, "--listen", "127.0.0.1:0", "--blobd", BLOBD, *words, "acme=1000"], stderr=subprocess.PIPE, text=True)
+            assert ended.returncode == 6 and "fuse.rclone" in ended.stderr and "--any-file-system" in ended.stderr, ended
+            with serving(*words, "--any-file-system") as server:
+                assert "was seen to lose what was acknowledged kind=fuse.rclone" in server.logged(), server.logged()
+                server.end()
+        finally:
+            subprocess.run(["umount", "-l", at])
+
+
 def main():
     if os.getuid() != 0 or not all(shutil.which(tool) for tool in TOOLS):
         sys.exit(CANNOT)
@@ -132,7 +178,7 @@ def main():
         sys.exit(CANNOT)
     play("file_systems", [
         *((what_is_acknowledged_survives, kind, "--sync", policy) for kind in ("ext4", "xfs") for policy in ("closes", "each")),
-        (without_syncs_something_is_lost, "ext4")])
+        (without_syncs_something_is_lost, "ext4"), a_disk_that_does_not_answer_is_seen, the_kind_is_named, a_kind_that_broke_a_promise_is_refused])
 
 
 if __name__ == "__main__":

@@ -1,5 +1,6 @@
 //! The state of the registry, which all requests share.
 use crate::auth::access::{Access, Caller};
+use crate::folder::disk_probe::DiskProbe;
 use crate::folder::files::Folder;
 use crate::folder::scrub::Scrub;
 use crate::http::fault::Fault;
@@ -13,6 +14,7 @@ use crate::metadata::repositories::Repositories;
 use crate::metadata::repository::Removal;
 use crate::metadata::turns::Turns;
 use crate::operation::collector::SweepRequests;
+use crate::operation::health::Draining;
 use crate::operation::metrics::Metrics;
 use crate::operation::status::SweepHistory;
 use crate::start::provenance::Provenance;
@@ -32,6 +34,8 @@ pub(crate) struct Registry {
     pub(crate) loose: LooseBlobs,
     /// The folder, if the registry survives restarts.
     pub(crate) folder: Option<Folder>,
+    /// The probes of its disk.
+    pub(crate) disk_probe: Option<Arc<DiskProbe>>,
     /// The reads of the log while clients are served.
     pub(crate) scrub: Option<Arc<Scrub>>,
     /// The writers of a manifest take turns, each for the time of its call to the store. Readers take no turn.
@@ -55,6 +59,7 @@ pub(crate) struct Registry {
     pub(crate) bounds_by_tenant: HashMap<String, Bounds>,
     /// Where the store's program comes from.
     pub(crate) provenance: Provenance,
+    pub(crate) draining: Draining,
     /// The time of the start, in seconds since 1970.
     pub(crate) started: u64,
 }

@@ -10,7 +10,7 @@ use crate::http::fault::Fault;
 use crate::http::framing;
 use crate::http::paths::{decoded, Target};
 use crate::http::responses::{empty, HandlerResult};
-use crate::operation::health::{ALIVE, HEALTH};
+use crate::operation::health::{ALIVE, HEALTH, READY};
 use crate::operation::status::View;
 use hyper::header::{HeaderValue, CONNECTION, EXPECT, HOST};
 use hyper::http::request::Parts;
@@ -85,7 +85,10 @@ impl Registry {
             return empty(StatusCode::OK, &[]);
         }
         if path == HEALTH {
-            return self.probe(&[]).await;
+            return self.health().await;
+        }
+        if path == READY {
+            return self.readiness().await;
         }
         let decoded = decoded(&path);
         let target = decoded.as_deref().and_then(Target::of);
@@ -157,7 +160,8 @@ impl Registry {
                 Some(view) => self.view(view, method, request.uri().query()).await,
                 None if method == Method::GET && path == "/untagged" => untagged::list(&self, request.uri().query()),
                 None if method == Method::GET && path == ALIVE => empty(StatusCode::OK, &[]),
-                None if method == Method::GET && path == HEALTH => self.probe(&[]).await,
+                None if method == Method::GET && path == HEALTH => self.health().await,
+                None if method == Method::GET && path == READY => self.readiness().await,
                 None => Err(Fault::path()),
             }
         });

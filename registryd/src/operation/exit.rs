@@ -62,6 +62,15 @@ impl Failure {
         Failure { status: UNUSABLE, text }
     }
 
+    /// The kind of the folder's file system was seen to break a promise.
+    pub(crate) fn of_file_system(folder: &Path, kind: &str) -> Failure {
+        let text = format!(
+            "cannot use the folder: {}: its file system, {kind}, was seen to lose what was acknowledged: give another folder, or --any-file-system",
+            folder.display()
+        );
+        Failure { status: UNUSABLE, text }
+    }
+
     /// Another process has the folder.
     pub(crate) fn of_taken_folder() -> Failure {
         Failure { status: TAKEN, text: "another process has the folder of --data: end that one".to_string() }

@@ -34,8 +34,25 @@ async fn watch_folder(registry: &Registry, database: &Option<(Arc<Writer>, Write
     Watcher::new(folder.path().to_path_buf(), folder.room.clone(), writer).run().await
 }
 
-/// Serves requests until a signal arrives, and then lets open requests finish.
-pub(crate) async fn serve(started: Started, serving: Serving, mut signals: Signals, notifier: &Notifier) -> Result<(), Failure> {
+/// Waits for a signal, and then for the time in which a balancer finds out that the registry is about to stop, or for another signal.
+async fn asked_to_stop(registry: &Registry, signals: &mut Signals, notifier: &Notifier, drain: Duration) {
+    signals.recv().await;
+    notifier.send("STOPPING=1");
+    registry.draining.begin();
+    if !drain.is_zero() {
+        tracing::info!(seconds = drain.as_secs(), "draining");
+        let _ = tokio::time::timeout(drain, signals.recv()).await;
+    }
+}
+
+/// Serves requests until a signal arrives and the time to drain is over, and then lets open requests finish.
+pub(crate) async fn serve(
+    started: Started,
+    serving: Serving,
+    mut signals: Signals,
+    notifier: &Notifier,
+    drain: Duration,
+) -> Result<(), Failure> {
     let Started { registry, mut child, database, synced } = started;
     let Serving { connections, server, stop } = serving;
     tokio::select! {
@@ -44,9 +61,8 @@ pub(crate) async fn serve(started: Started, serving: Serving, mut signals: Signa
         status = child.wait() => return Err(Failure::of_blobd("the store is gone", status?)),
         failure = failed(&database) => return Err(failure),
         failure = watch_folder(&registry, &database, &synced) => return Err(failure),
-        () = signals.recv() => {}
+        () = asked_to_stop(&registry, &mut signals, notifier, drain) => {}
     }
-    notifier.send("STOPPING=1");
     tracing::info!("stopping");
     drop(stop);
     let is_ended = tokio::select! {

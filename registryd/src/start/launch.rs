@@ -2,6 +2,7 @@
 use crate::auth::access::Access;
 use crate::database::writer::{Writer, WriterThread};
 use crate::endpoints::registry::Registry;
+use crate::folder::disk_probe::DiskProbe;
 use crate::folder::disk_room::DiskRoom;
 use crate::folder::files::Folder;
 use crate::folder::scrub::Scrub;
@@ -145,6 +146,7 @@ pub(crate) async fn start(options: &Options, access: Access) -> Result<Started, 
         repositories,
         loose: options.keep_untagged.map_or_else(LooseBlobs::default, |_| LooseBlobs::new(writer.clone(), loose_blobs)),
         folder: options.data.clone().zip(room).map(|(path, room)| Folder::new(path, room)),
+        disk_probe: options.data.as_deref().map(|path| Arc::new(DiskProbe::new(path))),
         scrub: options.data.clone().and_then(|path| Some(Scrub::new(path, options.scrub_pace()?, &metrics))),
         turns: Default::default(),
         metrics,
@@ -159,13 +161,15 @@ pub(crate) async fn start(options: &Options, access: Access) -> Result<Started, 
         asked_removal: options.asked_removal(),
         bounds_by_tenant: bounds_by_tenant(options, &manifests),
         manifests: Manifests::new(manifests, writer),
+        draining: Default::default(),
         started: clock::time_of_day(),
     });
     work_in_background(&registry, options)?;
     Ok(Started { registry, child, database, synced: options.data.clone().filter(|_| options.is_durable()) })
 }
 
-/// Starts the garbage collector, the expiry of uploads and of manifests without tags, the reserve of memory, and the reads of the log.
+/// Starts the garbage collector, the expiry of uploads and of manifests without tags, the reserve of memory, the probes of the disk, and
+/// the reads of the log.
 fn work_in_background(registry: &Arc<Registry>, options: &Options) -> Result<(), Failure> {
     let rest = Duration::from_millis(options.sweep_ms);
     let sweeper = registry.clone();
@@ -178,6 +182,9 @@ fn work_in_background(registry: &Arc<Registry>, options: &Options) -> Result<(),
         tokio::spawn(async move { keeper.keep_untagged(time).await });
     }
     tokio::spawn(memory_reserve::keep_reserve());
+    if let Some(probe) = &registry.disk_probe {
+        tokio::spawn(probe.clone().run());
+    }
     if let Some(scrub) = &registry.scrub {
         scrub.start()?;
     }

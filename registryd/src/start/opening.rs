@@ -3,9 +3,10 @@
 use crate::database::sqlite;
 use crate::database::sqlite::Database;
 use crate::folder::disk_room::DiskRoom;
+use crate::folder::file_system::Known;
 use crate::folder::log_end::LogEnd;
 use crate::folder::watcher::LOCK;
-use crate::folder::{files, log_end, page_cache, unsynced};
+use crate::folder::{file_system, files, log_end, page_cache, unsynced};
 use crate::operation::exit::Failure;
 use crate::start::losses::{Loss, OnLoss};
 use crate::start::options::Options;
@@ -63,6 +64,23 @@ fn warn_of_access(folder: &Path) {
     }
 }
 
+/// Logs the kind of file system of a folder, and warns if it was not tested.
+///
+/// # Errors
+///
+/// Fails if it was seen to break a promise, unless any kind is allowed.
+fn check_file_system(folder: &Path, is_any: bool) -> Result<(), Failure> {
+    let kind = file_system::kind_of(folder).unwrap_or_else(|| "unknown".to_string());
+    match Known::of(&kind) {
+        Known::Tested => tracing::info!(%kind, "the file system of the folder"),
+        Known::Untested => tracing::warn!(%kind, "the file system of the folder was not tested: OPERATIONS says which were"),
+        Known::InMemory => tracing::warn!(%kind, "the folder is in memory: all is lost when the machine ends"),
+        Known::Broken if is_any => tracing::warn!(%kind, "the file system of the folder was seen to lose what was acknowledged"),
+        Known::Broken => return Err(Failure::of_file_system(folder, &kind)),
+    }
+    Ok(())
+}
+
 /// Returns whether a folder has a database that is not empty.
 fn has_database(folder: &Path) -> bool {
     // One that cannot be looked at is not missing.
@@ -115,6 +133,7 @@ pub(super) fn open(options: &Options, folder: PathBuf, room: &DiskRoom) -> Resul
     let is_synced = options.is_durable();
     make(&folder).map_err(|error| Failure::of_folder("cannot make the folder", &folder, &error))?;
     warn_of_access(&folder);
+    check_file_system(&folder, options.any_file_system)?;
     // It is closed before the store starts, which locks the folder itself.
     let _lock = lock(&folder)?;
     if is_synced {

@@ -18,6 +18,26 @@ const MIN_FREE: u64 = 64 << 20;
 /// The length of the reserve if the option is missing, in bytes.
 const RESERVE: u64 = 64 << 20;
 
+/// The form of the log.
+#[derive(Clone, Copy, Debug, PartialEq, Eq, ValueEnum)]
+pub(crate) enum LogFormat {
+    /// Lines of text
+    Text,
+    /// An object of JSON in each line
+    Json,
+}
+
+/// The messages that are logged.
+#[derive(Clone, Copy, Debug, PartialEq, Eq, ValueEnum)]
+pub(crate) enum LogLevel {
+    /// What ends the registry or fails in it
+    Error,
+    /// What an operator should look at too
+    Warn,
+    /// Each request too
+    Info,
+}
+
 /// When changes are on the disk.
 #[derive(Clone, Copy, Debug, PartialEq, Eq, ValueEnum)]
 pub(super) enum SyncPolicy {
@@ -87,6 +107,9 @@ pub(crate) struct Options {
     /// Keep all data in this folder
     #[arg(long, value_name = "DIR")]
     pub(super) data: Option<PathBuf>,
+    /// Use the folder on any kind of file system
+    #[arg(long, requires = "data")]
+    pub(super) any_file_system: bool,
     /// Decide what is on the disk before a reply [default: closes]
     #[arg(long, value_name = "POLICY", requires = "data")]
     pub(super) sync: Option<SyncPolicy>,
@@ -138,6 +161,15 @@ pub(crate) struct Options {
     /// Serve the metrics only on this address, to everybody
     #[arg(long, value_name = "ADDR:PORT", conflicts_with = "metrics_user")]
     pub(super) metrics_listen: Option<SocketAddr>,
+    /// Fail /readyz for this time after SIGTERM, and then stop
+    #[arg(long, value_name = "S", default_value_t = 0, value_parser = clap::value_parser!(u64).range(..=3600))]
+    pub(crate) drain_s: u64,
+    /// Write the log in this form
+    #[arg(long, value_name = "FORM", default_value = "text")]
+    pub(crate) log_format: LogFormat,
+    /// Log messages of this level and above
+    #[arg(long, value_name = "LEVEL", default_value = "info")]
+    pub(crate) log_level: LogLevel,
     /// Run this program as the store
     #[arg(long, value_name = "PATH", default_value = "blobd")]
     pub(super) blobd: PathBuf,

@@ -4,7 +4,7 @@ use crate::folder::files;
 use crate::http::browser::restrict;
 use crate::http::fault::Fault;
 use crate::http::responses::{empty, with_body};
-use crate::operation::health::{ALIVE, HEALTH};
+use crate::operation::health::{ALIVE, HEALTH, READY};
 use crate::store::process;
 use hyper::header::{HeaderValue, CONNECTION};
 use hyper::{Body, Request, Response, StatusCode};
@@ -82,7 +82,7 @@ impl Service {
     fn reply(&self, path: &str) -> Response<Body> {
         let replied = match path {
             ALIVE => empty(StatusCode::OK, &[]),
-            HEALTH => {
+            HEALTH | READY => {
                 let headers = [("Content-Type", "text/plain"), ("Cache-Control", "no-store"), ("Retry-After", "1")];
                 with_body(StatusCode::SERVICE_UNAVAILABLE, &headers, format!("{}\n", self.progress()).into())
             }
@@ -101,7 +101,7 @@ mod tests {
     #[test]
     fn replies_of_a_start_close_their_connections() {
         let service = Service::new(None);
-        for (path, status) in [(ALIVE, 200), (HEALTH, 503), ("/v2/", 503), ("/metrics", 503)] {
+        for (path, status) in [(ALIVE, 200), (HEALTH, 503), (READY, 503), ("/v2/", 503), ("/metrics", 503)] {
             let response = service.reply(path);
             assert_eq!(
                 (response.status().as_u16(), &response.headers()[CONNECTION]),
