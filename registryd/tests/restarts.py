@@ -493,7 +493,7 @@ def the_folder_is_measured():
             assert server.metric("registryd_database_commits_total") > before
             assert os.stat(f"{path}/registry.db").st_mode & 0o77 == 0
             by_signal(server)
-        assert sorted(os.listdir(path)) == ["lock", "log.1", "registry.commits", "registry.db", "reserve"]
+        assert sorted(os.listdir(path)) == ["lock", "log.1", "probe", "registry.commits", "registry.db", "reserve"]
     with serving() as server:
         assert server.metric("registryd_durable") == 0
         text = server.client().ask("GET", "/metrics").body
