@@ -15,7 +15,7 @@ use crate::operation::exit::Failure;
 use crate::operation::notify::Notifier;
 use crate::operation::reload::{Hangup, Reloads};
 use crate::operation::signals::Signals;
-use crate::operation::{memory_reserve, rewriting, shutdown};
+use crate::operation::{background, memory_reserve, rewriting, shutdown};
 use crate::start::listening::Listening;
 use crate::start::options::{LogFormat, LogLevel, Options};
 use crate::start::{capacity, credentials, launch, listening, provenance};
@@ -101,8 +101,8 @@ async fn run(options: Options) -> Result<(), Failure> {
     if let Some(address) = metrics_address {
         tracing::info!(%address, "serving metrics");
     }
-    tokio::spawn(hangup.reload(reloads));
-    tokio::spawn(rewriting::rewrite_on_signal(rewrite, started.registry.clone()));
+    background::run(hangup.reload(reloads));
+    background::run(rewriting::rewrite_on_signal(rewrite, started.registry.clone()));
     notifier.send("READY=1\nSTATUS=serving");
     let registry = started.registry.clone();
     tokio::select! {

@@ -28,6 +28,13 @@ pub(crate) struct Failure {
     text: String,
 }
 
+/// Ends the program with status 1. `blobd` ends when its connections are closed, as after a kill.
+pub(crate) fn end_at_once(why: &str) -> ! {
+    let failure = Failure::new(why);
+    tracing::error!("{failure}");
+    std::process::exit(failure.status.into())
+}
+
 impl Failure {
     /// Makes a failure with the status 1.
     pub(crate) fn new(text: impl Into<String>) -> Failure {

@@ -1,18 +1,11 @@
 //! Locks after a panic. What a lock protects may be half changed if a thread panics while it holds the lock, so no other thread sees it:
 //! the program ends, and the next start reads what is on the disk.
-use crate::operation::exit::Failure;
+use crate::operation::exit::end_at_once;
 use std::sync::LockResult;
 
 /// Returns the guard of a lock. Ends the program with status 1 if a thread has panicked while it held the lock.
 pub(crate) fn guard_of<G>(locked: LockResult<G>) -> G {
-    locked.unwrap_or_else(|_| end())
-}
-
-/// Ends the program. `blobd` ends when its connections are closed, as after a kill.
-fn end() -> ! {
-    let failure = Failure::new("a bug in this program stopped a thread that held a lock: start again");
-    tracing::error!("{failure}");
-    std::process::exit(failure.status.into())
+    locked.unwrap_or_else(|_| end_at_once("a bug in this program stopped a thread that held a lock: start again"))
 }
 
 #[cfg(test)]

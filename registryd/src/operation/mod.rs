@@ -1,4 +1,5 @@
 //! What runs next to the requests: collection, retention, metrics, status, notices, reloads, and the end of the program.
+pub(crate) mod background;
 pub(crate) mod collector;
 pub(crate) mod exit;
 pub(crate) mod health;

@@ -16,8 +16,8 @@ use crate::metadata::open_uploads::OpenUploads;
 use crate::metadata::repositories::Repositories;
 use crate::metadata::upload_names::Secret;
 use crate::operation::exit::Failure;
-use crate::operation::memory_reserve;
 use crate::operation::metrics::Metrics;
+use crate::operation::{background, memory_reserve};
 use crate::start::opening::Opened;
 use crate::start::options::Options;
 use crate::start::provenance::Provenance;
@@ -173,17 +173,17 @@ pub(crate) async fn start(options: &Options, access: Access) -> Result<Started, 
 fn work_in_background(registry: &Arc<Registry>, options: &Options) -> Result<(), Failure> {
     let rest = Duration::from_millis(options.sweep_ms);
     let sweeper = registry.clone();
-    tokio::spawn(async move { sweeper.sweep(rest).await });
+    background::run(async move { sweeper.sweep(rest).await });
     let expirer = registry.clone();
     let patience = options.patience();
-    tokio::spawn(async move { expirer.expire(patience).await });
+    background::run(async move { expirer.expire(patience).await });
     if let Some(time) = options.keep_untagged {
         let keeper = registry.clone();
-        tokio::spawn(async move { keeper.keep_untagged(time).await });
+        background::run(async move { keeper.keep_untagged(time).await });
     }
-    tokio::spawn(memory_reserve::keep_reserve());
+    background::run(memory_reserve::keep_reserve());
     if let Some(probe) = &registry.disk_probe {
-        tokio::spawn(probe.clone().run());
+        background::run(probe.clone().run());
     }
     if let Some(scrub) = &registry.scrub {
         scrub.start()?;

@@ -2,6 +2,7 @@
 use crate::http::connections::{Connections, Limits};
 use crate::http::server;
 use crate::http::tls::Tls;
+use crate::operation::background;
 use crate::operation::exit::Failure;
 use crate::start::options::Options;
 use crate::start::start_replies::Service;
@@ -32,7 +33,7 @@ impl Serving {
         let answer = move |request| service.clone().serve(request);
         let server = tokio::spawn(server::serve(listener, tls, connections.clone(), stopped, answer));
         let watched = connections.clone();
-        tokio::spawn(async move { watched.watch().await });
+        background::run(async move { watched.watch().await });
         Serving { connections, server, stop }
     }
 }
@@ -81,8 +82,8 @@ fn serve_metrics(service: &Arc<Service>, listener: TcpListener, options: &Option
     let (head, idle) = (Duration::from_secs(options.head_s), Duration::from_secs(options.idle_s));
     let connections = Connections::new(Limits { most: METRICS_CONNECTIONS, head, idle });
     let (watched, service) = (connections.clone(), service.clone());
-    tokio::spawn(async move { watched.watch().await });
-    tokio::spawn(async move {
+    background::run(async move { watched.watch().await });
+    background::run(async move {
         let (_stop, stopped) = watch::channel(());
         server::serve(listener, None, connections, stopped, move |request| service.clone().serve_metrics(request)).await
     });

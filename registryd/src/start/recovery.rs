@@ -151,7 +151,7 @@ pub(crate) async fn blocking<T: Send + 'static>(
     work: impl FnOnce() -> Result<T, Failure> + Send + 'static,
 ) -> Result<T, Failure> {
     let done = tokio::task::spawn_blocking(work).await;
-    done.unwrap_or_else(|_| Err(Failure::new("a bug in this program stopped the start")))
+    done.unwrap_or_else(|_| Err(Failure::new("a bug in this program stopped a thread that uses the folder: start again")))
 }
 
 impl ManifestRow {
