@@ -73,7 +73,7 @@ fn check_file_system(folder: &Path, is_any: bool) -> Result<(), Failure> {
     let kind = file_system::kind_of(folder).unwrap_or_else(|| "unknown".to_string());
     match Known::of(&kind) {
         Known::Tested => tracing::info!(%kind, "the file system of the folder"),
-        Known::Untested => tracing::warn!(%kind, "the file system of the folder was not tested: OPERATIONS says which were"),
+        Known::Untested => tracing::warn!(%kind, "the file system of the folder was not tested: STORAGE says which were"),
         Known::InMemory => tracing::warn!(%kind, "the folder is in memory: all is lost when the machine ends"),
         Known::Broken if is_any => tracing::warn!(%kind, "the file system of the folder was seen to lose what was acknowledged"),
         Known::Broken => return Err(Failure::of_file_system(folder, &kind)),
