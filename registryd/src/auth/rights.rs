@@ -1,16 +1,13 @@
 //! Rights of users in repositories, and the file that lists them.
 use crate::http::paths::Target;
-use crate::metadata::names::is_repository;
-use crate::operation::reload::read_text;
+use crate::metadata::names::{check_prefix, is_below, is_repository};
+use crate::operation::reload::{numbered_lines, read_text};
 use hyper::Method;
 use std::collections::HashMap;
 use std::path::Path;
 
 /// The user of lines that hold for every request, also for one without credentials.
 const EVERYBODY: &str = "*";
-
-/// The prefix of lines that hold for every repository.
-const EVERYWHERE: &str = "*";
 
 /// A right in a repository.
 #[derive(Clone, Copy, Debug, PartialEq, Eq)]
@@ -97,11 +94,6 @@ impl<'p> Scope<'p> {
     }
 }
 
-/// Returns whether a repository is the one that a prefix names, or is below it.
-fn is_below(repo: &str, prefix: &str) -> bool {
-    prefix == EVERYWHERE || repo.strip_prefix(prefix).map_or(false, |rest| rest.is_empty() || rest.starts_with('/'))
-}
-
 /// The rights of one line.
 #[derive(Debug, PartialEq, Eq)]
 struct Grant {
@@ -127,9 +119,7 @@ fn parse_line(line: &str) -> Result<(&str, Grant), String> {
     if user == EVERYBODY && rights.iter().any(|right| *right != Right::Read) {
         return Err("everybody may only read: write `* read PREFIX`".to_string());
     }
-    if prefix != EVERYWHERE && !is_repository(prefix) {
-        return Err(format!("not the name of a repository: `{prefix}`: write acme or acme/app, or * for all"));
-    }
+    check_prefix(prefix)?;
     Ok((user, Grant { rights, prefix: prefix.to_string() }))
 }
 
@@ -149,11 +139,8 @@ impl Rights {
     /// Parses the text of a file.
     pub(super) fn parse(text: &str) -> Result<Rights, String> {
         let mut rights = Rights::default();
-        for (at, line) in text.lines().map(str::trim).enumerate() {
-            if line.is_empty() || line.starts_with('#') {
-                continue;
-            }
-            let (user, grant) = parse_line(line).map_err(|why| format!("line {}: {why}", at + 1))?;
+        for (number, line) in numbered_lines(text) {
+            let (user, grant) = parse_line(line).map_err(|why| format!("line {number}: {why}"))?;
             rights.by_user.entry(user.to_string()).or_default().push(grant);
         }
         Ok(rights)
@@ -174,20 +161,6 @@ impl Rights {
 #[cfg(test)]
 mod tests {
     use super::*;
-
-    #[test]
-    fn a_prefix_is_of_whole_components() {
-        for (repo, prefix) in
-            [("acme", "acme"), ("acme/app", "acme"), ("acme/app", "acme/app"), ("acme/app/x", "acme/app"), ("b", "*")]
-        {
-            assert!(is_below(repo, prefix), "{repo} {prefix}");
-        }
-        for (repo, prefix) in
-            [("acme/apple", "acme/app"), ("acmes/app", "acme"), ("acme", "acme/app"), ("b/acme", "acme"), ("", "acme")]
-        {
-            assert!(!is_below(repo, prefix), "{repo} {prefix}");
-        }
-    }
 
     #[test]
     fn lines_add_up() {

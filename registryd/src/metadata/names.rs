@@ -18,6 +18,26 @@ pub(crate) fn is_component(text: &str) -> bool {
     has_ends && bytes.len() <= MAX_NAME && runs.all(is_separator)
 }
 
+/// The prefix of all repositories in the files of rights and of immutable tags.
+const EVERYWHERE: &str = "*";
+
+/// Checks that a text of a file is a prefix of repositories: `*`, or a repository's name.
+///
+/// # Errors
+///
+/// Fails with what to write instead.
+pub(crate) fn check_prefix(text: &str) -> Result<(), String> {
+    match text == EVERYWHERE || is_repository(text) {
+        true => Ok(()),
+        false => Err(format!("not the name of a repository: `{text}`: write acme or acme/app, or * for all")),
+    }
+}
+
+/// Returns whether a repository is the one that a prefix names, or is below it.
+pub(crate) fn is_below(repo: &str, prefix: &str) -> bool {
+    prefix == EVERYWHERE || repo.strip_prefix(prefix).map_or(false, |rest| rest.is_empty() || rest.starts_with('/'))
+}
+
 /// Returns the tenant of a repository.
 pub(crate) fn tenant_of(repo: &str) -> &str {
     repo.split('/').next().unwrap_or(repo)
@@ -44,6 +64,20 @@ mod tests {
         }
         for name in ["", "a___b", "a._b", "a/b", "-a", "a-", "A", "ä", "a b", &"a".repeat(256)] {
             assert!(!is_component(name), "{name}");
+        }
+    }
+
+    #[test]
+    fn a_prefix_is_of_whole_components() {
+        for (repo, prefix) in
+            [("acme", "acme"), ("acme/app", "acme"), ("acme/app", "acme/app"), ("acme/app/x", "acme/app"), ("b", "*")]
+        {
+            assert!(is_below(repo, prefix), "{repo} {prefix}");
+        }
+        for (repo, prefix) in
+            [("acme/apple", "acme/app"), ("acmes/app", "acme"), ("acme", "acme/app"), ("b/acme", "acme"), ("", "acme")]
+        {
+            assert!(!is_below(repo, prefix), "{repo} {prefix}");
         }
     }
 

@@ -50,6 +50,12 @@ pub(crate) fn read_text(path: &Path) -> io::Result<String> {
     String::from_utf8(read_file(path)?).map_err(|_| io::Error::new(io::ErrorKind::InvalidData, "not UTF-8"))
 }
 
+/// Returns the lines of a file with their numbers, without those that are empty or begin with `#`, and without spaces at their ends.
+pub(crate) fn numbered_lines(text: &str) -> impl Iterator<Item = (usize, &str)> {
+    let lines = text.lines().map(str::trim).enumerate().map(|(at, line)| (at + 1, line));
+    lines.filter(|(_, line)| !line.is_empty() && !line.starts_with('#'))
+}
+
 /// A value that can be read again.
 pub(crate) trait Reload: Send + Sync {
     /// Reads the value again. If this fails, the value is unchanged.
