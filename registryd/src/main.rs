@@ -82,13 +82,14 @@ async fn run(options: Options) -> Result<(), Failure> {
     let connections = Connections::new(listening::limits(&options)?);
     let mut reloads = Reloads::new();
     let access = credentials::access(&options, &mut reloads)?;
+    let immutable_tags = credentials::immutable_tags(&options, &mut reloads)?;
     let tls = credentials::tls(&options, &mut reloads)?;
     let notifier = Notifier::of_environment()?;
     let Listening { service, serving, address, metrics_address } = listening::listen(&options, tls, connections).await?;
     tracing::info!(%address, log_bytes = service.log_bytes(), "starting");
     capacity::warn_of_memory(service.log_bytes());
     let started = tokio::select! {
-        started = launch::start(&options, access) => started?,
+        started = launch::start(&options, access, immutable_tags) => started?,
         () = signals.recv() => {
             notifier.send("STOPPING=1");
             tracing::info!("stopped while starting");

@@ -145,7 +145,10 @@ pub(super) async fn put(call: &Call, reference: &str, content: &mut RequestConte
     let given = media_type_of(call.header("content-type"), &document)?;
     check_inert(&given.text)?;
     let tag = Some(reference).filter(|reference| !is_digest(reference));
-    let condition = turn_by_condition(call, reference).await?;
+    let condition = match tag {
+        Some(tag) => turn_of_tag(call, tag, &digest).await?,
+        None => check_match(call, current(call, reference).as_deref()).map(|()| None)?,
+    };
     let turn = call.registry.turns.take(&call.repo, &digest).await;
     let facts = facts_to_store(call, &digest, document, given, size_of(&bytes))?;
     let room = manifests.reserve(&call.repo, (&digest, facts.size), tag, bounds).map_err(exceeds)?;
@@ -168,13 +171,26 @@ fn current(call: &Call, reference: &str) -> Option<String> {
     named.map(|named| named.digest)
 }
 
-/// Checks the header `If-Match` of a push. Pushes to one tag with this header take turns, so that each checks what the last one put.
-/// A push without it does not wait.
-async fn turn_by_condition<'c>(call: &'c Call, reference: &str) -> Result<Option<Turn<'c>>, Fault> {
-    let has_turn = call.head.headers.contains_key(IF_MATCH) && !is_digest(reference);
-    let turn = if has_turn { Some(call.registry.turns.take(&call.repo, reference).await) } else { None };
-    check_match(call, current(call, reference).as_deref())?;
-    Ok(turn)
+/// Checks that a push may put a manifest under a tag: by its header `If-Match`, and by the immutable tags. Pushes to one tag take turns if
+/// they have the header or if there are immutable tags, so that each checks what the last one put. Others do not wait.
+async fn turn_of_tag<'c>(call: &'c Call, tag: &str, digest: &str) -> Result<Option<Turn<'c>>, Fault> {
+    let Registry { turns, immutable_tags, .. } = &*call.registry;
+    let has_turn = call.head.headers.contains_key(IF_MATCH) || immutable_tags.is_some();
+    let turn = if has_turn { Some(turns.take(&call.repo, tag).await) } else { None };
+    let named = current(call, tag);
+    check_match(call, named.as_deref())?;
+    match named {
+        Some(named) if named != digest && call.registry.is_immutable(&call.repo, tag) => Err(immutable(call, tag, &named)),
+        _ => Ok(turn),
+    }
+}
+
+/// Counts a request that is refused because an immutable tag names the manifest with a digest, and returns its failure.
+fn immutable(call: &Call, tag: &str, digest: &str) -> Fault {
+    if let Some(tags) = &call.registry.immutable_tags {
+        tags.refusals.inc();
+    }
+    Fault::immutable(tag, digest)
 }
 
 /// Returns the response to a manifest that was put. `missing` is how many of the manifests that it lists are missing.
@@ -244,15 +260,31 @@ pub(super) async fn delete(call: &Call, reference: &str) -> HandlerResult {
         check_match(call, Some(&digest))?;
     }
     if is_digest(reference) {
-        let deleted = delete_manifest(&call.registry, &call.repo, reference, call.registry.asked_removal).await?;
-        if let Err(Kept::ListedBy(index)) = deleted {
-            call.registry.store.stat_manifest(&call.repo, reference).await??;
-            return Err(Fault::listed(&index));
+        match delete_manifest(&call.registry, &call.repo, reference, call.registry.asked_removal).await? {
+            Err(Kept::ListedBy(index)) => {
+                call.registry.store.stat_manifest(&call.repo, reference).await??;
+                return Err(Fault::listed(&index));
+            }
+            Err(Kept::NamedBy(tag)) => return Err(immutable(call, &tag, reference)),
+            Ok(()) | Err(Kept::Held) => {}
         }
-    } else if !call.registry.manifests.remove_tag(&call.repo, reference).await? {
-        return Err(Fault::manifest_unknown());
+    } else {
+        delete_tag(call, reference).await?;
     }
     empty(StatusCode::ACCEPTED, &[])
+}
+
+/// Deletes a tag. With immutable tags, it waits for the other writers of the tag.
+async fn delete_tag(call: &Call, tag: &str) -> Result<(), Fault> {
+    let Registry { manifests, turns, immutable_tags, .. } = &*call.registry;
+    let _turn = if immutable_tags.is_some() { Some(turns.take(&call.repo, tag).await) } else { None };
+    if let Some(digest) = current(call, tag).filter(|_| call.registry.is_immutable(&call.repo, tag)) {
+        return Err(immutable(call, tag, &digest));
+    }
+    match manifests.remove_tag(&call.repo, tag).await? {
+        true => Ok(()),
+        false => Err(Fault::manifest_unknown()),
+    }
 }
 
 /// Deletes a manifest and its tags. They are hidden from now on, and are shown again if the store does not delete it. Nothing
@@ -265,6 +297,9 @@ pub(crate) async fn delete_manifest(
 ) -> Result<Result<(), Kept>, Fault> {
     let Registry { store, manifests, turns, .. } = registry;
     let turn = turns.take(repo, digest).await;
+    if let Some(tag) = manifests.find_tag_of(repo, digest, |tag| registry.is_immutable(repo, tag)) {
+        return Ok(Err(Kept::NamedBy(tag)));
+    }
     let blobs = registry.blobs_to_loosen(repo, digest).await?;
     let removed = match manifests.begin_removal(repo, digest, removal).await? {
         Ok(removed) => removed,

@@ -6,6 +6,7 @@ use crate::folder::scrub::Scrub;
 use crate::http::fault::Fault;
 use crate::http::in_flight::Memory;
 use crate::metadata::bounds::Bounds;
+use crate::metadata::immutable_tags::ImmutableTags;
 use crate::metadata::loose_blobs::LooseBlobs;
 use crate::metadata::manifests::Manifests;
 use crate::metadata::names::tenant_of;
@@ -38,7 +39,8 @@ pub(crate) struct Registry {
     pub(crate) disk_probe: Option<Arc<DiskProbe>>,
     /// The reads of the log while clients are served.
     pub(crate) scrub: Option<Arc<Scrub>>,
-    /// The writers of a manifest take turns, each for the time of its call to the store. Readers take no turn.
+    /// The writers of a manifest take turns, each for the time of its call to the store. Readers take no turn. With immutable tags, the
+    /// writers of a tag take turns too.
     pub(crate) turns: Turns,
     pub(crate) metrics: Metrics,
     /// The requests for a sweep.
@@ -55,6 +57,8 @@ pub(crate) struct Registry {
     pub(crate) bounds: Bounds,
     /// The condition on which a client's delete of a manifest is made.
     pub(crate) asked_removal: Removal,
+    /// The tags that no client moves or deletes, if there is a file of them.
+    pub(crate) immutable_tags: Option<ImmutableTags>,
     /// The bounds of each tenant, with the defaults.
     pub(crate) bounds_by_tenant: HashMap<String, Bounds>,
     /// Where the store's program comes from.
@@ -92,6 +96,11 @@ impl Registry {
     /// Returns the bounds on the manifests and tags of a repository's tenant.
     pub(crate) fn bounds_of(&self, repo: &str) -> Bounds {
         self.bounds_by_tenant.get(tenant_of(repo)).copied().unwrap_or(self.bounds)
+    }
+
+    /// Returns whether no client moves or deletes a tag of a repository.
+    pub(crate) fn is_immutable(&self, repo: &str, tag: &str) -> bool {
+        self.immutable_tags.as_ref().map_or(false, |tags| tags.cover(repo, tag))
     }
 
     /// Returns whether the disk of the folder has room for changes without content.

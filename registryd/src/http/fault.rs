@@ -78,6 +78,12 @@ impl Fault {
             .with_detail(json!({ "manifest": index }))
     }
 
+    /// The tag is immutable: it names the manifest with this digest for ever. The status is 409 as the sender may have all rights.
+    pub(crate) fn immutable(tag: &str, digest: &str) -> Fault {
+        let message = format!("tag {tag} is immutable: it names {digest}, and cannot be moved or deleted");
+        Fault::new(StatusCode::CONFLICT, "DENIED", message).with_detail(json!({ "tag": tag, "digest": digest }))
+    }
+
     /// The content is not a manifest, or differs from its description in the request.
     pub(crate) fn manifest_invalid(message: impl Into<String>) -> Fault {
         Fault::new(StatusCode::BAD_REQUEST, "MANIFEST_INVALID", message)

@@ -131,6 +131,15 @@ impl ManifestTable {
         self.with(repo, |repo| repo.named(repo.tags.get(tag)?)).flatten()
     }
 
+    /// Returns the first tag of a manifest that `is_wanted` returns true for.
+    pub(crate) fn find_tag_of(&self, repo: &str, digest: &str, is_wanted: impl Fn(&str) -> bool) -> Option<String> {
+        let find = |repo: &mut Repository| {
+            let mut tags = repo.tags.iter().filter(|(_, named)| *named == digest).map(|(tag, _)| tag);
+            tags.find(|tag| is_wanted(tag)).cloned()
+        };
+        self.with(repo, find).flatten()
+    }
+
     /// Adds a manifest that the store accepted, and its tag if it was put under one.
     pub(crate) fn put(&self, repo: &str, digest: &str, facts: Facts, tag: Option<&str>, now: u64) {
         self.counted(repo, &self.made(repo), |repo| {

@@ -2,6 +2,7 @@
 pub(crate) mod bounds;
 pub(crate) mod clock;
 pub(crate) mod document;
+pub(crate) mod immutable_tags;
 pub(crate) mod limits;
 pub(crate) mod loose_blobs;
 pub(crate) mod manifest_lists;

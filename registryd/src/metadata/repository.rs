@@ -58,6 +58,8 @@ pub(crate) enum Removal {
 pub(crate) enum Kept {
     /// An index lists it.
     ListedBy(String),
+    /// An immutable tag names it.
+    NamedBy(String),
     /// Something else holds it, or did not long ago.
     Held,
 }

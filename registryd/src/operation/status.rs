@@ -158,6 +158,7 @@ impl Registry {
             "uploads": self.uploads.len(),
             "collector": { "sweeps": sweeps, "freed": freed, "held": held, "last": self.sweeps.json() },
             "folder": self.folder_json(),
+            "immutable_tags": self.immutable_tags.as_ref().map(|tags| json!({ "rules": tags.rules(), "refusals": tags.refusals.get() })),
             "scrub": self.scrub.as_ref().map(|scrub| scrub.json()),
             "bounds": {
                 "manifests": self.bounds.manifests,

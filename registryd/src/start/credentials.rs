@@ -1,10 +1,11 @@
-//! The files of users, rights, keys of tokens and the certificate.
+//! The files of users, rights, keys of tokens, immutable tags and the certificate.
 use crate::auth::access::Access;
 use crate::auth::rights::Rights;
 use crate::auth::tokens::{Issuer, Key};
 use crate::auth::users::{Logins, Users};
 use crate::http::tls;
 use crate::http::tls::Tls;
+use crate::metadata::immutable_tags::{ImmutableTags, Rules};
 use crate::operation::exit::Failure;
 use crate::operation::reload::{FromFile, Reloads};
 use crate::start::options::Options;
@@ -49,6 +50,17 @@ pub(crate) fn access(options: &Options, reloads: &mut Reloads) -> Result<Access,
         access.rights = Some(rights);
     }
     Ok(access)
+}
+
+/// Reads the immutable tags, if there is a file of them.
+pub(crate) fn immutable_tags(options: &Options, reloads: &mut Reloads) -> Result<Option<ImmutableTags>, Failure> {
+    let path = match options.immutable_tags.clone() {
+        Some(path) => path,
+        None => return Ok(None),
+    };
+    let rules = FromFile::new(move || Rules::read(&path))?;
+    reloads.push(("immutable tags", rules.clone()));
+    Ok(Some(ImmutableTags::new(rules)))
 }
 
 /// Reads the certificate and its key, if there are files of them.

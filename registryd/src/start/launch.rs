@@ -9,6 +9,7 @@ use crate::folder::scrub::Scrub;
 use crate::http::in_flight::Memory;
 use crate::metadata::bounds::Bounds;
 use crate::metadata::clock;
+use crate::metadata::immutable_tags::ImmutableTags;
 use crate::metadata::loose_blobs::LooseBlobs;
 use crate::metadata::manifest_table::ManifestTable;
 use crate::metadata::manifests::Manifests;
@@ -125,11 +126,14 @@ impl Tables {
 }
 
 /// Starts the store, reads the database if there is one, and makes the registry over both.
-pub(crate) async fn start(options: &Options, access: Access) -> Result<Started, Failure> {
+pub(crate) async fn start(options: &Options, access: Access, immutable_tags: Option<ImmutableTags>) -> Result<Started, Failure> {
     let provenance = Provenance::of(&options.blobd);
     provenance.log();
     let metrics = Metrics::new();
     metrics.set_verified(provenance.is_proved());
+    if let Some(tags) = &immutable_tags {
+        metrics.add(Box::new(tags.refusals.clone()));
+    }
     let limit = Duration::from_secs(options.call_s);
     let room = options.data.clone().map(|path| Arc::new(DiskRoom::new(path, options.min_free(), options.reserve())));
     let writer = room.clone().map(|room| Writer::new(metrics.add_folder(options.is_durable()), limit, room));
@@ -159,6 +163,7 @@ pub(crate) async fn start(options: &Options, access: Access) -> Result<Started, 
         max_blob: options.max_blob,
         bounds: options.bounds(),
         asked_removal: options.asked_removal(),
+        immutable_tags,
         bounds_by_tenant: bounds_by_tenant(options, &manifests),
         manifests: Manifests::new(manifests, writer),
         draining: Default::default(),

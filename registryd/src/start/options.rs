@@ -140,6 +140,9 @@ pub(crate) struct Options {
     /// Give users the rights of this file
     #[arg(long, value_name = "FILE", requires = "htpasswd")]
     pub(super) rights: Option<PathBuf>,
+    /// Let no client move or delete the tags of this file
+    #[arg(long, value_name = "FILE")]
+    pub(super) immutable_tags: Option<PathBuf>,
     /// Accept tokens that are signed with these public keys
     #[arg(long, value_name = "FILE", requires_all = ["token_realm", "token_service", "token_issuer"])]
     pub(super) token_key: Option<PathBuf>,
