@@ -25,7 +25,7 @@ class Balancer:
             text = file.read()
         for old, new in (("127.0.0.1:5001", one.address), ("127.0.0.1:5002", two.address), ("*:5000", self.address),
                          ("Retry-After 20", "Retry-After 2")):
-            assert text.count(old) == 1, old
+            assert text.count(old) in (1, 2), old
             text = text.replace(old, new)
         with open(f"{folder}/haproxy.cfg", "w") as file:
             file.write(text)

@@ -31,7 +31,9 @@ class Asker:
             answer = self.client.ask_once(method, path, body, headers)
         except (OSError, http.client.HTTPException) as error:
             raise Interrupted(f"{method} {path}: {error!r}") from None
-        if answer.status in (500, 502, 503, 504):
+        # A write of the database that finds no room is rolled back, and the registry goes on.
+        is_without_room = answer.status == 507 and self.server.may_end
+        if answer.status in (500, 502, 503, 504) or is_without_room:
             raise Interrupted(f"{method} {path}: {answer.status} {answer.body[:200]}")
         if wants and answer.status not in wants:
             raise Fault(f"{self.name}: {method} {path}: {answer.status}, and not {wants}: {answer.body[:200]}")

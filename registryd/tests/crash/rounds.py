@@ -200,8 +200,8 @@ class Lane:
         self.crashes(server, kind)
 
     def fails(self, policy):
-        """Lets a sync or a write of the log or of the database fail. The programs must end by themselves. Sometimes what was not synced is
-        lost too."""
+        """Lets a sync or a write of the log or of the database fail. The programs must end by themselves, unless a write of the database finds
+        no room, after which they go on. Sometimes what was not synced is lost too."""
         setting = {self.rng.choice(FAILURES): str(self.rng.randint(3, 60))}
         self.now = f"a failure after {self.last}, folder {self.made}, --sync {policy}, {setting}"
         server, kind = self.starts("--sync", policy, failing=setting), self.rng.choice(["failure", "loss"])
