@@ -43,6 +43,9 @@ FAILING = 4
 FAILURES = ("CRASH_FAIL_SYNC", "CRASH_FAIL_WRITE", "CRASH_FAIL_DATABASE_SYNC", "CRASH_FAIL_DATABASE_WRITE")
 STATUSES_OF_A_FAILURE, LONGEST = (6, 9), 20
 
+# The status of a start that finds the log or the database damaged or lost.
+DAMAGED = 8
+
 # The timeout for the end of unused uploads, in seconds.
 PATIENCE = 30
 
@@ -352,6 +355,8 @@ class Lane:
         return missed
 
     def finds_loss(self, part):
+        """Returns whether a loss is found: by the comparisons of some try, or, if each start refuses what is left, by the starts."""
+        is_refused = False
         for _ in range(MOST_TRIES):
             self.fresh(True)
             server = self.starts("--sync", "never")
@@ -366,9 +371,9 @@ class Lane:
                 missed = self.looks(server)
             except WRONG as error:
                 print(f"registry: after a loss of the {part} with `--sync never`: {error!r}: {server.logged()[-300:]}")
-                missed = []
+                missed, is_refused = [], is_refused or server.process.poll() == DAMAGED
             self.ends_all()
             if missed:
                 print(f"registry: after a loss of the {part} with `--sync never`, {len(missed)} comparisons fail, such as: {missed[0][:200]}")
                 return True
-        return False
+        return is_refused
