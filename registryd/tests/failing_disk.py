@@ -4,19 +4,15 @@ and takes them for written. A start that read them would acknowledge what is los
 
 The disk is a file system on a loop device whose file lies on another one that gets full. It needs root and runs in mounts of its own. It ends
 with status 3 if it cannot make such a disk."""
-import contextlib, os, re, shutil, subprocess, sys, tempfile
+import contextlib, os, re, subprocess, sys, tempfile
 
+from mounts import CANNOT, in_own_mounts, run
 from playing import play, until
 from restarts import by_kill_of_both, pulled, pushed
 from server import MANIFEST, serving
 
-TOOLS = ("unshare", "losetup", "mkfs.ext4", "mount", "umount", "fsfreeze", "dumpe2fs", "fallocate")
+TOOLS = ("losetup", "mkfs.ext4", "fsfreeze", "dumpe2fs", "fallocate")
 BLOCK = 4096
-CANNOT = 3
-
-
-def run(*words):
-    return subprocess.run(words, check=True, stdout=subprocess.PIPE, stderr=subprocess.PIPE, text=True).stdout
 
 
 class Disk:
@@ -111,10 +107,7 @@ def what_is_acknowledged_after_a_failure_is_on_the_disk(room):
 
 
 def main():
-    if os.getuid() != 0 or not all(shutil.which(tool) for tool in TOOLS):
-        sys.exit(CANNOT)
-    if sys.argv[1:] != ["--in-own-mounts"]:
-        os.execvp("unshare", ["unshare", "-m", sys.executable, os.path.abspath(__file__), "--in-own-mounts"])
+    in_own_mounts(TOOLS)
     try:
         with tempfile.TemporaryDirectory() as top:
             Disk(top).ends()

@@ -4,20 +4,17 @@ a registry says while its disk does not answer, and what a start says of kinds o
 
 The file system is on a loop device. It is shut down while clients push, without writing anything back, as ext4 and XFS can do, and mounted again. The
 tests need root and run in mounts of their own. They end with status 3 if such a file system cannot be made."""
-import contextlib, fcntl, http.client, itertools, os, random, shutil, struct, subprocess, sys, tempfile, threading, time
+import contextlib, fcntl, http.client, itertools, os, random, struct, subprocess, sys, tempfile, threading, time
 
+from mounts import CANNOT, in_own_mounts, run
 from playing import play, until
 from restarts import pulled, pushed
 from server import BLOBD, MANIFEST, REGISTRYD, serving
 
-TOOLS = ("unshare", "fsfreeze", "mkfs.ext4", "mkfs.xfs", "mount", "umount", "rclone", "fusermount3")
+TOOLS = ("fsfreeze", "mkfs.ext4", "mkfs.xfs", "rclone", "fusermount3")
 # A file system is shut down by this call (linux/fs.h has FS_IOC_SHUTDOWN as XFS_IOC_GOINGDOWN), without its log.
 SHUTDOWN, NO_LOG_FLUSH = 0x8004587D, struct.pack("I", 2)
-PUSHERS, ROUNDS, CANNOT = 4, 3, 3
-
-
-def run(*words):
-    subprocess.run(words, check=True, stdout=subprocess.DEVNULL, stderr=subprocess.PIPE)
+PUSHERS, ROUNDS = 4, 3
 
 
 class Disk:
@@ -169,10 +166,7 @@ def a_kind_that_broke_a_promise_is_refused():
 
 
 def main():
-    if os.getuid() != 0 or not all(shutil.which(tool) for tool in TOOLS):
-        sys.exit(CANNOT)
-    if sys.argv[1:] != ["--in-own-mounts"]:
-        os.execvp("unshare", ["unshare", "-m", sys.executable, os.path.abspath(__file__), "--in-own-mounts"])
+    in_own_mounts(TOOLS)
     try:
         for kind in ("ext4", "xfs"):
             with disk_of(kind) as disk:
