@@ -9,9 +9,6 @@ use Rattle.std.proofs.lemmas.Simd.{map-map}
 use Rattle.std.proofs.lemmas.List.Sums.{sum-map}
 use Rattle.std.proofs.lemmas.List.Concat.{length-flat_map}
 use Rattle.std.specs.Prelude.{◌<◌}
-use Rattle.ghost_log.specs.declared.view.Entry.{Entry}
-use Rattle.ghost_log.specs.Entries.{entry}
-use Rattle.content_files.specs.Deeds.{after_deed, after_deeds}
 use Prim.Native.Nat.{suc}
 use Rattle.std.proofs.lemmas.Bool.{lt-ltb}
 use Rattle.content_files.specs.Notes.{PieceNote, is_read, joined, note_of}
@@ -19,10 +16,6 @@ use Rattle.content_files.specs.Pieces.{IsAtEndOf, Pieces, with_piece}
 use Rattle.content_files.specs.Placed.{Placed, placed}
 use Rattle.content_files.specs.Shown.{AreNotesOf, note_shown}
 use Rattle.content_files.specs.declared.note.Note.{Note}
-
-pub after_deeds-snoc : (at : List (List ℕ)) (es : List (Entry (Option (List ℕ)))) (n : ℕ) (deed : Option (List ℕ)) → after_deeds at (es ++ entry n deed ∷ []) ≡ after_deed (after_deeds at es) deed
-after_deeds-snoc at [] n deed = refl
-after_deeds-snoc at (e ∷ es) n deed = after_deeds-snoc (after_deed at e.event) es n deed
 
 -- the notes but the first
 rest_of : List PieceNote → List PieceNote

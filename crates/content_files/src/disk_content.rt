@@ -39,7 +39,7 @@ impl DiskContent {
     ///
     /// # Cost
     ///
-    /// Two small allocations.
+    /// Two small allocations, which are given back.
     pub fn new(alloc: Global, name: ContentName) -> Result<DiskContent, AllocError>
         ensures { IfOk result (λ d. d ≡ []) }
     {
@@ -80,7 +80,7 @@ impl DiskContent {
     ///
     /// # Cost
     ///
-    /// One write, and 16 bytes of memory for each MiB.
+    /// One write, and 16 bytes of memory for each MiB. Two small allocations are made for each piece, and given back.
     pub fn add<F: ContentStore>(&mut self, files: &F, bytes: &[u8]) -> Result<(), ContentError>
         ensures ok { OnOk result (self.new ≡ self.old ++ bytes.now) }
         ensures err { OnErr result (self.new ≡ self.old) }
@@ -88,7 +88,7 @@ impl DiskContent {
         if bytes.is_empty() {
             return Ok(());
         }
-        self.pieces.cut(self.len);
+        self.pieces.cut(self.len)?;
         if self.pieces.total() != self.len {
             return Err(ContentError::Cut);
         }

@@ -18,7 +18,7 @@ mod store;
 mod trace;
 mod written;
 
-pub use content::Content;
+pub use content::{Content, reveal_shared};
 pub use disk_content::DiskContent;
 pub use error::ContentError;
 pub use name::ContentName;

@@ -82,9 +82,10 @@ impl Pieces {
             len: piece.len() as u64,
             sum: piece.sum(),
         };
+        let trace = self.trace.with_written(*self.notes.allocator(), &piece)?;
         self.notes.push(note)?;
         self.total += note.len;
-        self.trace.add_written(piece);
+        self.trace = trace;
         Ok(())
     }
 
@@ -123,46 +124,61 @@ impl Pieces {
         let Some(total) = self.total.checked_add(note.len) else {
             return Err(ContentError::Memory);
         };
+        let alloc = *self.notes.allocator();
+        let trace = self.trace.with_unread(alloc, note.len, note.sum)?;
         self.notes.push(note)?;
         self.total = total;
-        self.trace.add_unread(note.len, note.sum);
+        self.trace = trace;
         Ok(())
     }
 
     /// Removes the last piece, if it begins at this length or behind it. Returns whether it does.
-    fn remove_behind(&mut self, len: u64) -> bool
+    ///
+    /// # Errors
+    ///
+    /// `Memory`. Nothing changed.
+    fn remove_behind(&mut self, len: u64) -> Result<bool, ContentError>
         requires { len ≤ length (bytes_of self.old) }
         ensures name { self.new.name ≡ self.old.name }
         ensures same { take len (bytes_of self.new) ≡ take len (bytes_of self.old) }
         ensures long { len ≤ length (bytes_of self.new) }
     {
+        let trace = self.trace.without_last(*self.notes.allocator())?;
         if let Some(note) = self.notes.pop() {
             let before = self.total - note.len;
             if len <= before {
                 self.total = before;
-                self.trace.remove_last();
-                return true;
+                self.trace = trace;
+                return Ok(true);
             }
             if self.notes.push(note).is_err() {
                 unreachable!();
             }
         }
-        false
+        Ok(false)
     }
 
     /// Removes the pieces that begin at this length or behind it.
-    pub(crate) fn cut(&mut self, len: u64)
+    ///
+    /// # Errors
+    ///
+    /// `Memory`. Some of them may have been removed.
+    pub(crate) fn cut(&mut self, len: u64) -> Result<(), ContentError>
         requires { len ≤ length (bytes_of self.old) }
         ensures name { self.new.name ≡ self.old.name }
         ensures same { take len (bytes_of self.new) ≡ take len (bytes_of self.old) }
         ensures long { len ≤ length (bytes_of self.new) }
     {
+        if self.total == len {
+            return Ok(());
+        }
         let count = self.notes.len();
         for _ in 0..count {
-            if !self.remove_behind(len) {
-                return;
+            if !self.remove_behind(len)? {
+                return Ok(());
             }
         }
+        Ok(())
     }
 
     /// Reads the piece that has the byte at an offset, and compares its sum. Returns the piece's bytes, and where it begins.

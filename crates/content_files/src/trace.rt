@@ -1,50 +1,54 @@
 //! The pieces of a content, in the proof alone.
 
-ghost use Rattle.std.specs.Prelude.{◌≡◌, [], IfOk};
+ghost use Rattle.std.specs.Prelude.{◌≡◌, ◌++◌, ◌∷◌, ◌-◌, [], IfOk, length, take};
 ghost use Rattle.content_files.specs.Notes.{unread};
 ghost use Rattle.content_files.specs.Pieces.{IsAtEndOf, pieces_of, with_piece, without_last_piece};
 
-use crate::deed::{self, Deed, PieceName, Removes};
+use crate::deed::{PiecesName, Shown, Shows};
 use crate::name::ContentName;
 use crate::written::Written;
-use ghost_log::{SharedLog, Writer};
+use ghost_log::SharedLog;
 use std::alloc::{AllocError, Global};
 use std::marker::{Brand, Model};
+use std::snapshot::Snapshot;
 
-/// The name of a content and its pieces. At run time it is the name and two small allocations.
+/// The name of a content and its pieces. At run time it is the name alone, and threads may share it.
 ///
-/// A piece of bytes is added only by a `Written` at the end of the pieces, and any other piece is one that was not read.
+/// Pieces of bytes come from a `Written` at the end of the pieces, and any other piece is one that was not read.
 #[derive(Drop)]
 pub(crate) struct PieceTrace {
     name: ContentName,
-    deeds: SharedLog<Deed>,
-    writer: Writer<Deed>,
+    shown: Snapshot<SharedLog<Shown>>,
 }
 
 impl Model for PieceTrace {
-    ghost use Rattle.std.specs.Prelude.{◌≡◌, []};
-    ghost use Rattle.content_files.specs.Deeds.{after_deeds};
+    ghost use Rattle.content_files.specs.Deeds.{pieces_shown};
     ghost use Rattle.content_files.specs.Pieces.{Pieces, pieces_of};
 
     ghost Value = { Pieces };
 
-    ghost view = { λ d. pieces_of d.name (after_deeds [] d.deeds.entries) };
-
-    ghost invariant = { λ d. d.writer.name ≡ d.deeds.name };
+    ghost view = { λ d. pieces_of d.name (pieces_shown d.shown.value.entries) };
 }
 
 impl PieceTrace {
-    /// Creates a trace of no piece.
+    /// Returns a trace of the pieces that `P` names. A log of one event exists during the call.
+    fn named<P: PiecesName>(alloc: Global, name: ContentName) -> Result<PieceTrace, AllocError>
+        ensures { IfOk result (λ d. d ≡ pieces_of name P.pieces) }
+    {
+        let mut log = SharedLog::new(alloc)?;
+        let mut writer = log.writer();
+        log.append::<Shows<P>>(&mut writer);
+        Ok(PieceTrace {
+            name,
+            shown: Snapshot::of(&log),
+        })
+    }
+
+    /// Returns a trace of no piece.
     pub(crate) fn new(alloc: Global, name: ContentName) -> Result<PieceTrace, AllocError>
         ensures { IfOk result (λ d. d ≡ pieces_of name []) }
     {
-        let mut deeds = SharedLog::new(alloc)?;
-        let writer = deeds.writer();
-        Ok(PieceTrace {
-            name,
-            deeds,
-            writer,
-        })
+        PieceTrace::named::<Brand>(alloc, name)
     }
 
     /// Returns the content's name.
@@ -54,50 +58,69 @@ impl PieceTrace {
         self.name
     }
 
-    /// Records that the piece which `P` names was added.
-    fn add_named<P: PieceName>(&mut self)
-        ensures { self.new ≡ with_piece self.old P.piece }
+    /// Returns a trace of the pieces and one more, whose bytes were written at their end.
+    pub(crate) fn with_written(
+        &self,
+        alloc: Global,
+        piece: &Written<'_>,
+    ) -> Result<PieceTrace, AllocError>
+        requires { IsAtEndOf piece.now self.now }
+        ensures { IfOk result (λ d. d ≡ with_piece self.now piece.now.bytes) }
     {
-        deed::add_named::<P>(&mut self.deeds, &mut self.writer);
+        self.with_written_as::<Brand>(alloc, piece)
     }
 
-    /// Records that a piece was added, whose bytes were written at the end of the pieces.
-    pub(crate) fn add_written(&mut self, piece: Written<'_>)
-        requires { IsAtEndOf piece self.old }
-        ensures { self.new ≡ with_piece self.old piece.entry.bytes }
-    {
-        self.add_written_as::<Brand>(piece);
-    }
-
-    // The piece is picked in the proof alone.
-    fn add_written_as<P: PieceName>(&mut self, piece: Written<'_>)
-        requires { P.piece ≡ piece.bytes }
-        ensures { self.new ≡ with_piece self.old P.piece }
+    // The pieces are picked in the proof alone.
+    fn with_written_as<P: PiecesName>(
+        &self,
+        alloc: Global,
+        piece: &Written<'_>,
+    ) -> Result<PieceTrace, AllocError>
+        requires { P.pieces ≡ self.now.each ++ piece.now.bytes ∷ [] }
+        ensures { IfOk result (λ d. d ≡ pieces_of self.now.name P.pieces) }
     {
         let _ = piece;
-        self.add_named::<P>();
+        PieceTrace::named::<P>(alloc, self.name)
     }
 
-    // The piece is picked in the proof alone.
-    fn add_unread_as<P: PieceName>(&mut self, len: u64, sum: u64)
-        requires { P.piece ≡ unread len sum }
-        ensures { self.new ≡ with_piece self.old P.piece }
+    /// Returns a trace of the pieces and one of this length and sum, which was not read.
+    pub(crate) fn with_unread(
+        &self,
+        alloc: Global,
+        len: u64,
+        sum: u64,
+    ) -> Result<PieceTrace, AllocError>
+        ensures { IfOk result (λ d. d ≡ with_piece self.now (unread len sum)) }
+    {
+        self.with_unread_as::<Brand>(alloc, len, sum)
+    }
+
+    // The pieces are picked in the proof alone.
+    fn with_unread_as<P: PiecesName>(
+        &self,
+        alloc: Global,
+        len: u64,
+        sum: u64,
+    ) -> Result<PieceTrace, AllocError>
+        requires { P.pieces ≡ self.now.each ++ unread len sum ∷ [] }
+        ensures { IfOk result (λ d. d ≡ pieces_of self.now.name P.pieces) }
     {
         let _ = (len, sum);
-        self.add_named::<P>();
+        PieceTrace::named::<P>(alloc, self.name)
     }
 
-    /// Records that a piece of this length and sum was added, which was not read.
-    pub(crate) fn add_unread(&mut self, len: u64, sum: u64)
-        ensures { self.new ≡ with_piece self.old (unread len sum) }
+    /// Returns a trace of the pieces without the last one.
+    pub(crate) fn without_last(&self, alloc: Global) -> Result<PieceTrace, AllocError>
+        ensures { IfOk result (λ d. d ≡ without_last_piece self.now) }
     {
-        self.add_unread_as::<Brand>(len, sum);
+        self.without_last_as::<Brand>(alloc)
     }
 
-    /// Records that the last piece was removed.
-    pub(crate) fn remove_last(&mut self)
-        ensures { self.new ≡ without_last_piece self.old }
+    // The pieces are picked in the proof alone.
+    fn without_last_as<P: PiecesName>(&self, alloc: Global) -> Result<PieceTrace, AllocError>
+        requires { P.pieces ≡ take (length self.now.each - 1) self.now.each }
+        ensures { IfOk result (λ d. d ≡ pieces_of self.now.name P.pieces) }
     {
-        self.deeds.append::<Removes>(&mut self.writer);
+        PieceTrace::named::<P>(alloc, self.name)
     }
 }
