@@ -1,0 +1,199 @@
+//! A folder of contents.
+
+use crate::listed::Listed;
+use content_files::{ContentError, ContentName, ContentStore, Written, write_synced};
+use std::fs::{self, DirBuilder, File};
+use std::io::{self, ErrorKind, Read, Seek, SeekFrom};
+use std::os::unix::fs::{DirBuilderExt, OpenOptionsExt};
+
+/// The permissions of a new folder: its user may list and change it, and nobody else may.
+const FOLDER_MODE: u32 = 0o700;
+
+/// The permissions of a new file: its user may read and write it, and nobody else may.
+const FILE_MODE: u32 = 0o600;
+
+/// A folder with a file for each content, in a folder for each tenant.
+///
+/// A file is opened for each call, so no descriptor is kept. That a file holds what was written to it, and that nobody else
+/// writes to the folder, are premises (`write_synced`).
+#[derive(Drop)]
+pub struct ContentFolder<'r> {
+    rt: &'r HostRuntime,
+    path: &'r str,
+    tenants: &'r [String],
+}
+
+/// Makes a folder, if it does not exist, and syncs the one that contains it, so that a crash leaves both.
+fn make_folder(rt: &HostRuntime, parent: &str, folder: &str) -> io::Result<()> {
+    match DirBuilder::new().mode(FOLDER_MODE).create(rt, folder) {
+        Ok(()) => {}
+        Err(error) => match error.kind() {
+            ErrorKind::AlreadyExists => {}
+            _ => return Err(error),
+        },
+    }
+    File::open(rt, parent)?.sync_all()
+}
+
+/// Returns the error of a read: a file that ends too soon has lost a part of its content.
+fn fault_of(error: io::Error) -> ContentError {
+    match error.kind() {
+        ErrorKind::UnexpectedEof => ContentError::Fault,
+        _ => ContentError::Io(error),
+    }
+}
+
+impl<'r> ContentFolder<'r> {
+    /// Opens the folder `path` in the folder `parent`, and makes it and the folder of each tenant that has none.
+    ///
+    /// `tenants` are the tenants' names in their order. A name is one component of a path.
+    ///
+    /// # Errors
+    ///
+    /// The operating system's error. Some of the folders may have been made.
+    ///
+    /// # Cost
+    ///
+    /// Two calls for each tenant, and a sync of the folder for each.
+    pub fn open(
+        rt: &'r HostRuntime,
+        parent: &str,
+        path: &'r str,
+        tenants: &'r [String],
+    ) -> io::Result<ContentFolder<'r>> {
+        make_folder(rt, parent, path)?;
+        let folder = ContentFolder { rt, path, tenants };
+        for tenant in 0..tenants.len() {
+            if tenant > u16::MAX as usize {
+                break;
+            }
+            let own = folder.folder_of(tenant as u16)?;
+            make_folder(rt, path, own.as_str())?;
+        }
+        Ok(folder)
+    }
+
+    /// Returns the path of a tenant's folder.
+    fn folder_of(&self, tenant: u16) -> io::Result<String> {
+        let path = self.path;
+        match self.tenants.get(tenant as usize) {
+            Some(name) => {
+                let folder = format!(in self.rt.alloc(); "{path}/{name}")?;
+                Ok(folder)
+            }
+            None => Err(io::Error::from(ErrorKind::NotFound)),
+        }
+    }
+
+    /// Returns the path of a content's file.
+    ///
+    /// # Errors
+    ///
+    /// `NotFound` if there is no such tenant, or out of memory.
+    pub fn path_of(&self, name: ContentName) -> io::Result<String> {
+        let folder = self.folder_of(name.tenant)?;
+        let number = name.number;
+        let path = format!(in self.rt.alloc(); "{folder}/{number}")?;
+        Ok(path)
+    }
+
+    /// Creates the file of a content, in place of an old one, so that a crash leaves it.
+    fn create(&self, name: ContentName) -> io::Result<File> {
+        let path = self.path_of(name)?;
+        let file = File::options()
+            .write(true)
+            .create(true)
+            .truncate(true)
+            .mode(FILE_MODE)
+            .open(self.rt, path.as_str())?;
+        let folder = self.folder_of(name.tenant)?;
+        File::open(self.rt, folder.as_str())?.sync_all()?;
+        Ok(file)
+    }
+
+    /// Opens the file of a content for writing.
+    fn open_to_write(&self, name: ContentName) -> io::Result<File> {
+        let path = self.path_of(name)?;
+        File::options().write(true).open(self.rt, path.as_str())
+    }
+
+    /// Returns the length of a content's file in bytes, or `None` if there is no file.
+    ///
+    /// # Errors
+    ///
+    /// The operating system's error.
+    pub fn len_of(&self, name: ContentName) -> io::Result<Option<u64>> {
+        let path = self.path_of(name)?;
+        match fs::metadata(self.rt, path.as_str()) {
+            Ok(found) => Ok(Some(found.len())),
+            Err(error) => match error.kind() {
+                ErrorKind::NotFound => Ok(None),
+                _ => Err(error),
+            },
+        }
+    }
+
+    /// Removes the file of a content. Returns whether there was one. The folder is not synced: a crash may leave the file.
+    ///
+    /// # Errors
+    ///
+    /// The operating system's error.
+    pub fn remove(&self, name: ContentName) -> io::Result<bool> {
+        let path = self.path_of(name)?;
+        match fs::remove_file(self.rt, path.as_str()) {
+            Ok(()) => Ok(true),
+            Err(error) => match error.kind() {
+                ErrorKind::NotFound => Ok(false),
+                _ => Err(error),
+            },
+        }
+    }
+
+    /// Returns what lies in the folder of a tenant: names alone, no file is looked at.
+    ///
+    /// # Errors
+    ///
+    /// The operating system's error, or out of memory.
+    ///
+    /// # Cost
+    ///
+    /// One read of the folder, and 4 bytes of memory for each content.
+    pub fn list(&self, tenant: u16) -> io::Result<Listed> {
+        let folder = self.folder_of(tenant)?;
+        let mut listed = Listed {
+            numbers: Vec::new(self.rt.alloc()),
+            others: 0,
+        };
+        for entry in fs::read_dir(self.rt, folder.as_str())? {
+            listed.add(entry?.file_name())?;
+        }
+        Ok(listed)
+    }
+}
+
+impl<'r> ContentStore for ContentFolder<'r> {
+    fn write<'b>(
+        &self,
+        name: ContentName,
+        offset: u64,
+        bytes: &'b [u8],
+    ) -> Result<Written<'b>, ContentError> {
+        let mut file = if offset == 0 {
+            self.create(name)?
+        } else {
+            self.open_to_write(name)?
+        };
+        let written = write_synced(&mut file, name, offset, bytes)?;
+        Ok(written)
+    }
+
+    fn read(&self, name: ContentName, offset: u64, out: &mut [u8]) -> Result<(), ContentError> {
+        let path = self.path_of(name)?;
+        let mut file = File::open(self.rt, path.as_str())?;
+        file.seek(SeekFrom::Start(offset))?;
+        match file.read_exact(out) {
+            Ok(()) => Ok(()),
+            Err(error) => Err(fault_of(error)),
+        }
+    }
+}
