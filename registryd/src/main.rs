@@ -1,11 +1,14 @@
 //! A container registry (OCI Distribution Specification 1.1). A `blobd` stores the blobs and manifests. Tags, facts of manifests
 //! and open uploads are in this process, and with `--data` in a database too. Without `--data` all data is in memory.
 mod auth;
+mod control;
 mod database;
 mod endpoints;
+mod events;
 mod folder;
 mod http;
 mod metadata;
+mod mirror;
 mod operation;
 mod start;
 mod store;
@@ -15,9 +18,9 @@ use crate::operation::exit::Failure;
 use crate::operation::notify::Notifier;
 use crate::operation::reload::{Hangup, Reloads};
 use crate::operation::signals::Signals;
-use crate::operation::{background, memory_reserve, rewriting, shutdown};
+use crate::operation::{audit, background, log, memory_reserve, rewriting, shutdown};
 use crate::start::listening::Listening;
-use crate::start::options::{LogFormat, LogLevel, Options};
+use crate::start::options::{LogFormat, Options};
 use crate::start::{capacity, credentials, launch, listening, provenance};
 use clap::{CommandFactory, FromArgMatches};
 use std::process::ExitCode;
@@ -32,7 +35,10 @@ const REST_TIME: Duration = Duration::from_secs(1);
 
 fn main() -> ExitCode {
     let options = options();
-    begin_log(&options);
+    if let Some(command) = &options.command {
+        return control::client::run(command);
+    }
+    log::begin(options.log_level.filter(), options.log_format == LogFormat::Json);
     if let Some(conflict) = options.conflict() {
         tracing::error!("{conflict}");
         return ExitCode::from(2);
@@ -40,6 +46,7 @@ fn main() -> ExitCode {
     let runtime = tokio::runtime::Builder::new_multi_thread().enable_all().build();
     let ended = runtime.map_err(Failure::from).and_then(|runtime| {
         let ended = runtime.block_on(run(options));
+        audit::end();
         runtime.shutdown_timeout(REST_TIME);
         ended
     });
@@ -49,20 +56,6 @@ fn main() -> ExitCode {
             tracing::error!("{failure}");
             ExitCode::from(failure.status)
         }
-    }
-}
-
-/// Logs to standard error from now on.
-fn begin_log(options: &Options) {
-    let level = match options.log_level {
-        LogLevel::Error => tracing::Level::ERROR,
-        LogLevel::Warn => tracing::Level::WARN,
-        LogLevel::Info => tracing::Level::INFO,
-    };
-    let log = tracing_subscriber::fmt().with_writer(std::io::stderr).with_max_level(level);
-    match options.log_format {
-        LogFormat::Text => log.with_ansi(false).init(),
-        LogFormat::Json => log.json().init(),
     }
 }
 
@@ -81,15 +74,14 @@ async fn run(options: Options) -> Result<(), Failure> {
     let rewrite = signal(SignalKind::user_defined1())?;
     let connections = Connections::new(listening::limits(&options)?);
     let mut reloads = Reloads::new();
-    let access = credentials::access(&options, &mut reloads)?;
-    let immutable_tags = credentials::immutable_tags(&options, &mut reloads)?;
+    let files = credentials::files(&options, &mut reloads)?;
     let tls = credentials::tls(&options, &mut reloads)?;
     let notifier = Notifier::of_environment()?;
     let Listening { service, serving, address, metrics_address } = listening::listen(&options, tls, connections).await?;
     tracing::info!(%address, log_bytes = service.log_bytes(), "starting");
     capacity::warn_of_memory(service.log_bytes());
     let started = tokio::select! {
-        started = launch::start(&options, access, immutable_tags) => started?,
+        started = launch::start(&options, files, address) => started?,
         () = signals.recv() => {
             notifier.send("STOPPING=1");
             tracing::info!("stopped while starting");

@@ -1,12 +1,13 @@
 #!/usr/bin/env python3
 """Checks the statements of the OCI Distribution Specification 1.1 on a registry, and prints how many hold as a table: those that it
 requires (MUST), recommends (SHOULD) and permits (MAY). It fails if a required or a recommended one does not hold.
-conformance.py [--all] [HOST:PORT] checks a running registry with the tenants acme and poor, or starts one. --all prints each statement."""
-import json, re, sys, uuid
+conformance.py [--all] [HOST:PORT] checks a running registry with the tenants acme and poor, or starts one. --all prints each statement.
+If it starts one, it also fails if the table of docs/TESTING.md is another."""
+import json, os, re, sys, uuid
 
 from playing import serving_stub
 from referrers import EMPTY, artifact, descriptor, index
-from server import INDEX, MANIFEST, Client, manifest_of, serving, sha256, sha512
+from server import INDEX, MANIFEST, TOP, Client, manifest_of, serving, sha256, sha512
 
 OCTETS = {"Content-Type": "application/octet-stream"}
 KIND = {"Content-Type": MANIFEST}
@@ -43,17 +44,27 @@ class Checks:
         """Pushes a manifest."""
         return self.ask("PUT", f"{repo}/manifests/{reference or sha256(content)}", content, {"Content-Type": kind})
 
+    def results(self, part):
+        """Returns how many statements of a part, or of all, hold at each level."""
+        of_levels = [[holds for at, of, _, holds in self.found if part in (at, "all") and of == level] for level in LEVELS]
+        return [f"{sum(held)} of {len(held)}" for held in of_levels]
+
     def table(self):
         """Returns a table of the statements that hold, by parts and levels."""
-        parts = list(dict.fromkeys(part for part, *_ in self.found))
         lines = [f"{'conformance':<22}" + "".join(f"{level:>16}" for level in LEVELS)]
-        for part in [*parts, "all"]:
-            line = f"{part:<22}"
-            for level in LEVELS:
-                held = [holds for at, of, _, holds in self.found if part in (at, "all") and of == level]
-                line += f"{f'{sum(held)} of {len(held)}':>16}"
-            lines.append(line)
+        lines += [f"{part:<22}" + "".join(f"{result:>16}" for result in self.results(part)) for part in [*PARTS, "all"]]
         return "\n".join(lines)
+
+    def documented(self):
+        """Returns whether docs/TESTING.md has the table: a row for each part, with no text for a level without statements."""
+        with open(f"{os.path.dirname(TOP)}/docs/TESTING.md", encoding="utf-8") as page:
+            rows = [[cell.strip() for cell in line.strip().strip("|").split("|")] for line in page if line.startswith("| ")]
+        found = {cells[0].lower(): cells[1:] for cells in rows if len(cells) == 1 + len(LEVELS)}
+        wanted = {part: [result.replace("0 of 0", "") for result in self.results(part)] for part in PARTS}
+        wrong = [part for part in PARTS if found.get(part) != wanted[part]]
+        for part in wrong:
+            print(f"WRONG docs/TESTING.md: {part}: {found.get(part)} instead of {wanted[part]}")
+        return not wrong
 
 
 def errors_of(answer):
@@ -390,8 +401,8 @@ PARTS = {
 }
 
 
-def check(address, prints_all):
-    """Checks everything, prints the table, and returns whether all that is required or recommended holds."""
+def check(address, prints_all, compares=False):
+    """Checks everything, prints the table, and returns whether all that is required or recommended holds, and the page has the table."""
     spec = Checks(address)
     for spec.part, parts in PARTS.items():
         for part in parts:
@@ -400,7 +411,8 @@ def check(address, prints_all):
         if prints_all or not holds:
             print(f"{'holds' if holds else 'WRONG' if level != 'optional' else 'not'}: {part}, {level}: {statement}")
     print(spec.table())
-    return all(holds or level == "optional" for _, level, _, holds in spec.found)
+    good = all(holds or level == "optional" for _, level, _, holds in spec.found)
+    return good and (not compares or spec.documented())
 
 
 def main():
@@ -408,7 +420,7 @@ def main():
     if words:
         sys.exit(not check(words[0], "--all" in sys.argv))
     with serving("--slots", "64", tenants=["acme=1000000,64", "poor=100000,64"]) as server:
-        good = check(server.address, "--all" in sys.argv)
+        good = check(server.address, "--all" in sys.argv, compares=True)
         ended = server.end()
     sys.exit(not good or ended != 0)
 

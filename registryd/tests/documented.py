@@ -4,11 +4,11 @@ import os, re, subprocess, textwrap
 from server import BLOBD, Client, TOP
 
 
-def blocks(document, heading):
-    """Returns the shell blocks below a heading, up to the next heading."""
+def blocks(document, heading, language="sh"):
+    """Returns the blocks of a language below a heading, up to the next heading."""
     with open(f"{os.path.dirname(TOP)}/{document}") as file:
-        section = re.split(r"^#+ ", file.read().split(f"# {heading}\n")[1], flags=re.MULTILINE)[0]
-    return [textwrap.dedent(block) for block in re.findall(r"^ *```sh\n(.*?)^ *```$", section, re.MULTILINE | re.DOTALL)]
+        section = re.split(r"^##+ ", file.read().split(f"# {heading}\n")[1], flags=re.MULTILINE)[0]
+    return [textwrap.dedent(block) for block in re.findall(rf"^ *```{language}\n(.*?)^ *```$", section, re.MULTILINE | re.DOTALL)]
 
 
 class Shell:

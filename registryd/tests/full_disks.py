@@ -1,12 +1,15 @@
 #!/usr/bin/env python3
 """Tests a registry whose disk is full: it reads, deletes as far as there is room, refuses the rest with 507, starts, and goes on by itself
 when there is room again. It ends with status 3 if it may not mount a disk."""
-import contextlib, os, random, signal, subprocess, sys, tempfile, threading, time
+import contextlib, os, random, signal, sqlite3, subprocess, sys, tempfile, threading, time
 
+import robots
 from crash.paths import log_of
+from limits import CHEAP, basic, users
 from playing import play, until
 from restarts import PATCH, by_kill_of_both, by_signal, opened, pulled, push, pushed, tags_of
 from server import MANIFEST, serving, sha256
+from tag_rules import command
 from views import status_of
 
 MIB = 1 << 20
@@ -302,6 +305,37 @@ def changes_wait_while_the_disk_fills():
             by_signal(server)
 
 
+def a_robot_is_revoked_on_a_full_disk():
+    """It is refused at once, and stays so after a kill as soon as there is room. Pulls of tags wait for room too."""
+    with disk() as at, users(f"acme:{CHEAP}") as file, users() as rules, tempfile.TemporaryDirectory() as top:
+        control, login = f"{top}/control", basic("acme:secret")
+        words = (*at.words(reserve=0), "--htpasswd", file, "--control", control, "--retention", rules)
+        rows = lambda query: [row for row, in sqlite3.connect(f"file:{at.folder}/registry.db?mode=ro", uri=True).execute(query)]
+        with serving(*words) as server:
+            image = pushed(server.client(login), "acme/one")
+            secrets = {f"robot+r{number}": robots.add(control, f"r{number}", "read:*") for number in range(6)}
+            at.fill()
+            for gone in secrets:
+                status, _, err = command(control, "robot", "revoke", gone)
+                at.fill()
+                if status != 0:
+                    break
+            assert f"{gone} is refused from now on, but the disk is full: revoke it again" in err, err
+            assert "the disk of the registry is full" in robots.fault(control, "add", "more", "--allow", "read:*", "--days", "1")
+            assert [name for name, secret in secrets.items() if robots.may(server, name, secret)] == list(secrets)[list(secrets).index(gone) + 1:]
+            assert robots.listed(control)[gone]["state"] == "revoked" and gone in rows("SELECT name FROM robots")
+            assert pulled(server.client(login), "acme/one", "v1")[0] == image
+            time.sleep(3)
+            assert rows("SELECT pulled FROM tags") == [0]
+            at.has_room()
+            assert until(lambda: gone not in rows("SELECT name FROM robots") and rows("SELECT pulled FROM tags") > [0], 60)
+            by_kill_of_both(server)
+        with serving(*words) as server:
+            kept = list(secrets)[list(secrets).index(gone) + 1:]
+            assert kept and [name for name, secret in secrets.items() if robots.may(server, name, secret)] == list(robots.listed(control)) == kept
+            by_signal(server)
+
+
 def main():
     with tempfile.TemporaryDirectory() as at:
         if subprocess.run(["mount", "-t", "tmpfs", "none", at], stderr=subprocess.DEVNULL).returncode != 0:
@@ -310,7 +344,7 @@ def main():
     tests = [
         its_own_uploads_never_fill_the_disk, another_program_fills_the_disk, (a_start_on_a_full_disk, by_signal),
         (a_start_on_a_full_disk, by_kill_of_both), a_signal_gives_back_the_room_of_what_was_deleted,
-        a_rewriting_that_has_no_room_does_not_begin, changes_wait_while_the_disk_fills]
+        a_rewriting_that_has_no_room_does_not_begin, changes_wait_while_the_disk_fills, a_robot_is_revoked_on_a_full_disk]
     play("full_disks", tests)
 
 

@@ -274,7 +274,7 @@ def a_tag_without_its_manifest_is_dropped():
         missing = sha256(b"missing")
         with database(path) as rows:
             rows.execute("INSERT INTO manifests (repository, digest, media_type) VALUES ('acme/one', ?, ?)", (missing, MANIFEST))
-            rows.executemany("INSERT INTO tags VALUES ('acme/one', ?, ?)", [("old", missing), ("older", missing)])
+            rows.executemany("INSERT INTO tags (repository, tag, digest) VALUES ('acme/one', ?, ?)", [("old", missing), ("older", missing)])
             rows.execute("INSERT INTO manifests (repository, digest, media_type) VALUES ('nobody/one', ?, ?)", (missing, MANIFEST))
         with serving("--data", path, "--accept-loss") as server:
             client = server.client()
@@ -311,6 +311,14 @@ def referrers_are_the_same_after_a_restart():
                 assert server.end() == 0
 
 
+def before_version_3(rows):
+    """Removes from a database what version 3 added."""
+    for column in ("pushed", "pulled"):
+        rows.execute(f"ALTER TABLE tags DROP COLUMN {column}")
+    for table in ("robots", "events", "receivers", "cached"):
+        rows.execute(f"DROP TABLE {table}")
+
+
 def a_database_of_version_1_is_taken_over():
     """Referrers that were pushed before there was a list of them are listed (OCI Distribution Specification 1.1, "Enabling the Referrers API")."""
     with folder() as path:
@@ -327,6 +335,7 @@ def a_database_of_version_1_is_taken_over():
         with database(path) as rows:
             rows.execute("DROP TABLE listed")
             rows.execute("DROP TABLE loose_blobs")
+            before_version_3(rows)
             rows.execute("DROP INDEX manifests_by_subject")
             for column in ("size", "artifact_type", "subject", "since"):
                 rows.execute(f"ALTER TABLE manifests DROP COLUMN {column}")

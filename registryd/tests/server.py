@@ -83,7 +83,12 @@ class Server:
         command = [REGISTRYD, "--listen", "127.0.0.1:0", "--blobd", BLOBD, *words, *tenants]
         # SIGXFSZ stays ignored, as in Python, so that a test can limit the length of a file that a program writes.
         self.process = subprocess.Popen(command, stderr=self.log, restore_signals=False, **options)
-        self.listens()
+        try:
+            self.listens()
+        except BaseException:
+            # It would go on, and hold the output of the test open.
+            self.process.kill()
+            raise
 
     def listens(self, seconds=60):
         """Waits until it listens on an address."""

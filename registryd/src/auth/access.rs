@@ -1,7 +1,8 @@
-//! Authentication and authorization. A user has a password (RFC 7617), or a token of an issuer (RFC 6750). A token lists rights. A
-//! file has the rights of users with a password; without it, such a user may use the repositories of the tenant that has the
+//! Authentication and authorization. A user has a password (RFC 7617), or a token of an issuer (RFC 6750). A token lists rights. An
+//! account of a machine has a secret instead of a password, and rights of its own. A file has the rights of users with a password; without it, such a user may use the repositories of the tenant that has the
 //! user's name.
 use crate::auth::rights::{Demand, Right, Rights, Scope};
+use crate::auth::robots::{is_robot, Robot, Robots};
 use crate::auth::tokens::{Issuer, Token};
 use crate::auth::users::Users;
 use crate::http::fault::Fault;
@@ -21,6 +22,8 @@ pub(crate) struct Access {
     pub(crate) users: Option<Arc<FromFile<Users>>>,
     pub(crate) rights: Option<Arc<FromFile<Rights>>>,
     pub(crate) issuer: Option<Arc<Issuer>>,
+    /// The accounts of machines. They count only if requests need credentials.
+    pub(crate) robots: Robots,
 }
 
 /// The sender of a request, as far as it is known.
@@ -32,6 +35,8 @@ enum Identity {
     Anonymous,
     /// A user whose password was right.
     User(String),
+    /// A machine whose secret was right.
+    Robot(Arc<Robot>),
     /// The holder of a valid token.
     Holder(Token),
 }
@@ -86,11 +91,20 @@ fn unauthorized(issuer: &Option<Arc<Issuer>>, scope: Scope<'_>, error: Option<&s
 }
 
 impl Access {
+    /// Returns whether requests need credentials.
+    pub(crate) fn wants_credentials(&self) -> bool {
+        self.users.is_some() || self.issuer.is_some()
+    }
+
     /// Returns the sender of a request after checking its credentials. A challenge names what the request needs.
     pub(crate) async fn caller(&self, headers: &HeaderMap, scope: Scope<'_>, client: Option<IpAddr>) -> Result<Caller, Fault> {
         let identity = match (credentials(headers), &self.users, &self.issuer) {
             (_, None, None) => Identity::Anybody,
             (Credentials::Missing, _, _) => Identity::Anonymous,
+            (Credentials::Password(user, secret), _, _) if is_robot(&user) => match self.robots.accept(&user, &secret) {
+                Some(robot) => Identity::Robot(robot),
+                None => return Err(unauthorized(&self.issuer, scope, None)),
+            },
             (Credentials::Password(user, password), Some(users), _) if users.get().accept(&user, &password, client).await? => {
                 Identity::User(user)
             }
@@ -110,6 +124,7 @@ impl Caller {
     pub(crate) fn user(&self) -> Option<&str> {
         match &self.identity {
             Identity::User(user) => Some(user),
+            Identity::Robot(robot) => Some(&robot.name),
             Identity::Holder(token) => token.user(),
             Identity::Anybody | Identity::Anonymous => None,
         }
@@ -127,6 +142,7 @@ impl Caller {
             (Identity::Anonymous, _) => false,
             (Identity::User(user), Some(rights)) => rights.allow(user, right, repo),
             (Identity::User(user), None) => tenant_of(repo) == user,
+            (Identity::Robot(robot), _) => robot.allows(right, repo),
             (Identity::Holder(token), _) => token.allows(right, repo),
         };
         has || self.rights.as_ref().map_or(false, |rights| rights.are_public(right, repo))
@@ -151,6 +167,7 @@ impl Caller {
         match &self.identity {
             _ if self.may(demand.right, demand.repo) => Ok(()),
             Identity::User(user) => Err(Fault::denied(user, demand.right.word(), demand.repo)),
+            Identity::Robot(robot) => Err(Fault::denied(&robot.name, demand.right.word(), demand.repo)),
             Identity::Holder(_) => Err(unauthorized(&self.issuer, Scope::Repository(*demand), Some("insufficient_scope"))),
             Identity::Anybody | Identity::Anonymous => Err(unauthorized(&self.issuer, Scope::Repository(*demand), None)),
         }
@@ -160,7 +177,7 @@ impl Caller {
     pub(crate) fn check_known(&self, scope: Scope<'_>) -> Result<(), Fault> {
         match &self.identity {
             Identity::Anonymous => Err(unauthorized(&self.issuer, scope, None)),
-            Identity::Anybody | Identity::User(_) | Identity::Holder(_) => Ok(()),
+            Identity::Anybody | Identity::User(_) | Identity::Robot(_) | Identity::Holder(_) => Ok(()),
         }
     }
 }

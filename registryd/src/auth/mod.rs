@@ -2,5 +2,7 @@
 pub(crate) mod access;
 mod password_queue;
 pub(crate) mod rights;
+pub(crate) mod robots;
+mod same;
 pub(crate) mod tokens;
 pub(crate) mod users;

@@ -1,9 +1,11 @@
 //! Rights of users in repositories, and the file that lists them.
+use crate::auth::robots::is_robot;
 use crate::http::paths::Target;
 use crate::metadata::names::{check_prefix, is_below, is_repository};
-use crate::operation::reload::{numbered_lines, read_text};
+use crate::operation::reload::{parse_lines, read_parsed};
 use hyper::Method;
 use std::collections::HashMap;
+use std::fmt;
 use std::path::Path;
 
 /// The user of lines that hold for every request, also for one without credentials.
@@ -51,6 +53,11 @@ pub(crate) struct Demand<'p> {
 }
 
 impl<'p> Demand<'p> {
+    /// Returns the word of the right.
+    pub(crate) fn word(&self) -> &'static str {
+        self.right.word()
+    }
+
     /// Returns what a request needs, if its path names a repository.
     pub(crate) fn of(method: &Method, target: &Target<'p>) -> Option<Demand<'p>> {
         target.repo().map(|repo| Demand { right: Right::of(method, target), repo })
@@ -94,11 +101,42 @@ impl<'p> Scope<'p> {
     }
 }
 
-/// The rights of one line.
-#[derive(Debug, PartialEq, Eq)]
-struct Grant {
+/// Rights in the repositories of a prefix.
+#[derive(Clone, Debug, PartialEq, Eq)]
+pub(super) struct Grant {
     rights: Vec<Right>,
     prefix: String,
+}
+
+impl Grant {
+    /// Makes the grant of two words of a line.
+    fn of(rights: &str, prefix: &str) -> Result<Grant, String> {
+        let right = |word| Right::named(word).ok_or_else(|| format!("no such right: `{word}`: write read, write or delete"));
+        let rights = rights.split(',').map(right).collect::<Result<Vec<Right>, String>>()?;
+        check_prefix(prefix)?;
+        Ok(Grant { rights, prefix: prefix.to_string() })
+    }
+
+    /// Parses a text `RIGHTS PREFIX`.
+    pub(super) fn parse(text: &str) -> Result<Grant, String> {
+        let words: Vec<&str> = text.split_whitespace().collect();
+        match words[..] {
+            [rights, prefix] => Grant::of(rights, prefix),
+            _ => Err("not RIGHTS PREFIX".to_string()),
+        }
+    }
+
+    /// Returns whether it has a right in a repository.
+    pub(super) fn allows(&self, right: Right, repo: &str) -> bool {
+        self.rights.contains(&right) && is_below(repo, &self.prefix)
+    }
+}
+
+impl fmt::Display for Grant {
+    fn fmt(&self, text: &mut fmt::Formatter) -> fmt::Result {
+        let rights: Vec<&str> = self.rights.iter().map(|right| right.word()).collect();
+        write!(text, "{} {}", rights.join(","), self.prefix)
+    }
 }
 
 /// The rights of a file.
@@ -114,13 +152,14 @@ fn parse_line(line: &str) -> Result<(&str, Grant), String> {
         [user, rights, prefix] => (user, rights, prefix),
         _ => return Err("not USER RIGHTS PREFIX".to_string()),
     };
-    let right = |word| Right::named(word).ok_or_else(|| format!("no such right: `{word}`: write read, write or delete"));
-    let rights = rights.split(',').map(right).collect::<Result<Vec<Right>, String>>()?;
-    if user == EVERYBODY && rights.iter().any(|right| *right != Right::Read) {
+    let grant = Grant::of(rights, prefix)?;
+    if user == EVERYBODY && grant.rights.iter().any(|right| *right != Right::Read) {
         return Err("everybody may only read: write `* read PREFIX`".to_string());
     }
-    check_prefix(prefix)?;
-    Ok((user, Grant { rights, prefix: prefix.to_string() }))
+    if is_robot(user) {
+        return Err("a robot gets its rights by `registryd robot add`".to_string());
+    }
+    Ok((user, grant))
 }
 
 impl Rights {
@@ -131,16 +170,13 @@ impl Rights {
     /// - The file cannot be read.
     /// - A line is not `USER RIGHTS PREFIX`. The message has the number of the first such line.
     pub(crate) fn read(path: &Path) -> Result<Rights, String> {
-        let fault = |why: String| format!("cannot read the rights: {}: {why}", path.display());
-        let text = read_text(path).map_err(|error| fault(error.to_string()))?;
-        Rights::parse(&text).map_err(fault)
+        read_parsed(path, "rights", Rights::parse)
     }
 
     /// Parses the text of a file.
     pub(super) fn parse(text: &str) -> Result<Rights, String> {
         let mut rights = Rights::default();
-        for (number, line) in numbered_lines(text) {
-            let (user, grant) = parse_line(line).map_err(|why| format!("line {number}: {why}"))?;
+        for (user, grant) in parse_lines(text, |_, line| parse_line(line))? {
             rights.by_user.entry(user.to_string()).or_default().push(grant);
         }
         Ok(rights)
@@ -154,7 +190,7 @@ impl Rights {
     /// Returns whether a user has a right in a repository by a line for the user.
     pub(super) fn allow(&self, user: &str, right: Right, repo: &str) -> bool {
         let grants = self.by_user.get(user).map_or(&[][..], Vec::as_slice);
-        grants.iter().any(|grant| grant.rights.contains(&right) && is_below(repo, &grant.prefix))
+        grants.iter().any(|grant| grant.allows(right, repo))
     }
 }
 
@@ -203,6 +239,7 @@ mod tests {
             "acme read acme/*",
             "acme read ..",
             "acme\u{0}read acme",
+            "robot+ci read acme",
         ];
         for line in lines {
             let why = Rights::parse(&format!("# rights\nacme read acme\n{line}\n")).unwrap_err();

@@ -1,5 +1,7 @@
 //! The file of users, the hashes of their passwords, and the passwords that were accepted.
 use crate::auth::password_queue::{PasswordQueue, Sender};
+use crate::auth::robots::is_robot;
+use crate::auth::same::is_same;
 use crate::http::fault::Fault;
 use crate::operation::locks::guard_of;
 use crate::operation::reload::read_text;
@@ -86,6 +88,7 @@ fn is_locked(hash: &str) -> bool {
 /// Parses a line `USER:HASH` whose hash this program can check. `tried` has the formats that the system is known to support.
 fn parse_line<'l>(line: &'l str, tried: &mut HashSet<&'static str>) -> Result<(&'l str, &'l str), &'static str> {
     let (user, hash) = match line.split_once(':') {
+        Some((user, _)) if is_robot(user) => return Err("names that begin with `robot+` are those of `registryd robot`"),
         Some((user, hash)) if !user.is_empty() => (user, hash),
         _ => return Err("not USER:HASH"),
     };
@@ -182,11 +185,6 @@ impl Users {
     }
 }
 
-/// Compares two texts in a time that depends only on their lengths.
-fn is_same(a: &[u8], b: &[u8]) -> bool {
-    a.len() == b.len() && a.iter().zip(b).fold(0, |other, (a, b)| other | (a ^ b)) == 0
-}
-
 /// Returns whether a password has a hash.
 fn matches_hash(password: &str, hash: &str) -> bool {
     crypt_hash(password, hash).map_or(false, |found| is_same(&found, hash.as_bytes()))
@@ -258,7 +256,7 @@ mod tests {
         }
         let apr1 = "acme:$apr1$Zk7Yq2xT$DZ7UqqZQZkSc1.xlOGv7u.";
         let short = &format!("acme:{}", &BCRYPT[..40]);
-        for line in [apr1, short, "acme:{SHA}qUqP5cyxm6YcTAhz05Hph5gvu9M=", "acme:secret", "acme", ":x", "acme:"] {
+        for line in [apr1, short, "acme:{SHA}qUqP5cyxm6YcTAhz05Hph5gvu9M=", "acme:secret", "acme", ":x", "acme:", "robot+ci:!"] {
             assert!(parse_line(line, &mut HashSet::new()).is_err(), "{line}");
         }
     }

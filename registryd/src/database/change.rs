@@ -1,9 +1,12 @@
 //! The changes of the database, and what they do to the tables of this process.
+use crate::auth::robots::RobotRow;
 use crate::database::upload_numbers::UploadNumbers;
+use crate::events::queue::Passed;
 use crate::folder::log_end::LogEnd;
 use crate::metadata::document::Facts;
 use crate::metadata::manifest_table::ManifestTable;
 use crate::metadata::names::tenant_of;
+use crate::metadata::tag::{ExpiredTag, Pull, RemovedTag};
 use std::collections::HashMap;
 
 /// A change of the database.
@@ -30,7 +33,7 @@ pub(crate) enum Change {
         digest: String,
         facts: Facts,
         since: u64,
-        tags: Vec<String>,
+        tags: Vec<RemovedTag>,
     },
     /// A client has asked for a manifest by its digest.
     TouchManifest {
@@ -40,6 +43,19 @@ pub(crate) enum Change {
     RemoveTag {
         repo: String,
         tag: String,
+    },
+    /// Tags are removed, but for those that were pushed meanwhile.
+    ExpireTags {
+        repo: String,
+        tags: Vec<ExpiredTag>,
+    },
+    /// Clients pulled tags.
+    RecordPulls {
+        pulls: Vec<Pull>,
+    },
+    /// All pulls of tags are recorded since this time, in seconds since 1970, or they are not.
+    CountPulls {
+        since: Option<u64>,
     },
     /// A manifest is going to be deleted. Its tags are removed too.
     RemoveManifest {
@@ -53,6 +69,21 @@ pub(crate) enum Change {
     },
     /// A blob is unlinked, or a manifest refers to it.
     RemoveLooseBlob {
+        repo: String,
+        digest: String,
+    },
+    /// A mirror is going to store a copy of a manifest or a blob.
+    AddCached {
+        repo: String,
+        digest: String,
+    },
+    /// A client has asked for a copy.
+    UseCached {
+        repo: String,
+        digest: String,
+    },
+    /// A copy is deleted, or was pushed.
+    RemoveCached {
         repo: String,
         digest: String,
     },
@@ -74,9 +105,23 @@ pub(crate) enum Change {
         repo: String,
         number: u32,
     },
+    /// An account of a machine was made.
+    AddRobot {
+        row: RobotRow,
+    },
+    /// An account of a machine was revoked.
+    RemoveRobot {
+        name: String,
+    },
     /// The log is on the disk up to this end.
     KeepLogEnd {
         end: LogEnd,
+    },
+    /// Something was done that the database does not have. Only its events are recorded.
+    AddEvents,
+    /// Receivers have more events than before.
+    PassEvents {
+        passed: Passed,
     },
     /// Only the time of the transaction is recorded.
     KeepTime,
@@ -88,6 +133,8 @@ pub(crate) enum Done {
     Nothing,
     /// Tags were removed.
     Removed(Vec<String>),
+    /// All tags of a manifest were removed.
+    RemovedAll(Vec<RemovedTag>),
 }
 
 impl Change {
@@ -99,16 +146,22 @@ impl Change {
                 table.restore(&repo, &digest, facts, since, names)
             }
             Change::RemoveTag { repo, tag } => return Done::Removed(table.take_tag(&repo, tag, now).into_iter().collect()),
-            Change::RemoveManifest { repo, digest } => return Done::Removed(table.take_tags_of(&repo, &digest)),
+            Change::ExpireTags { repo, tags } => return Done::Removed(table.expire_tags(&repo, &tags, now)),
+            Change::RemoveManifest { repo, digest } => return Done::RemovedAll(table.take_tags_of(&repo, &digest)),
             _ => {}
         }
         Done::Nothing
     }
 
+    /// Returns whether there is nothing but events.
+    pub(super) fn is_event(&self) -> bool {
+        matches!(self, Change::AddEvents)
+    }
+
     /// Returns whether the change is made later if the disk has no room now, although a request waits for it: it restores what an
-    /// earlier change took away.
+    /// earlier change took away, or it is true already.
     pub(super) fn stays(&self) -> bool {
-        matches!(self, Change::RestoreManifest { .. })
+        matches!(self, Change::RestoreManifest { .. } | Change::RemoveRobot { .. })
     }
 
     /// Notes the number of an upload. Returns the tenant if the number changed up to which all are recorded.

@@ -12,6 +12,8 @@ pub(crate) struct Marks {
     pub(crate) commits: u64,
     /// The time of the last transaction, in seconds since 1970.
     pub(crate) time: Option<u64>,
+    /// The time since which all pulls of tags are recorded, in seconds since 1970. Missing if they are not recorded.
+    pub(crate) pulls_since: Option<u64>,
 }
 
 /// Returns a setting.
@@ -30,9 +32,10 @@ fn put(connection: &Connection, name: &str, value: &dyn rusqlite::ToSql) -> rusq
 pub(super) fn read(connection: &Connection) -> rusqlite::Result<Marks> {
     let log_end: Option<Vec<u8>> = setting(connection, "log_end")?;
     let commits: Option<i64> = setting(connection, "commits")?;
-    let time = setting::<i64>(connection, "time")?.and_then(|time| u64::try_from(time).ok());
+    let time = |name| setting::<i64>(connection, name).map(|found| found.and_then(|time| u64::try_from(time).ok()));
+    let (time, pulls_since) = (time("time")?, time("pulls_since")?);
     let log_end = log_end.and_then(|bytes| LogEnd::from_bytes(&bytes));
-    Ok(Marks { log_end, commits: commits.unwrap_or(0) as u64, time })
+    Ok(Marks { log_end, commits: commits.unwrap_or(0) as u64, time, pulls_since })
 }
 
 /// Writes an end of the log that is on the disk.
@@ -43,6 +46,14 @@ pub(super) fn put_log_end(connection: &Connection, end: LogEnd) -> rusqlite::Res
 /// Keeps of the end of the log the number of its last file alone.
 pub(super) fn loosen_log_end(connection: &Connection, end: LogEnd) -> rusqlite::Result<()> {
     put_log_end(connection, LogEnd { length: 0, ..end })
+}
+
+/// Writes the time since which all pulls of tags are recorded, or that they are not.
+pub(super) fn put_pulls_since(connection: &Connection, since: Option<u64>) -> rusqlite::Result<()> {
+    match since {
+        Some(since) => put(connection, "pulls_since", &(since as i64)),
+        None => connection.execute("DELETE FROM settings WHERE name = 'pulls_since'", []).map(|_| ()),
+    }
 }
 
 /// Writes the number of transactions and the time of the last one, in seconds since 1970.

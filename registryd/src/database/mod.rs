@@ -1,10 +1,13 @@
 //! The database `registry.db` and the thread that writes it.
 pub(crate) mod change;
+pub(crate) mod event_rows;
 pub(crate) mod marks;
 pub(crate) mod rows;
 mod schema;
 pub(crate) mod sqlite;
 mod statements;
+#[cfg(test)]
+mod test_folder;
 mod upload_numbers;
 pub(crate) mod witness;
 pub(crate) mod writer;

@@ -1,5 +1,8 @@
 //! The rows that a start reads from the database.
+use crate::auth::robots::RobotRow;
+use crate::events::queue::EventRows;
 use crate::metadata::document::Facts;
+use crate::metadata::tag::TagTimes;
 use crate::metadata::upload_names::Secret;
 use rusqlite::Connection;
 use std::collections::HashMap;
@@ -22,6 +25,7 @@ pub(crate) struct TagRow {
     pub(crate) repo: String,
     pub(crate) tag: String,
     pub(crate) digest: String,
+    pub(crate) times: TagTimes,
 }
 
 /// An open upload.
@@ -40,8 +44,14 @@ pub(crate) struct Rows {
     pub(crate) uploads: Vec<UploadRow>,
     /// The repositories and digests of blobs that are to be unlinked after some time.
     pub(crate) loose_blobs: Vec<(String, String)>,
+    /// The accounts of machines.
+    pub(crate) robots: Vec<RobotRow>,
+    /// The repositories and digests of the copies of mirrors, each with the time of its last use in seconds since 1970.
+    pub(crate) cached: Vec<(String, String, u64)>,
     /// For each tenant, a number up to which all its sessions that may be open are rows of `uploads`.
     pub(crate) recorded: HashMap<String, u32>,
+    /// The events that are not delivered yet.
+    pub(crate) events: EventRows,
 }
 
 /// Returns all rows of a query.
@@ -51,6 +61,22 @@ pub(super) fn all<T>(
     read: impl FnMut(&rusqlite::Row<'_>) -> rusqlite::Result<T>,
 ) -> rusqlite::Result<Vec<T>> {
     connection.prepare(query)?.query_map([], read)?.collect()
+}
+
+/// Returns all tags.
+pub(super) fn tag_rows(connection: &Connection) -> rusqlite::Result<Vec<TagRow>> {
+    all(connection, "SELECT repository, tag, digest, pushed, pulled FROM tags", |row| {
+        let times = TagTimes { pushed: row.get::<_, i64>(3)? as u64, pulled: row.get::<_, i64>(4)? as u64 };
+        Ok(TagRow { repo: row.get(0)?, tag: row.get(1)?, digest: row.get(2)?, times })
+    })
+}
+
+/// Returns all accounts of machines.
+pub(super) fn robot_rows(connection: &Connection) -> rusqlite::Result<Vec<RobotRow>> {
+    all(connection, "SELECT name, hash, rights, made, ends FROM robots", |row| {
+        let time = |at| row.get::<_, i64>(at).map(|time| time as u64);
+        Ok(RobotRow { name: row.get(0)?, hash: row.get(1)?, rights: row.get(2)?, made: time(3)?, ends: time(4)? })
+    })
 }
 
 /// Returns all manifests.

@@ -1,6 +1,6 @@
 //! The tables of the database, its version, and how it is set up.
-use rusqlite::Connection;
-use rusqlite::TransactionBehavior;
+use crate::metadata::clock;
+use rusqlite::{Connection, TransactionBehavior};
 use std::time::Duration;
 
 /// The time that the program before has to release the database.
@@ -10,7 +10,7 @@ const WAIT: Duration = Duration::from_secs(5);
 pub(super) const APPLICATION: i64 = 0x7265_6764;
 
 /// The version of the tables.
-pub(super) const VERSION: i64 = 2;
+pub(super) const VERSION: i64 = 3;
 
 /// The tables of version 1.
 pub(super) const TABLES: &str = "
@@ -34,7 +34,7 @@ pub(super) const TABLES: &str = "
 ";
 
 /// What version 2 adds. `size` is missing for a manifest whose other facts are not known yet.
-const ADDITIONS: &str = "
+pub(super) const FACTS: &str = "
     ALTER TABLE manifests ADD COLUMN size INTEGER;
     ALTER TABLE manifests ADD COLUMN artifact_type TEXT;
     ALTER TABLE manifests ADD COLUMN subject TEXT;
@@ -49,6 +49,32 @@ const ADDITIONS: &str = "
         repository TEXT NOT NULL, digest TEXT NOT NULL,
         PRIMARY KEY (repository, digest)
     ) WITHOUT ROWID;
+";
+
+/// What version 3 adds: when tags were pushed and pulled, in seconds since 1970, the accounts of machines, events, and the manifests and
+/// blobs that mirrors copied. `passed` is the number up to which a receiver has all events that it wants.
+const USES: &str = "
+    ALTER TABLE tags ADD COLUMN pushed INTEGER NOT NULL DEFAULT 0;
+    ALTER TABLE tags ADD COLUMN pulled INTEGER NOT NULL DEFAULT 0;
+    CREATE TABLE robots (
+        name TEXT PRIMARY KEY, hash BLOB NOT NULL, rights TEXT NOT NULL, made INTEGER NOT NULL, ends INTEGER NOT NULL
+    ) WITHOUT ROWID;
+    CREATE TABLE events (number INTEGER PRIMARY KEY, time INTEGER NOT NULL, text TEXT NOT NULL);
+    CREATE TABLE receivers (name TEXT PRIMARY KEY, passed INTEGER NOT NULL) WITHOUT ROWID;
+    CREATE TABLE cached (
+        repository TEXT NOT NULL, digest TEXT NOT NULL, used INTEGER NOT NULL,
+        PRIMARY KEY (repository, digest)
+    ) WITHOUT ROWID;
+";
+
+/// The time of the push of each tag that an earlier version recorded: that of its manifest, which is the same or later, or else that of
+/// the last transaction, or else now.
+const TIMES: &str = "
+    UPDATE tags SET pushed = coalesce(
+        (SELECT nullif(since, 0) FROM manifests WHERE manifests.repository = tags.repository AND manifests.digest = tags.digest),
+        (SELECT value FROM settings WHERE name = 'time'),
+        ?1
+    )
 ";
 
 /// Sets how the database writes and checks. Other programs can read it meanwhile, for a backup. The store's lock on the folder
@@ -66,7 +92,7 @@ pub(super) fn set_up_without_room(connection: &Connection) -> rusqlite::Result<(
     connection.query_row("PRAGMA locking_mode = EXCLUSIVE", [], |_| Ok(()))
 }
 
-/// Checks the database, or makes its tables if it is empty, or adds to those of version 1. Returns what is wrong, if anything is.
+/// Checks the database, or makes its tables if it is empty, or adds to those of an earlier version. Returns what is wrong, if anything is.
 pub(super) fn check_or_make(connection: &mut Connection) -> rusqlite::Result<Option<String>> {
     let transaction = connection.transaction_with_behavior(TransactionBehavior::Exclusive)?;
     let number = |query: &str| transaction.query_row(query, [], |row| row.get::<_, i64>(0));
@@ -76,7 +102,11 @@ pub(super) fn check_or_make(connection: &mut Connection) -> rusqlite::Result<Opt
         transaction.execute_batch(TABLES)?;
     }
     if is_empty || found == (APPLICATION, 1) {
-        transaction.execute_batch(ADDITIONS)?;
+        transaction.execute_batch(FACTS)?;
+    }
+    if is_empty || (found.0 == APPLICATION && (1..VERSION).contains(&found.1)) {
+        transaction.execute_batch(USES)?;
+        transaction.execute(TIMES, [clock::time_of_day() as i64])?;
         transaction.execute_batch(&format!("PRAGMA application_id = {APPLICATION}; PRAGMA user_version = {VERSION}"))?;
     }
     let fault = check(&transaction)?;

@@ -1,11 +1,12 @@
 //! The database of a registry with a folder, `registry.db` (SQLite): tags, facts of manifests, the secret of the names of
 //! uploads, and what is needed to find open uploads after a restart.
 use crate::database::change::Change;
+use crate::database::event_rows::{NewEvents, Reported};
 use crate::database::marks::Marks;
-use crate::database::rows::{Rows, TagRow, UploadRow};
+use crate::database::rows::{Rows, UploadRow};
 use crate::database::statements::UploadChanges;
 use crate::database::witness::Witness;
-use crate::database::{marks, rows, schema, statements};
+use crate::database::{event_rows, marks, rows, schema, statements};
 use crate::folder::unsynced;
 use crate::metadata::upload_names::{Secret, SECRET_LEN};
 use rusqlite::{params, Connection, ErrorCode, OpenFlags, TransactionBehavior};
@@ -189,17 +190,20 @@ impl Database {
         let connection = &self.connection;
         let repositories = rows::all(connection, "SELECT name FROM repositories", |row| row.get(0))?;
         let manifests = rows::manifest_rows(connection)?;
-        let tags = rows::all(connection, "SELECT repository, tag, digest FROM tags", |row| {
-            Ok(TagRow { repo: row.get(0)?, tag: row.get(1)?, digest: row.get(2)? })
-        })?;
+        let tags = rows::tag_rows(connection)?;
         let uploads = rows::all(connection, "SELECT repository, number FROM uploads", |row| {
             Ok(UploadRow { repo: row.get(0)?, number: row.get(1)? })
         })?;
         let query = "SELECT repository, digest FROM loose_blobs";
         let loose_blobs = rows::all(connection, query, |row| Ok((row.get(0)?, row.get(1)?)))?;
+        let cached = rows::all(connection, "SELECT repository, digest, used FROM cached", |row| {
+            Ok((row.get(0)?, row.get(1)?, row.get::<_, i64>(2)? as u64))
+        })?;
         let recorded = rows::all(connection, "SELECT name, recorded FROM tenants", |row| Ok((row.get(0)?, row.get(1)?)))?;
         let recorded = recorded.into_iter().collect();
-        Ok(Rows { secret, repositories, manifests, tags, uploads, loose_blobs, recorded })
+        let robots = rows::robot_rows(connection)?;
+        let events = event_rows::read(connection)?;
+        Ok(Rows { secret, repositories, manifests, tags, uploads, loose_blobs, cached, robots, recorded, events })
     }
 
     /// Returns the secret of the names of uploads, and makes it if there is none.
@@ -227,7 +231,19 @@ impl Database {
         recorded: &[(String, u32)],
         now: u64,
     ) -> rusqlite::Result<Committed> {
-        let committed = self.begin_writing().and_then(|()| self.commit_written(changes, recorded, now));
+        self.commit_reported(changes.map(|change| (change, None)), recorded, now, &mut NewEvents::from(0))
+    }
+
+    /// Makes changes as `commit` does, together with the rows of their events, which it adds to `events`. These are of no use if it
+    /// fails, or if the disk has no room.
+    pub(crate) fn commit_reported<'c>(
+        &mut self,
+        changes: impl Iterator<Item = (&'c Change, Reported<'c>)>,
+        recorded: &[(String, u32)],
+        now: u64,
+        events: &mut NewEvents,
+    ) -> rusqlite::Result<Committed> {
+        let committed = self.begin_writing().and_then(|()| self.commit_written(changes, recorded, now, events));
         match committed {
             Ok(()) => Ok(Committed::Made),
             Err(error) if is_full(&error) && self.connection.is_autocommit() => Ok(Committed::NoRoom),
@@ -237,14 +253,18 @@ impl Database {
 
     fn commit_written<'c>(
         &mut self,
-        changes: impl Iterator<Item = &'c Change>,
+        changes: impl Iterator<Item = (&'c Change, Reported<'c>)>,
         recorded: &[(String, u32)],
         now: u64,
+        events: &mut NewEvents,
     ) -> rusqlite::Result<()> {
         let transaction = self.connection.transaction_with_behavior(TransactionBehavior::Immediate)?;
         let mut uploads = UploadChanges::default();
-        for change in changes {
-            statements::make(&transaction, change, now, &mut uploads)?;
+        for (change, report) in changes {
+            let effect = statements::make(&transaction, change, now, &mut uploads)?;
+            for event in report.map_or_else(Vec::new, |report| report.events(effect)) {
+                events.add(&transaction, event)?;
+            }
         }
         uploads.make(&transaction)?;
         for (tenant, number) in recorded {
@@ -271,44 +291,12 @@ impl Database {
 mod tests {
     use super::*;
     use crate::database::rows::ManifestRow;
-    use crate::database::schema::{APPLICATION, TABLES, VERSION};
+    use crate::database::schema::{APPLICATION, FACTS, TABLES, VERSION};
+    use crate::database::test_folder::{put, put_facts, since, tags, times, TestFolder};
+    use crate::metadata::clock;
     use crate::metadata::document::Facts;
+    use crate::metadata::tag::{RemovedTag, TagTimes};
     use std::os::unix::fs::PermissionsExt;
-
-    /// A folder that is removed after the test.
-    struct TestFolder(PathBuf);
-
-    impl TestFolder {
-        fn new() -> TestFolder {
-            let path = std::env::temp_dir().join(format!("registryd-{}", uuid::Uuid::new_v4()));
-            std::fs::create_dir(&path).unwrap();
-            TestFolder(path)
-        }
-
-        fn open(&self) -> Database {
-            Database::open(&self.0, true).unwrap()
-        }
-    }
-
-    impl Drop for TestFolder {
-        fn drop(&mut self) {
-            let _ = std::fs::remove_dir_all(&self.0);
-        }
-    }
-
-    fn put(digest: &str, media_type: &str, tag: Option<&str>) -> Change {
-        let facts = Facts { media_type: media_type.to_string(), ..Facts::default() };
-        put_facts(digest, facts, tag)
-    }
-
-    fn put_facts(digest: &str, facts: Facts, tag: Option<&str>) -> Change {
-        let (repo, digest) = ("acme/web".to_string(), digest.to_string());
-        Change::PutManifest { repo, digest, facts, tag: tag.map(str::to_string) }
-    }
-
-    fn tags(rows: &Rows) -> Vec<(&str, &str)> {
-        rows.tags.iter().map(|row| (&*row.tag, &*row.digest)).collect()
-    }
 
     #[test]
     fn changes_are_there_when_it_is_opened_again() {
@@ -336,14 +324,13 @@ mod tests {
         let changes = [put("a", "x/a", Some("v1")), put("a", "x/a", Some("v2")), remove, put("b", "x/b", Some("v2"))];
         database.commit(changes.iter(), &[], 1).unwrap();
         assert_eq!(tags(&database.read().unwrap()), [("v2", "b")]);
-        let tags_before = vec!["v1".to_string(), "v2".to_string()];
+        let removed = |name: &str, pushed| RemovedTag { name: name.to_string(), times: TagTimes { pushed, pulled: 7 } };
+        let tags_before = vec![removed("v1", 5), removed("v2", 6)];
         let restore = Change::RestoreManifest { repo, digest, facts: Facts::default(), since: 1, tags: tags_before };
         database.commit([restore].iter(), &[], 1).unwrap();
-        assert_eq!(tags(&database.read().unwrap()), [("v1", "a"), ("v2", "b")]);
-    }
-
-    fn since(rows: &Rows) -> Vec<(&str, u64)> {
-        rows.manifests.iter().map(|row| (&*row.digest, row.since)).collect()
+        let rows = database.read().unwrap();
+        assert_eq!(tags(&rows), [("v1", "a"), ("v2", "b")]);
+        assert_eq!(times(&rows), [(5, 7), (1, 0)]);
     }
 
     #[test]
@@ -398,10 +385,57 @@ mod tests {
         )
         .unwrap();
         drop(old);
+        let begun = clock::time_of_day();
         let rows = folder.open().read().unwrap();
         let row = &rows.manifests[0];
         assert_eq!((&*row.facts.media_type, row.is_complete, tags(&rows)), ("x/a", false, vec![("v1", "a")]));
+        assert!((begun..=clock::time_of_day()).contains(&rows.tags[0].times.pushed));
         assert_eq!(folder.open().read().unwrap().manifests, rows.manifests);
+    }
+
+    #[test]
+    fn tags_of_version_2_are_as_old_as_their_manifests() {
+        let folder = TestFolder::new();
+        let old = Connection::open(folder.0.join(FILE_NAME)).unwrap();
+        old.execute_batch(TABLES).unwrap();
+        old.execute_batch(FACTS).unwrap();
+        old.execute_batch(&format!("PRAGMA application_id = {APPLICATION}; PRAGMA user_version = 2")).unwrap();
+        old.execute_batch(
+            "INSERT INTO manifests (repository, digest, media_type, since) VALUES ('acme/web', 'a', 'x/a', 7), ('acme/web', 'b', 'x/b', 0);
+             INSERT INTO tags VALUES ('acme/web', 'v1', 'a'), ('acme/web', 'v2', 'b');
+             INSERT INTO settings VALUES ('time', 9)",
+        )
+        .unwrap();
+        drop(old);
+        assert_eq!(times(&folder.open().read().unwrap()), [(7, 0), (9, 0)]);
+        assert_eq!(folder.open().marks().time, Some(9));
+    }
+
+    #[test]
+    fn a_database_of_version_2_gets_the_table_of_copies() {
+        let folder = TestFolder::new();
+        let old = Connection::open(folder.0.join(FILE_NAME)).unwrap();
+        old.execute_batch(&format!("{TABLES} {FACTS}")).unwrap();
+        old.execute_batch(&format!("PRAGMA application_id = {APPLICATION}; PRAGMA user_version = 2")).unwrap();
+        old.execute_batch("INSERT INTO manifests VALUES ('acme/web', 'a', 'x/a', 7, NULL, NULL, 5)").unwrap();
+        drop(old);
+        let rows = folder.open().read().unwrap();
+        assert_eq!((rows.manifests[0].since, rows.cached.len()), (5, 0));
+        assert_eq!(folder.open().read().unwrap().manifests, rows.manifests);
+    }
+
+    #[test]
+    fn a_copy_has_the_time_of_its_last_use() {
+        let folder = TestFolder::new();
+        let mut database = folder.open();
+        let (repo, digest) = ("acme/web".to_string(), |digest: &str| digest.to_string());
+        let add = |name| Change::AddCached { repo: repo.clone(), digest: digest(name) };
+        database.commit([add("a"), add("b"), add("c")].iter(), &[], 5).unwrap();
+        let used = Change::UseCached { repo: repo.clone(), digest: digest("b") };
+        let removed = Change::RemoveCached { repo: repo.clone(), digest: digest("c") };
+        database.commit([used, removed].iter(), &[], 9).unwrap();
+        let expected = [("a", 5), ("b", 9)].map(|(name, time)| (repo.clone(), digest(name), time));
+        assert_eq!(database.read().unwrap().cached, expected);
     }
 
     #[test]

@@ -1,8 +1,11 @@
 //! The statements of SQL that make the changes of a transaction.
+use crate::auth::robots::RobotRow;
 use crate::database::change::Change;
-use crate::database::marks;
+use crate::database::{event_rows, marks};
+use crate::events::event::Effect;
 use crate::metadata::document::Facts;
 use crate::metadata::names::tenant_of;
+use crate::metadata::tag::{ExpiredTag, Pull, RemovedTag, TagTimes};
 use rusqlite::{params, Transaction};
 use std::collections::BTreeMap;
 
@@ -41,8 +44,30 @@ fn release_tagged(transaction: &Transaction<'_>, repo: &str, tag: &str, now: u64
     run(transaction, query, params![repo, tag, now as i64])
 }
 
-/// Removes a manifest with its tags. It ceases to hold what it lists, and what has it as subject.
-fn remove_manifest(transaction: &Transaction<'_>, repo: &str, digest: &str, now: u64) -> rusqlite::Result<()> {
+/// Removes tags, except those that were pushed meanwhile. Returns the names of those that it removed.
+fn expire_tags(transaction: &Transaction<'_>, repo: &str, tags: &[ExpiredTag], now: u64) -> rusqlite::Result<Vec<String>> {
+    let mut removed = Vec::new();
+    for ExpiredTag { name, digest, pushed } in tags {
+        let query = "DELETE FROM tags WHERE repository = ?1 AND tag = ?2 AND digest = ?3 AND pushed = ?4";
+        if transaction.prepare_cached(query)?.execute(params![repo, name, digest, *pushed as i64])? > 0 {
+            let query = "UPDATE manifests SET since = ?3 WHERE repository = ?1 AND digest = ?2";
+            run(transaction, query, params![repo, digest, now as i64])?;
+            removed.push(name.clone());
+        }
+    }
+    Ok(removed)
+}
+
+/// Records the last pull of a tag, unless it was pushed after it.
+fn record_pull(transaction: &Transaction<'_>, Pull { repo, tag, time }: &Pull) -> rusqlite::Result<()> {
+    let query = "UPDATE tags SET pulled = ?3 WHERE repository = ?1 AND tag = ?2 AND pushed <= ?3 AND pulled < ?3";
+    run(transaction, query, params![repo, tag, *time as i64])
+}
+
+/// Removes a manifest with its tags, whose names it returns. It ceases to hold what it lists, and what has it as subject.
+fn remove_manifest(transaction: &Transaction<'_>, repo: &str, digest: &str, now: u64) -> rusqlite::Result<Vec<String>> {
+    let mut select = transaction.prepare_cached("SELECT tag FROM tags WHERE repository = ?1 AND digest = ?2 ORDER BY tag")?;
+    let tags = select.query_map(params![repo, digest], |row| row.get(0))?.collect::<rusqlite::Result<Vec<String>>>()?;
     for query in [
         "UPDATE manifests SET since = ?3 WHERE repository = ?1
          AND digest IN (SELECT listed FROM listed WHERE repository = ?1 AND digest = ?2)",
@@ -50,11 +75,50 @@ fn remove_manifest(transaction: &Transaction<'_>, repo: &str, digest: &str, now:
     ] {
         run(transaction, query, params![repo, digest, now as i64])?;
     }
-    run(transaction, "DELETE FROM manifests WHERE repository = ?1 AND digest = ?2", params![repo, digest])
+    run(transaction, "DELETE FROM manifests WHERE repository = ?1 AND digest = ?2", params![repo, digest])?;
+    Ok(tags)
 }
 
-/// Makes a change, except that of an upload, which it notes. `now` is the time.
+/// Writes the tags of a manifest that is restored. One that names another manifest by now stays. Returns the names of the others.
+fn restore_tags(transaction: &Transaction<'_>, repo: &str, digest: &str, tags: &[RemovedTag]) -> rusqlite::Result<Vec<String>> {
+    let mut restored = Vec::new();
+    for RemovedTag { name, times: TagTimes { pushed, pulled } } in tags {
+        let query = "INSERT OR IGNORE INTO tags (repository, tag, digest, pushed, pulled) VALUES (?1, ?2, ?3, ?4, ?5)";
+        if transaction.prepare_cached(query)?.execute(params![repo, name, digest, *pushed as i64, *pulled as i64])? > 0 {
+            restored.push(name.clone());
+        }
+    }
+    Ok(restored)
+}
+
+/// Makes a change, except that of an upload, which it notes. `now` is the time. Returns what it did to tags.
 pub(super) fn make<'c>(
+    transaction: &Transaction<'_>,
+    change: &'c Change,
+    now: u64,
+    uploads: &mut UploadChanges<'c>,
+) -> rusqlite::Result<Effect> {
+    match change {
+        Change::RestoreManifest { repo, digest, facts, since, tags } => {
+            put_manifest(transaction, (repo, digest), facts, *since, false)?;
+            restore_tags(transaction, repo, digest, tags).map(Effect::Tags)
+        }
+        Change::RemoveManifest { repo, digest } => remove_manifest(transaction, repo, digest, now).map(Effect::Tags),
+        Change::ExpireTags { repo, tags } => expire_tags(transaction, repo, tags, now).map(Effect::Tags),
+        Change::RemoveTag { repo, tag } => {
+            release_tagged(transaction, repo, tag, now)?;
+            let query = "DELETE FROM tags WHERE repository = ?1 AND tag = ?2";
+            match transaction.prepare_cached(query)?.execute(params![repo, tag])? {
+                0 => Ok(Effect::Nothing),
+                _ => Ok(Effect::Made),
+            }
+        }
+        _ => make_other(transaction, change, now, uploads).map(|()| Effect::Made),
+    }
+}
+
+/// Makes a change that removes and restores no tags.
+fn make_other<'c>(
     transaction: &Transaction<'_>,
     change: &'c Change,
     now: u64,
@@ -71,34 +135,33 @@ pub(super) fn make<'c>(
             match tag {
                 Some(tag) => {
                     release_tagged(transaction, repo, tag, now)?;
-                    let query = "INSERT OR REPLACE INTO tags (repository, tag, digest) VALUES (?1, ?2, ?3)";
-                    run(query, params![repo, tag, digest])
+                    let query = "INSERT OR REPLACE INTO tags (repository, tag, digest, pushed) VALUES (?1, ?2, ?3, ?4)";
+                    run(query, params![repo, tag, digest, now as i64])
                 }
                 None => Ok(()),
             }
-        }
-        Change::RestoreManifest { repo, digest, facts, since, tags } => {
-            put_manifest(transaction, (repo, digest), facts, *since, false)?;
-            for tag in tags {
-                let query = "INSERT OR IGNORE INTO tags (repository, tag, digest) VALUES (?1, ?2, ?3)";
-                run(query, params![repo, tag, digest])?;
-            }
-            Ok(())
         }
         Change::TouchManifest { repo, digest } => {
             let query = "UPDATE manifests SET since = ?3 WHERE repository = ?1 AND digest = ?2";
             run(query, params![repo, digest, now as i64])
         }
-        Change::RemoveTag { repo, tag } => {
-            release_tagged(transaction, repo, tag, now)?;
-            run("DELETE FROM tags WHERE repository = ?1 AND tag = ?2", params![repo, tag])
-        }
-        Change::RemoveManifest { repo, digest } => remove_manifest(transaction, repo, digest, now),
+        Change::RecordPulls { pulls } => pulls.iter().try_for_each(|pull| record_pull(transaction, pull)),
+        Change::CountPulls { since } => marks::put_pulls_since(transaction, *since),
         Change::AddLooseBlob { repo, digest } => {
             run("INSERT OR IGNORE INTO loose_blobs (repository, digest) VALUES (?1, ?2)", params![repo, digest])
         }
         Change::RemoveLooseBlob { repo, digest } => {
             run("DELETE FROM loose_blobs WHERE repository = ?1 AND digest = ?2", params![repo, digest])
+        }
+        Change::AddCached { repo, digest } => {
+            let query = "INSERT OR REPLACE INTO cached (repository, digest, used) VALUES (?1, ?2, ?3)";
+            run(query, params![repo, digest, now as i64])
+        }
+        Change::UseCached { repo, digest } => {
+            run("UPDATE cached SET used = ?3 WHERE repository = ?1 AND digest = ?2", params![repo, digest, now as i64])
+        }
+        Change::RemoveCached { repo, digest } => {
+            run("DELETE FROM cached WHERE repository = ?1 AND digest = ?2", params![repo, digest])
         }
         Change::OpenUpload { repo, number } => {
             uploads.open(repo, *number);
@@ -108,8 +171,17 @@ pub(super) fn make<'c>(
             uploads.end(repo, *number);
             Ok(())
         }
+        Change::AddRobot { row: RobotRow { name, hash, rights, made, ends } } => {
+            let query = "INSERT INTO robots (name, hash, rights, made, ends) VALUES (?1, ?2, ?3, ?4, ?5)";
+            run(query, params![name, hash, rights, *made as i64, *ends as i64])
+        }
+        Change::RemoveRobot { name } => run("DELETE FROM robots WHERE name = ?1", params![name]),
         Change::KeepLogEnd { end } => marks::put_log_end(transaction, *end),
-        Change::PassUpload { .. } | Change::BeginUploads { .. } | Change::KeepTime => Ok(()),
+        Change::PassEvents { passed } => event_rows::pass(transaction, passed),
+        Change::RestoreManifest { .. } | Change::RemoveTag { .. } | Change::RemoveManifest { .. } | Change::ExpireTags { .. } => {
+            Ok(())
+        }
+        Change::PassUpload { .. } | Change::BeginUploads { .. } | Change::AddEvents | Change::KeepTime => Ok(()),
     }
 }
 
@@ -141,5 +213,71 @@ impl<'c> UploadChanges<'c> {
             };
         }
         Ok(())
+    }
+}
+
+#[cfg(test)]
+mod tests {
+    use super::*;
+    use crate::database::test_folder::{put, since, tags, times, TestFolder};
+
+    #[test]
+    fn a_tag_expires_unless_it_was_pushed_meanwhile() {
+        let folder = TestFolder::new();
+        let mut database = folder.open();
+        let expire = |pushed, names: &[&str]| {
+            let of = |name: &&str| ExpiredTag { name: name.to_string(), digest: "a".to_string(), pushed };
+            Change::ExpireTags { repo: "acme/web".to_string(), tags: names.iter().map(of).collect() }
+        };
+        let changes = [put("a", "x/a", Some("v1")), put("a", "x/a", Some("v2")), put("a", "x/a", Some("v3"))];
+        database.commit(changes.iter(), &[], 1).unwrap();
+        let changes = [put("a", "x/a", Some("v1")), put("b", "x/b", Some("v2")), expire(1, &["v1", "v2", "v3", "v4"])];
+        database.commit(changes.iter(), &[], 2).unwrap();
+        let rows = database.read().unwrap();
+        assert_eq!((tags(&rows), times(&rows)), (vec![("v1", "a"), ("v2", "b")], vec![(2, 0), (2, 0)]));
+        database.commit([expire(2, &["v1", "v2"])].iter(), &[], 9).unwrap();
+        let rows = database.read().unwrap();
+        assert_eq!((tags(&rows), since(&rows)), (vec![("v2", "b")], vec![("a", 9), ("b", 2)]));
+    }
+
+    #[test]
+    fn a_pull_belongs_to_the_push_before_it() {
+        let folder = TestFolder::new();
+        let mut database = folder.open();
+        let pull = |tag: &str, time| Pull { repo: "acme/web".to_string(), tag: tag.to_string(), time };
+        let pulls = |pulls: &[Pull]| Change::RecordPulls { pulls: pulls.to_vec() };
+        database.commit([put("a", "x/a", Some("v1")), put("a", "x/a", Some("v2"))].iter(), &[], 5).unwrap();
+        let changes = [pulls(&[pull("v1", 8), pull("v2", 7), pull("v3", 7)]), pulls(&[pull("v1", 6), pull("v2", 9)])];
+        database.commit(changes.iter(), &[], 9).unwrap();
+        assert_eq!(times(&folder.open().read().unwrap()), [(5, 8), (5, 9)]);
+        database.commit([put("a", "x/a", Some("v1")), pulls(&[pull("v1", 9)])].iter(), &[], 10).unwrap();
+        assert_eq!(times(&folder.open().read().unwrap()), [(10, 0), (5, 9)]);
+    }
+
+    #[test]
+    fn robots_are_there_until_they_are_revoked() {
+        let folder = TestFolder::new();
+        let row = |name: &str, ends| RobotRow {
+            name: name.to_string(),
+            hash: vec![7; 32],
+            rights: "read *".to_string(),
+            made: 5,
+            ends,
+        };
+        let add = |row| Change::AddRobot { row };
+        folder.open().commit([add(row("robot+a", 8)), add(row("robot+b", 9))].iter(), &[], 1).unwrap();
+        assert_eq!(folder.open().read().unwrap().robots, [row("robot+a", 8), row("robot+b", 9)]);
+        assert!(folder.open().commit([add(row("robot+a", 9))].iter(), &[], 1).is_err());
+        folder.open().commit([Change::RemoveRobot { name: "robot+a".to_string() }].iter(), &[], 1).unwrap();
+        assert_eq!(folder.open().read().unwrap().robots, [row("robot+b", 9)]);
+    }
+
+    #[test]
+    fn the_time_since_which_pulls_are_recorded_is_kept() {
+        let folder = TestFolder::new();
+        for since in [Some(7), None] {
+            folder.open().commit([Change::CountPulls { since }].iter(), &[], 9).unwrap();
+            assert_eq!(folder.open().marks().pulls_since, since);
+        }
     }
 }

@@ -1,8 +1,11 @@
 //! The thread that writes the database. It puts all changes that wait into one transaction, so that one sync serves many
 //! requests, and then makes them in the tables of this process, in the same order. So what a request reads is durable.
 use crate::database::change::{Change, Done};
+use crate::database::event_rows::NewEvents;
 use crate::database::sqlite::{Committed, Database};
 use crate::database::upload_numbers::UploadNumbers;
+use crate::events::event::{Effect, Event, Report};
+use crate::events::queue::Queue;
 use crate::folder::disk_room::DiskRoom;
 use crate::metadata::clock::now;
 use crate::metadata::manifest_table::ManifestTable;
@@ -20,6 +23,9 @@ const REST: Duration = Duration::from_secs(1);
 /// The time that the thread has to write the last changes.
 const END_TIME: Duration = Duration::from_secs(8);
 
+/// The maximum number of changes that wait, beyond which events that no request waits for are dropped.
+const MOST_WAITING: usize = 1 << 16;
+
 /// The reason why a change was not made.
 #[derive(Debug, PartialEq, Eq)]
 pub(crate) enum WriteFailure {
@@ -29,9 +35,10 @@ pub(crate) enum WriteFailure {
     NoRoom,
 }
 
-/// A change, and the request that waits for it, if one does.
+/// A change with its events, and the request that waits for it, if one does.
 struct Waiting {
     change: Change,
+    report: Option<Report>,
     reply: Option<oneshot::Sender<Result<Done, WriteFailure>>>,
 }
 
@@ -57,6 +64,8 @@ pub(crate) struct Writer {
     limit: Duration,
     /// The room on the disk.
     room: Arc<DiskRoom>,
+    /// The events that wait for their receivers, if there are receivers.
+    queue: Option<Arc<Queue>>,
 }
 
 /// The thread, and the database that it has opened.
@@ -64,8 +73,9 @@ pub(crate) struct WriterThread(JoinHandle<rusqlite::Result<()>>);
 
 impl Writer {
     /// Makes a writer that counts its transactions. Its thread is not running yet.
-    pub(crate) fn new(commits: Commits, limit: Duration, room: Arc<DiskRoom>) -> Arc<Writer> {
-        Arc::new(Writer { state: Mutex::default(), ready: Condvar::new(), failed: Notify::new(), commits, limit, room })
+    pub(crate) fn new(commits: Commits, limit: Duration, room: Arc<DiskRoom>, queue: Option<Arc<Queue>>) -> Arc<Writer> {
+        let (state, ready, failed) = (Mutex::default(), Condvar::new(), Notify::new());
+        Arc::new(Writer { state, ready, failed, commits, limit, room, queue })
     }
 
     /// Starts the thread. `recorded` has, for each tenant, the number up to which its uploads are recorded.
@@ -104,8 +114,13 @@ impl Writer {
     /// Makes a change. Returns after it is durable and made in the tables of this process. A change that is late is made
     /// nevertheless. One that fails for room is not made, unless it restores something: that is made when there is room.
     pub(crate) async fn write(&self, change: Change) -> Result<Done, WriteFailure> {
+        self.write_reported(change, None).await
+    }
+
+    /// Makes a change as `write` does, and records its events in the same transaction.
+    pub(crate) async fn write_reported(&self, change: Change, report: Option<Report>) -> Result<Done, WriteFailure> {
         let (reply, made) = oneshot::channel();
-        self.add(Waiting { change, reply: Some(reply) });
+        self.add(Waiting { change, report, reply: Some(reply) });
         let made = tokio::time::timeout(self.limit, made).await.map_err(|_| {
             tracing::warn!("the database does not reply in time");
             WriteFailure::Unavailable
@@ -115,7 +130,16 @@ impl Writer {
 
     /// Makes a change at some later time. It is lost if the program or the machine stops before.
     pub(crate) fn note(&self, change: Change) {
-        self.add(Waiting { change, reply: None });
+        self.add(Waiting { change, report: None, reply: None });
+    }
+
+    /// Records events at some later time. They are lost if the program or the machine stops before. They are dropped if the thread is
+    /// far behind.
+    pub(crate) fn note_events(&self, report: Report) {
+        match &self.queue {
+            Some(queue) if self.state().waiting.len() >= MOST_WAITING => queue.drop_unkept(),
+            _ => self.add(Waiting { change: Change::AddEvents, report: Some(report), reply: None }),
+        }
     }
 
     /// Waits until a change could not be made, and returns why.
@@ -181,16 +205,29 @@ impl Writer {
         }
     }
 
-    /// Replies to the requests whose changes were not made for want of room. Changes that nobody waits for are tried again after a
+    /// Adds events to the queues of their receivers.
+    fn push(&self, events: Vec<Event>) {
+        if let Some(queue) = &self.queue {
+            if queue.push(events) {
+                self.note(Change::PassEvents { passed: queue.take_passed() });
+            }
+        }
+    }
+
+    /// Replies to the requests whose changes were not made for want of room. Their events are in memory alone if the store has done what
+    /// they report. Changes that nobody waits for are tried again after a
     /// while, in front of those that came meanwhile. They are lost if the writer is closed.
     fn put_back(&self, batch: Vec<Waiting>) {
         let mut left = Vec::new();
-        for Waiting { change, reply } in batch {
-            if reply.is_none() || change.stays() {
-                left.push(Waiting { change, reply: None });
+        for Waiting { change, report, reply } in batch {
+            let is_event = change.is_event();
+            match report {
+                Some(report) if is_event => self.push(report.events(Effect::Made)),
+                report if reply.is_none() || change.stays() => left.push(Waiting { change, report, reply: None }),
+                _ => {}
             }
             if let Some(reply) = reply {
-                let _ = reply.send(Err(WriteFailure::NoRoom));
+                let _ = reply.send(if is_event { Ok(Done::Nothing) } else { Err(WriteFailure::NoRoom) });
             }
         }
         let mut state = self.state();
@@ -221,8 +258,10 @@ impl Writer {
             let recorded: Vec<(String, u32)> =
                 unrecorded.iter().map(|name: &String| (name.clone(), numbers[name].upto())).collect();
             let now = now();
+            let mut events = NewEvents::from(self.queue.as_ref().map_or(0, |queue| queue.next_number()));
+            let changes = batch.iter().map(|waiting| (&waiting.change, waiting.report.as_ref()));
             let committed = match self.has_room(&batch) {
-                true => database.commit(batch.iter().map(|waiting| &waiting.change), &recorded, now),
+                true => database.commit_reported(changes, &recorded, now, &mut events),
                 false => Ok(Committed::NoRoom),
             };
             match committed {
@@ -238,14 +277,21 @@ impl Writer {
             }
             unrecorded.clear();
             self.commits.count();
-            for Waiting { change, reply } in batch {
-                let done = change.apply(table, now);
-                if let Some(reply) = reply {
-                    let _ = reply.send(Ok(done));
-                }
-            }
+            self.apply(batch, table, now);
+            // A receiver that asks for what an event names finds it.
+            self.push(events.made);
         }
         database.close()
+    }
+
+    /// Makes changes in the tables of this process, and replies to the requests that wait for them.
+    fn apply(&self, batch: Vec<Waiting>, table: &ManifestTable, now: u64) {
+        for Waiting { change, reply, .. } in batch {
+            let done = change.apply(table, now);
+            if let Some(reply) = reply {
+                let _ = reply.send(Ok(done));
+            }
+        }
     }
 }
 
@@ -268,7 +314,10 @@ fn see_numbers(numbers: &mut HashMap<String, UploadNumbers>, batch: &[Waiting]) 
 #[cfg(test)]
 mod tests {
     use super::*;
+    use crate::events::event::tests::report;
+    use crate::events::receivers::tests::receiver;
     use crate::metadata::document::Facts;
+    use crate::operation::metrics::Metrics;
     use std::path::PathBuf;
 
     fn folder() -> PathBuf {
@@ -279,7 +328,7 @@ mod tests {
 
     fn started(folder: &std::path::Path) -> (Arc<Writer>, WriterThread, Arc<ManifestTable>) {
         let room = Arc::new(DiskRoom::new(folder.to_path_buf(), 0, 0));
-        let writer = Writer::new(Commits::new(), Duration::from_secs(60), room);
+        let writer = Writer::new(Commits::new(), Duration::from_secs(60), room, None);
         let tags = Arc::new(ManifestTable::default());
         let database = Database::open(folder, true).unwrap();
         let thread = writer.start(database, tags.clone(), HashMap::new()).unwrap();
@@ -323,6 +372,22 @@ mod tests {
         assert_eq!(writer.commits.total(), 1);
         assert_eq!(writer.end(thread).await, Ok(()));
         std::fs::remove_dir_all(folder).unwrap();
+    }
+
+    #[tokio::test]
+    async fn a_full_disk_keeps_the_events_of_what_was_done_in_memory() {
+        let queue = Arc::new(Queue::new(9, &[receiver("all", "")], &Metrics::new(), true));
+        let room = Arc::new(DiskRoom::new(std::env::temp_dir(), 0, 0));
+        let writer = Writer::new(Commits::new(), Duration::from_secs(60), room, Some(queue.clone()));
+        let ((reply, made), (other, failed)) = (oneshot::channel(), oneshot::channel());
+        let waiting = |change, reply| Waiting { change, report: Some(report()), reply };
+        writer.put_back(vec![
+            waiting(Change::AddEvents, Some(reply)),
+            waiting(put("v1"), Some(other)),
+            waiting(Change::AddEvents, None),
+        ]);
+        assert_eq!((made.await.unwrap(), failed.await.unwrap()), (Ok(Done::Nothing), Err(WriteFailure::NoRoom)));
+        assert_eq!((queue.next_number(), writer.state().waiting.len()), (3, 0));
     }
 
     #[tokio::test]

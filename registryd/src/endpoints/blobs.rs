@@ -15,18 +15,20 @@ use uuid::Uuid;
 const OCTETS: (&str, &str) = ("Content-Type", "application/octet-stream");
 
 /// Returns the headers of a response with `len` bytes of a blob.
-fn headers_of<'h>(digest: &'h str, tag: &'h str, len: &'h str) -> [(&'static str, &'h str); 5] {
+pub(super) fn headers_of<'h>(digest: &'h str, tag: &'h str, len: &'h str) -> [(&'static str, &'h str); 5] {
     [OCTETS, ("Docker-Content-Digest", digest), ("ETag", tag), ("Accept-Ranges", "bytes"), ("Content-Length", len)]
 }
 
 /// end-2: returns the headers of a blob, with its length.
 pub(super) async fn head(call: &Call, digest: &str) -> HandlerResult {
     call.registry.loose.ask(&call.repo, digest)?;
-    let size = call.registry.store.stat(&call.repo, digest).await??.to_string();
+    let size = call.registry.store.stat(&call.repo, digest).await??;
     check_match(call, Some(digest))?;
     if has_content(call, digest) {
         return not_modified(digest);
     }
+    call.note_blob_pull(digest, size);
+    let size = size.to_string();
     empty(StatusCode::OK, &headers_of(digest, &entity_tag(digest), &size))
 }
 
@@ -53,7 +55,7 @@ async fn get_part(call: &Call, digest: &str, requested: RequestedRange) -> Handl
         (FetchResult::Piece { size, bytes }, reserved) => match Slice::of(requested, size) {
             Some(slice) => {
                 call.registry.metrics.sent(bytes.len());
-                slice.response(digest, bytes.into(), reserved)
+                slice.response(call, digest, bytes.into(), reserved)
             }
             None => unsatisfiable(size),
         },
@@ -113,7 +115,7 @@ async fn get_leased(call: &Call, digest: &str, requested: RequestedRange, leased
             Transfer::begin(&call.registry, leased, digest, spans, Pace::of(has_most))
         }
     };
-    slice.response(digest, body, Some(reserved))
+    slice.response(call, digest, body, Some(reserved))
 }
 
 /// Returns a response with several parts of a blob (RFC 9110, 14.6), or with one if the ranges have no two parts.
@@ -124,7 +126,8 @@ async fn get_parts(call: &Call, digest: &str, ranges: &[RequestedRange]) -> Hand
         Err(requested) => return get_leased(call, digest, requested, leased).await,
     };
     let boundary = Uuid::new_v4().to_string();
-    let spans = multipart(&parts, leased.size, &boundary);
+    let size = leased.size;
+    let spans = multipart(&parts, size, &boundary);
     let len: u64 = spans.iter().map(Span::len).sum();
     let (least, most) = (len.min(LEAST_HELD), len.min(HELD_LEN));
     let reserved = match call.registry.memory.reserve_between(&call.holder(), least, most).await {
@@ -140,6 +143,7 @@ async fn get_parts(call: &Call, digest: &str, ranges: &[RequestedRange]) -> Hand
     let body = Transfer::begin(&call.registry, leased, digest, spans, Pace::of(reserved.bytes() == most));
     let mut response = with_body(StatusCode::PARTIAL_CONTENT, &headers, body)?;
     response.extensions_mut().insert(reserved);
+    call.note_blob_pull(digest, size);
     Ok(response)
 }
 
@@ -157,17 +161,17 @@ fn multipart(parts: &[(u64, u64)], size: u64, boundary: &str) -> VecDeque<Span> 
 }
 
 /// The bytes of a blob from `start` to `end` exclusive, and the status of the response that carries them.
-struct Slice {
+pub(super) struct Slice {
     status: StatusCode,
-    start: u64,
-    end: u64,
+    pub(super) start: u64,
+    pub(super) end: u64,
     /// The blob's size.
     size: u64,
 }
 
 impl Slice {
     /// Returns the requested bytes of a blob of `size` bytes, or `None` if the range has no byte of it.
-    fn of(requested: RequestedRange, size: u64) -> Option<Slice> {
+    pub(super) fn of(requested: RequestedRange, size: u64) -> Option<Slice> {
         match requested.part(size) {
             Part::All => Some(Slice { status: StatusCode::OK, start: 0, end: size, size }),
             Part::Some(start, last) => Some(Slice { status: StatusCode::PARTIAL_CONTENT, start, end: last + 1, size }),
@@ -175,9 +179,10 @@ impl Slice {
         }
     }
 
-    /// Returns the response with these bytes. It holds the reserved memory until they are sent.
-    fn response(&self, digest: &str, body: Body, reserved: Option<Reserved>) -> HandlerResult {
+    /// Returns the response with these bytes, and records the pull. It holds the reserved memory until they are sent.
+    pub(super) fn response(&self, call: &Call, digest: &str, body: Body, reserved: Option<Reserved>) -> HandlerResult {
         let Slice { status, start, end, size } = *self;
+        call.note_blob_pull(digest, size);
         let len = (end - start).to_string();
         let mut response = with_body(status, &headers_of(digest, &entity_tag(digest), &len), body)?;
         if let Some(reserved) = reserved {
@@ -194,7 +199,7 @@ impl Slice {
 }
 
 /// Returns the response to a range that has no byte of a blob of `size` bytes.
-fn unsatisfiable(size: u64) -> HandlerResult {
+pub(super) fn unsatisfiable(size: u64) -> HandlerResult {
     empty(StatusCode::RANGE_NOT_SATISFIABLE, &[("Content-Range", &format!("bytes */{size}"))])
 }
 
@@ -215,5 +220,7 @@ pub(super) async fn delete(call: &Call, digest: &str) -> HandlerResult {
     let deleted = call.registry.store.delete(&call.repo, digest).await;
     call.registry.end_delete(&call.repo, &deleted).await;
     deleted??;
+    call.registry.cached.unmark(&call.repo, digest);
+    call.record_blob_delete(digest).await?;
     empty(StatusCode::ACCEPTED, &[])
 }

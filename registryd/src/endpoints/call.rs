@@ -9,7 +9,7 @@ use crate::http::fault::Fault;
 use crate::http::in_flight::{Holder, Reserved};
 use crate::http::paths::query_value;
 use crate::metadata::limits::Limit;
-use crate::metadata::names::{is_repository, tenant_of};
+use crate::metadata::names::tenant_of;
 use crate::metadata::repositories::Entering;
 use crate::store::frames::{Reason, Refusal};
 use hyper::http::request::Parts;
@@ -44,18 +44,6 @@ impl Call {
         }
     }
 
-    /// Returns the result of a call that has a limit. A limit that the call has reached is named in the failure.
-    pub(super) fn check_limit<T>(&self, answer: Result<T, Refusal>, own: Limit) -> Result<T, Fault> {
-        let repositories = &self.registry.repositories;
-        match answer {
-            Ok(answer) => Ok(answer),
-            Err(Refusal { reason: Reason::LimitReached, .. }) => {
-                Err(Fault::limit(repositories.reached(&self.repo, own), &self.repo))
-            }
-            Err(refusal) => Err(refusal.into()),
-        }
-    }
-
     /// Returns whether the repository's tenant exists.
     pub(super) fn has_tenant(&self) -> bool {
         self.registry.store.has_tenant(&self.repo)
@@ -73,45 +61,12 @@ impl Call {
 
     /// Begins a call that may create the repository. If no tenant can have it, the store refuses the call.
     pub(super) async fn enter_repository(&self) -> Result<Option<Entering<'_>>, Fault> {
-        let Registry { repositories, store, .. } = &*self.registry;
-        if !repositories.are_recorded() || !is_repository(&self.repo) || !store.has_tenant(&self.repo) {
-            return Ok(None);
-        }
-        let entering = repositories.enter(&self.repo).await?;
-        if repositories.wants_number(tenant_of(&self.repo)) {
-            self.find_number().await?;
-        }
-        Ok(Some(entering))
-    }
-
-    /// Finds and records the next number of the tenant's uploads before the first one is opened, by an upload that is
-    /// abandoned.
-    async fn find_number(&self) -> Result<(), Fault> {
-        let Registry { repositories, store, uploads, turns, .. } = &*self.registry;
-        let tenant = tenant_of(&self.repo);
-        let _turn = turns.take(tenant, "").await;
-        if !repositories.wants_number(tenant) {
-            return Ok(());
-        }
-        if let Ok(number) = store.start_upload(&self.repo).await? {
-            let name = uploads.add(&self.repo, number);
-            repositories.begin_numbers(&self.repo, number.saturating_sub(1)).await?;
-            if self.registry.abandon_session(&self.repo, number).await?.is_ok() {
-                uploads.remove(&name);
-            }
-        }
-        Ok(())
+        self.registry.enter_repository(&self.repo).await
     }
 
     /// Returns the result of a call that opens an upload and that `enter_repository` began.
     pub(super) fn check_entered<T>(&self, answer: Result<T, Refusal>, entering: &mut Option<Entering<'_>>) -> Result<T, Fault> {
-        if answer.is_ok() {
-            self.registry.repositories.add(&self.repo);
-        }
-        if let Some(entering) = entering {
-            entering.settle();
-        }
-        self.check_limit(answer, Limit::Uploads)
+        self.registry.check_entered(&self.repo, answer, entering, Limit::Uploads)
     }
 
     /// Admits the content of a request before it is read.

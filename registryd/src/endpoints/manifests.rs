@@ -2,6 +2,8 @@
 use crate::database::writer::WriteFailure;
 use crate::endpoints::call::Call;
 use crate::endpoints::registry::Registry;
+use crate::events::event::Report;
+use crate::events::reporter::Reporter;
 use crate::http::conditions::{check_match, entity_tag, has_content, not_modified};
 use crate::http::content::RequestContent;
 use crate::http::fault::Fault;
@@ -26,7 +28,7 @@ use std::future::Future;
 const LOOK_UPS: usize = 8;
 
 /// Returns whether a reference is a digest and not a tag.
-pub(super) fn is_digest(reference: &str) -> bool {
+pub(crate) fn is_digest(reference: &str) -> bool {
     reference.contains(':')
 }
 
@@ -59,7 +61,7 @@ async fn adopt(call: &Call, digest: &str, size: u64) -> Result<NamedManifest, Fa
     if !manifests.is_known(&call.repo, digest) {
         let content = [call.registry.store.get_manifest(&call.repo, digest).await??];
         let facts = tokio::task::block_in_place(|| facts_of_stored(&content)).ok_or_else(Fault::manifest_unknown)?;
-        match manifests.put(&call.repo, digest, facts.clone(), None).await {
+        match manifests.put(&call.repo, digest, facts.clone(), None, None).await {
             // It is added by a later request.
             Err(WriteFailure::NoRoom) => {
                 return Ok(NamedManifest { digest: digest.to_string(), media_type: facts.media_type, size });
@@ -95,6 +97,24 @@ where
     Err(Fault::tag_changing())
 }
 
+/// Notes that a client pulled a tag, if rules may ask when that was. A client that asks for the head alone may have the manifest.
+fn note_pull(call: &Call, reference: &str) {
+    if call.registry.pulls_since.is_some() && !is_digest(reference) {
+        call.registry.manifests.pull(&call.repo, reference);
+    }
+}
+
+/// Checks the conditions of a request for a manifest, and notes the pull. Returns whether the client has the manifest already.
+fn is_known(call: &Call, reference: &str, named: &NamedManifest) -> Result<bool, Fault> {
+    check_match(call, Some(&named.digest))?;
+    note_pull(call, reference);
+    if has_content(call, &named.digest) {
+        return Ok(true);
+    }
+    call.note_manifest_pull((&named.digest, &named.media_type, named.size), reference);
+    Ok(false)
+}
+
 /// end-3: returns a manifest. The response holds memory for its content until it is sent.
 pub(super) async fn get(call: &Call, reference: &str) -> HandlerResult {
     let ask = |named: NamedManifest| async move {
@@ -102,11 +122,11 @@ pub(super) async fn get(call: &Call, reference: &str) -> HandlerResult {
         let content = call.registry.store.get_manifest(&call.repo, &named.digest).await?;
         Ok(content.map(|bytes| (bytes, reserved)))
     };
-    let (NamedManifest { digest, media_type, .. }, (bytes, reserved)) = read(call, reference, ask).await?;
-    check_match(call, Some(&digest))?;
-    if has_content(call, &digest) {
-        return not_modified(&digest);
+    let (named, (bytes, reserved)) = read(call, reference, ask).await?;
+    if is_known(call, reference, &named)? {
+        return not_modified(&named.digest);
     }
+    let NamedManifest { digest, media_type, .. } = named;
     let headers = [("Content-Type", &*media_type), ("Docker-Content-Digest", &*digest), ("ETag", &*entity_tag(&digest))];
     let mut response = with_body(StatusCode::OK, &headers, Body::from(bytes))?;
     response.extensions_mut().insert(reserved);
@@ -116,11 +136,11 @@ pub(super) async fn get(call: &Call, reference: &str) -> HandlerResult {
 /// end-3: returns the headers of a manifest, with its length.
 pub(super) async fn head(call: &Call, reference: &str) -> HandlerResult {
     let ask = |named: NamedManifest| async move { Ok(call.registry.store.stat_manifest(&call.repo, &named.digest).await?) };
-    let (NamedManifest { digest, media_type, .. }, size) = read(call, reference, ask).await?;
-    check_match(call, Some(&digest))?;
-    if has_content(call, &digest) {
-        return not_modified(&digest);
+    let (named, size) = read(call, reference, ask).await?;
+    if is_known(call, reference, &named)? {
+        return not_modified(&named.digest);
     }
+    let NamedManifest { digest, media_type, .. } = named;
     let (size, tag) = (size.to_string(), entity_tag(&digest));
     let headers =
         [("Content-Type", &*media_type), ("Docker-Content-Digest", &*digest), ("ETag", &*tag), ("Content-Length", &*size)];
@@ -149,18 +169,53 @@ pub(super) async fn put(call: &Call, reference: &str, content: &mut RequestConte
         Some(tag) => turn_of_tag(call, tag, &digest).await?,
         None => check_match(call, current(call, reference).as_deref()).map(|()| None)?,
     };
-    let turn = call.registry.turns.take(&call.repo, &digest).await;
-    let facts = facts_to_store(call, &digest, document, given, size_of(&bytes))?;
-    let room = manifests.reserve(&call.repo, (&digest, facts.size), tag, bounds).map_err(exceeds)?;
-    let changing = call.registry.repositories.begin_change(&call.repo);
-    call.check_limit(call.registry.store.put_manifest(&call.repo, &bytes).await?, Limit::Manifests)?;
-    let (subject, missing) = (facts.subject.clone(), manifests.count_missing(&call.repo, &facts.lists));
-    manifests.put(&call.repo, &digest, facts, tag).await?;
+    let new = NewManifest { digest: &digest, document, given, content: &bytes };
+    let report = |facts: &Facts| call.manifest_push(&digest, &facts.media_type, facts.size, tag);
+    let stored = store(&call.registry, &call.repo, new, tag, report).await?;
+    call.registry.cached.unmark(&call.repo, &digest);
+    drop(condition);
+    accepted(call, &digest, &stored)
+}
+
+/// A manifest that is going to be stored.
+pub(crate) struct NewManifest<'m> {
+    pub(crate) digest: &'m str,
+    pub(crate) document: Document,
+    pub(crate) given: MediaType,
+    pub(crate) content: &'m [Bytes],
+}
+
+/// What a manifest names that was stored.
+pub(crate) struct StoredManifest {
+    subject: Option<String>,
+    /// The number of the manifests that it lists and that the repository does not have.
+    missing: usize,
+}
+
+/// Stores a manifest in its turn, under a tag if there is one, and records its events. Its blobs have to be in the repository.
+pub(crate) async fn store(
+    registry: &Registry,
+    repo: &str,
+    new: NewManifest<'_>,
+    tag: Option<&str>,
+    report: impl FnOnce(&Facts) -> Option<Report>,
+) -> Result<StoredManifest, Fault> {
+    let NewManifest { digest, document, given, content } = new;
+    let manifests = &registry.manifests;
+    let turn = registry.turns.take(repo, digest).await;
+    let facts = facts_to_store(registry, repo, digest, document, given, size_of(content))?;
+    let room = manifests.reserve(repo, (digest, facts.size), tag, &registry.bounds_of(repo));
+    let room = room.map_err(|excess| Fault::bound(excess, tenant_of(repo)))?;
+    let changing = registry.repositories.begin_change(repo);
+    registry.check_limit(repo, registry.store.put_manifest(repo, content).await?, Limit::Manifests)?;
+    let stored = StoredManifest { subject: facts.subject.clone(), missing: manifests.count_missing(repo, &facts.lists) };
+    let report = report(&facts);
+    manifests.put(repo, digest, facts, tag, report).await?;
     drop(room);
     // With a database, the repository is recorded there from now on.
-    call.registry.repositories.add(&call.repo);
-    drop((changing, turn, condition));
-    accepted(call, &digest, subject.as_deref(), missing)
+    registry.repositories.add(repo);
+    drop((changing, turn));
+    Ok(stored)
 }
 
 /// Returns the digest of the manifest that a reference names now.
@@ -193,13 +248,14 @@ fn immutable(call: &Call, tag: &str, digest: &str) -> Fault {
     Fault::immutable(tag, digest)
 }
 
-/// Returns the response to a manifest that was put. `missing` is how many of the manifests that it lists are missing.
-fn accepted(call: &Call, digest: &str, subject: Option<&str>, missing: usize) -> HandlerResult {
+/// Returns the response to a manifest that was put.
+fn accepted(call: &Call, digest: &str, stored: &StoredManifest) -> HandlerResult {
+    let StoredManifest { subject, missing } = stored;
     let location = format!("/v2/{}/manifests/{digest}", call.repo);
     let mut headers = vec![("Location", &*location), ("Docker-Content-Digest", digest)];
-    headers.extend(subject.map(|subject| ("OCI-Subject", subject)));
+    headers.extend(subject.iter().map(|subject| ("OCI-Subject", subject.as_str())));
     let sparse = warning(&format!("the repository lacks {missing} of the manifests that the index lists"));
-    if missing > 0 {
+    if *missing > 0 {
         headers.push(("Warning", &sparse));
     }
     let volatile = warning("the registry keeps this in memory: it is lost when the registry ends");
@@ -242,8 +298,15 @@ fn check_digest(digest: &str, reference: &str) -> Result<(), Fault> {
 
 /// Returns the facts of a manifest. Its media type is the stored one if the repository already has the manifest, and else the
 /// given one. Fails if they differ.
-fn facts_to_store(call: &Call, digest: &str, document: Document, given: MediaType, size: u64) -> Result<Facts, Fault> {
-    let media_type = match call.registry.manifests.by_digest(&call.repo, digest) {
+fn facts_to_store(
+    registry: &Registry,
+    repo: &str,
+    digest: &str,
+    document: Document,
+    given: MediaType,
+    size: u64,
+) -> Result<Facts, Fault> {
+    let media_type = match registry.manifests.by_digest(repo, digest) {
         Some(stored) if given.is_given && !stored.media_type.eq_ignore_ascii_case(&given.text) => {
             let message = format!("the repository has the manifest with media type {}, not {}", stored.media_type, given.text);
             return Err(Fault::manifest_invalid(message));
@@ -260,7 +323,7 @@ pub(super) async fn delete(call: &Call, reference: &str) -> HandlerResult {
         check_match(call, Some(&digest))?;
     }
     if is_digest(reference) {
-        match delete_manifest(&call.registry, &call.repo, reference, call.registry.asked_removal).await? {
+        match delete_manifest(&call.registry, &call.repo, reference, call.registry.asked_removal, call.reporter()).await? {
             Err(Kept::ListedBy(index)) => {
                 call.registry.store.stat_manifest(&call.repo, reference).await??;
                 return Err(Fault::listed(&index));
@@ -281,7 +344,8 @@ async fn delete_tag(call: &Call, tag: &str) -> Result<(), Fault> {
     if let Some(digest) = current(call, tag).filter(|_| call.registry.is_immutable(&call.repo, tag)) {
         return Err(immutable(call, tag, &digest));
     }
-    match manifests.remove_tag(&call.repo, tag).await? {
+    let report = call.reporter().and_then(|reporter| reporter.deleted(&call.repo, None, Some(tag)));
+    match manifests.remove_tag(&call.repo, tag, report).await? {
         true => Ok(()),
         false => Err(Fault::manifest_unknown()),
     }
@@ -294,6 +358,7 @@ pub(crate) async fn delete_manifest(
     repo: &str,
     digest: &str,
     removal: Removal,
+    reporter: Option<Reporter>,
 ) -> Result<Result<(), Kept>, Fault> {
     let Registry { store, manifests, turns, .. } = registry;
     let turn = turns.take(repo, digest).await;
@@ -301,18 +366,23 @@ pub(crate) async fn delete_manifest(
         return Ok(Err(Kept::NamedBy(tag)));
     }
     let blobs = registry.blobs_to_loosen(repo, digest).await?;
-    let removed = match manifests.begin_removal(repo, digest, removal).await? {
+    let mut report = reporter.as_ref().and_then(|reporter| reporter.deleted_manifest(repo, digest));
+    let removed = match manifests.begin_removal(repo, digest, removal, &mut report).await? {
         Ok(removed) => removed,
         Err(kept) => return Ok(Err(kept)),
     };
     let deleted = store.delete_manifest(repo, digest).await;
     match &deleted {
         Ok(Ok(())) => {
-            manifests.remove_manifest(repo, digest, now());
+            manifests.finish_removal(repo, digest, report).await?;
+            registry.cached.unmark(repo, digest);
             registry.loosen(repo, &blobs);
         }
         Ok(Err(Refusal { reason: Reason::ManifestUnknown, .. })) => manifests.remove_manifest(repo, digest, now()),
-        Ok(Err(_)) => manifests.undo_removal(repo, digest, removed).await?,
+        Ok(Err(_)) => {
+            let of = |facts: &Facts| reporter.as_ref()?.restored(repo, (digest, &*facts.media_type, facts.size));
+            manifests.undo_removal(repo, digest, removed, of).await?;
+        }
         Err(StoreUnavailable) => {}
     }
     drop(turn);

@@ -1,11 +1,13 @@
 //! The state of the registry, which all requests share.
 use crate::auth::access::{Access, Caller};
+use crate::events::reporter::{Recorder, Reporter};
 use crate::folder::disk_probe::DiskProbe;
 use crate::folder::files::Folder;
 use crate::folder::scrub::Scrub;
 use crate::http::fault::Fault;
 use crate::http::in_flight::Memory;
 use crate::metadata::bounds::Bounds;
+use crate::metadata::cached::CachedContents;
 use crate::metadata::immutable_tags::ImmutableTags;
 use crate::metadata::loose_blobs::LooseBlobs;
 use crate::metadata::manifests::Manifests;
@@ -14,15 +16,19 @@ use crate::metadata::open_uploads::OpenUploads;
 use crate::metadata::repositories::Repositories;
 use crate::metadata::repository::Removal;
 use crate::metadata::turns::Turns;
+use crate::mirror::mirrors::Mirrors;
 use crate::operation::collector::SweepRequests;
 use crate::operation::health::Draining;
+use crate::operation::log::DebugScope;
 use crate::operation::metrics::Metrics;
 use crate::operation::status::SweepHistory;
+use crate::operation::tag_rules::Retention;
 use crate::start::provenance::Provenance;
 use crate::store::client::Store;
 use hyper::StatusCode;
 use std::collections::HashMap;
 use std::sync::Arc;
+use std::time::Duration;
 
 /// The state of the registry.
 pub(crate) struct Registry {
@@ -33,6 +39,10 @@ pub(crate) struct Registry {
     pub(crate) manifests: Manifests,
     /// The blobs that are to be unlinked after some time.
     pub(crate) loose: LooseBlobs,
+    /// The tenants that are copies of other registries.
+    pub(crate) mirrors: Mirrors,
+    /// The manifests and blobs that mirrors copied.
+    pub(crate) cached: CachedContents,
     /// The folder, if the registry survives restarts.
     pub(crate) folder: Option<Folder>,
     /// The probes of its disk.
@@ -59,10 +69,20 @@ pub(crate) struct Registry {
     pub(crate) asked_removal: Removal,
     /// The tags that no client moves or deletes, if there is a file of them.
     pub(crate) immutable_tags: Option<ImmutableTags>,
+    /// The rules that let tags go, if there is a file of them.
+    pub(crate) retention: Option<Retention>,
+    /// The time since which all pulls of tags are known, in seconds since 1970, if they are counted.
+    pub(crate) pulls_since: Option<u64>,
+    /// The time after which manifests are deleted that nothing holds, if they are.
+    pub(crate) keeps_untagged: Option<Duration>,
+    /// The recorder of events, if there is a file of receivers.
+    pub(crate) events: Option<Arc<Recorder>>,
     /// The bounds of each tenant, with the defaults.
     pub(crate) bounds_by_tenant: HashMap<String, Bounds>,
     /// Where the store's program comes from.
     pub(crate) provenance: Provenance,
+    /// The requests that are logged in detail.
+    pub(crate) debug: DebugScope,
     pub(crate) draining: Draining,
     /// The time of the start, in seconds since 1970.
     pub(crate) started: u64,
@@ -101,6 +121,11 @@ impl Registry {
     /// Returns whether no client moves or deletes a tag of a repository.
     pub(crate) fn is_immutable(&self, repo: &str, tag: &str) -> bool {
         self.immutable_tags.as_ref().map_or(false, |tags| tags.cover(repo, tag))
+    }
+
+    /// Returns the reporter of the registry's own work, if there are receivers of events.
+    pub(crate) fn own_reporter(&self) -> Option<Reporter> {
+        self.events.as_ref().map(|events| events.of_own_work())
     }
 
     /// Returns whether the disk of the folder has room for changes without content.

@@ -2,15 +2,16 @@
 use crate::auth::rights::{Demand, Scope};
 use crate::endpoints::call::Call;
 use crate::endpoints::registry::{MetricsAccess, Registry};
-use crate::endpoints::{blobs, catalog, manifests, referrers, tags, untagged, uploads};
+use crate::endpoints::{blobs, catalog, manifests, mirrored, referrers, tags, untagged, uploads};
 use crate::http::browser::restrict;
 use crate::http::content::RequestContent;
-use crate::http::exchange::Exchange;
+use crate::http::exchange::{shortened, Exchange};
 use crate::http::fault::Fault;
 use crate::http::framing;
 use crate::http::paths::{decoded, Target};
 use crate::http::responses::{empty, HandlerResult};
 use crate::operation::health::{ALIVE, HEALTH, READY};
+use crate::operation::log::shown_headers;
 use crate::operation::status::View;
 use hyper::header::{HeaderValue, CONNECTION, EXPECT, HOST};
 use hyper::http::request::Parts;
@@ -18,6 +19,10 @@ use hyper::http::uri::Authority;
 use hyper::{Body, Method, Request, Response, StatusCode, Version};
 use std::sync::Arc;
 use std::time::Instant;
+use tracing::Instrument;
+
+/// The maximum number of bytes of a request's target in a detailed message.
+const MOST_SHOWN: usize = 1024;
 
 /// Returns whether a text is a host, with or without a port (RFC 9110, 7.2).
 fn is_host(text: &[u8]) -> bool {
@@ -48,13 +53,31 @@ fn adds_content(method: &Method, target: &Target<'_>, is_mount: bool) -> bool {
     }
 }
 
+/// Fails if a request would push into a tenant that is a mirror.
+fn check_no_mirror(registry: &Registry, repo: &str, method: &Method, target: &Target<'_>) -> Result<(), Fault> {
+    let allowed = match (method, target) {
+        (&Method::PUT, Target::Manifest { .. }) => "GET, HEAD, DELETE",
+        (&Method::POST, Target::Uploads { .. }) => "",
+        (&Method::PATCH | &Method::PUT, Target::Upload { .. }) => "GET, DELETE",
+        _ => return Ok(()),
+    };
+    match registry.mirrors.of(repo) {
+        Some(mirror) => Err(Fault::mirror(repo, &mirror.upstream.address.text(), allowed)),
+        None => Ok(()),
+    }
+}
+
 impl Registry {
     /// Serves a request in a task of its own, so that a client that disconnects interrupts no call to the store.
     pub(crate) async fn serve(self: Arc<Self>, request: Request<Body>) -> Response<Body> {
         let begun = Instant::now();
         let method = request.method().clone();
         let metrics = self.metrics.clone();
-        let response = tokio::spawn(self.answer(request)).await.unwrap_or_else(|_| Fault::internal().into_response());
+        let trace = request.extensions().get::<Arc<Exchange>>().map(|exchange| exchange.trace.to_string());
+        // Each log line of the request has the id of its trace.
+        let span = tracing::error_span!("request", trace = trace.as_deref().unwrap_or("-"));
+        let answered = tokio::spawn(self.answer(request).instrument(span)).await;
+        let response = answered.unwrap_or_else(|_| Fault::internal().into_response());
         metrics.count_request(&method, response.status(), begun.elapsed());
         restrict(response)
     }
@@ -65,8 +88,12 @@ impl Registry {
         let exchange = head.extensions.get::<Arc<Exchange>>().cloned();
         let is_last = framing::is_last(&head.headers, exchange.as_ref().map_or(false, |exchange| exchange.may_have_length));
         let mut content = RequestContent::new(body, is_awaited, self.metrics.clone()).of(exchange);
+        let is_debugged = self.is_debugged(&head);
         let mut answer = self.route(head, &mut content).await.unwrap_or_else(|fault| {
             let fault = if content.is_short { Fault::unavailable("out of memory") } else { fault };
+            if is_debugged {
+                tracing::debug!(?fault, "the request failed");
+            }
             let mut answer = fault.into_response();
             content.drain(&mut answer);
             answer
@@ -75,6 +102,17 @@ impl Registry {
             answer.headers_mut().insert(CONNECTION, HeaderValue::from_static("close"));
         }
         answer
+    }
+
+    /// Logs the head of a request if its repository is logged in detail, and returns whether it is.
+    fn is_debugged(&self, head: &Parts) -> bool {
+        let path = decoded(head.uri.path());
+        let is_debugged = self.debug.has(path.as_deref().and_then(Target::of).and_then(|target| target.repo()));
+        if is_debugged {
+            let (target, headers) = (shortened(&head.uri.to_string(), MOST_SHOWN), shown_headers(&head.headers));
+            tracing::debug!(method = %head.method, target, headers, "a request");
+        }
+        is_debugged
     }
 
     async fn route(self: Arc<Self>, head: Parts, content: &mut RequestContent) -> HandlerResult {
@@ -120,7 +158,12 @@ impl Registry {
             None if target == Target::Catalog => return catalog::list(&self, &caller, head.uri.query()),
             None => return self.probe(&[("Docker-Distribution-API-Version", "registry/2.0")]).await,
         };
+        if self.debug.has(Some(demand.repo)) {
+            let (user, right, allowed) = (caller.user(), demand.word(), caller.check(&demand).is_ok());
+            tracing::debug!(repo = demand.repo, user = user.unwrap_or("-"), right, allowed, "its rights");
+        }
         caller.check(&demand)?;
+        check_no_mirror(&self, demand.repo, &head.method, &target)?;
         let repo = demand.repo.to_string();
         let method = head.method.clone();
         let call = Call { registry: self, head, repo, caller };
@@ -132,6 +175,17 @@ impl Registry {
         if content.is_any() {
             let is_charged = matches!(target, Target::Uploads { .. } | Target::Upload { .. });
             call.admit(content, is_charged).await?;
+        }
+        if let Some(mirror) = call.registry.mirrors.of(&call.repo).cloned() {
+            match (&method, &target) {
+                (&Method::GET | &Method::HEAD, Target::Manifest { reference, .. }) => {
+                    return mirrored::manifest(&call, &mirror, reference, method == Method::HEAD).await;
+                }
+                (&Method::GET | &Method::HEAD, Target::Tags { .. }) => return mirrored::tags(&call, &mirror).await,
+                (&Method::GET, Target::Blob { digest, .. }) => return mirrored::blob(&call, &mirror, digest).await,
+                (&Method::HEAD, Target::Blob { digest, .. }) => return mirrored::blob_head(&call, &mirror, digest).await,
+                _ => {}
+            }
         }
         match (&method, target) {
             (&Method::GET | &Method::HEAD, Target::Tags { .. }) => tags::list(&call).await,

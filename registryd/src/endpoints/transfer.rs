@@ -11,6 +11,7 @@ use std::collections::VecDeque;
 use std::sync::Arc;
 use std::time::Duration;
 use tokio::task::JoinHandle;
+use tracing::Instrument;
 
 /// The maximum number of bytes that one read returns.
 pub(super) const PIECE_LEN: u64 = WHOLE_LEN as u64;
@@ -104,7 +105,7 @@ impl Transfer {
     pub(super) fn begin(registry: &Arc<Registry>, leased: LeasedBlob, digest: &str, spans: VecDeque<Span>, pace: Pace) -> Body {
         let (sender, body) = Body::channel();
         let (registry, digest, pieces) = (registry.clone(), digest.to_string(), VecDeque::new());
-        tokio::spawn(Transfer { registry, leased, digest, spans, pace, pieces }.send(sender));
+        tokio::spawn(Transfer { registry, leased, digest, spans, pace, pieces }.send(sender).in_current_span());
         body
     }
 

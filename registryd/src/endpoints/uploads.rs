@@ -56,12 +56,16 @@ async fn mount(call: &Call, digest: &str) -> HandlerResult {
     let mounted = store.mount(&call.repo, digest, &call.mount_source()).await;
     if let Ok(Ok(MountResult::Linked)) = mounted {
         loose.end_link(&call.repo, digest, &mounted);
+        call.registry.cached.unmark(&call.repo, digest);
     }
     drop(turn);
     let mounted = call.check_entered(mounted?, &mut entering)?;
     drop(entering);
     match mounted {
-        MountResult::Linked => stored_response(call, digest),
+        MountResult::Linked => {
+            call.record_mount(digest).await?;
+            stored_response(call, digest)
+        }
         MountResult::Session(session) => opened_response(call, session).await,
     }
 }
@@ -217,7 +221,11 @@ async fn take_and_close(
     loose.end_link(&call.repo, digest, &closed);
     match closed? {
         Err(Refusal { reason: Reason::LimitReached, .. }) => Err(full_share(call).await?),
-        closed => Ok(closed.map(|_size| ())?),
+        closed => {
+            let size = closed?;
+            call.registry.cached.unmark(&call.repo, digest);
+            call.record_blob_push(digest, size).await
+        }
     }
 }
 

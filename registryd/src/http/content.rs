@@ -13,7 +13,7 @@ use std::time::Duration;
 
 /// The maximum length of a piece. A request holds the pieces that are being sent, one that waits, and one that is being
 /// read.
-pub(super) const PIECE_LEN: usize = WHOLE_LEN;
+pub(crate) const PIECE_LEN: usize = WHOLE_LEN;
 
 /// The maximum number of bytes of a request that are held in memory.
 pub(crate) const HELD_LEN: u64 = 4 * PIECE_LEN as u64;

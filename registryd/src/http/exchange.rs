@@ -1,5 +1,7 @@
 //! A request in progress: its client, its user, its byte counts, and its log record.
 use crate::http::connections::Connection;
+use crate::http::trace::TraceId;
+use crate::operation::audit::{Asked, Ended};
 use crate::operation::locks::guard_of;
 use bytes::Bytes;
 use hyper::body::{HttpBody, SizeHint};
@@ -15,7 +17,7 @@ use std::time::{Duration, Instant};
 const LOGGED: (usize, usize, usize) = (512, 128, 32);
 
 /// Returns a text, or its beginning and its length if it has more than `most` bytes.
-fn shortened(text: &str, most: usize) -> String {
+pub(crate) fn shortened(text: &str, most: usize) -> String {
     match (0..=most).rev().find(|end| text.is_char_boundary(*end)) {
         Some(end) if text.len() > most => format!("{}... ({} bytes)", &text[..end], text.len()),
         _ => text.to_string(),
@@ -26,6 +28,7 @@ fn shortened(text: &str, most: usize) -> String {
 #[derive(Debug)]
 pub(crate) struct Exchange {
     pub(crate) connection: Arc<Connection>,
+    pub(crate) trace: TraceId,
     user: Mutex<Option<String>>,
     received: AtomicU64,
     /// Whether the bytes of the head may have a length.
@@ -40,9 +43,9 @@ impl Drop for Exchange {
 
 impl Exchange {
     /// Begins a request on a connection.
-    pub(super) fn begin(connection: Arc<Connection>) -> Arc<Exchange> {
+    pub(super) fn begin(connection: Arc<Connection>, trace: TraceId) -> Arc<Exchange> {
         let may_have_length = connection.begin_request();
-        Arc::new(Exchange { connection, user: Mutex::default(), received: AtomicU64::new(0), may_have_length })
+        Arc::new(Exchange { connection, trace, user: Mutex::default(), received: AtomicU64::new(0), may_have_length })
     }
 
     /// Returns the time for which a client may send nothing.
@@ -76,12 +79,27 @@ struct Record {
     status: StatusCode,
     digest: Option<HeaderValue>,
     sent: u64,
+    /// What the audit log has of it, if there is one.
+    asked: Option<Asked>,
 }
 
 impl Drop for Record {
     fn drop(&mut self) {
-        let Record { exchange, method, path, begun, status, digest, sent } = self;
+        let Record { exchange, method, path, begun, status, digest, sent, asked } = self;
         let user = guard_of(exchange.user.lock()).take();
+        let digest = digest.as_ref().and_then(|digest| digest.to_str().ok());
+        if let Some(asked) = asked {
+            asked.end(&Ended {
+                trace: exchange.trace.to_string(),
+                client: exchange.connection.client.to_string(),
+                user: user.as_deref(),
+                method,
+                status: status.as_u16(),
+                digest,
+                received: exchange.received.load(Ordering::Relaxed),
+                sent: *sent,
+            });
+        }
         tracing::info!(
             %method,
             path,
@@ -90,7 +108,8 @@ impl Drop for Record {
             user = user.as_deref().unwrap_or("-"),
             received = exchange.received.load(Ordering::Relaxed),
             sent = *sent,
-            digest = digest.as_ref().and_then(|digest| digest.to_str().ok()).unwrap_or("-"),
+            digest = digest.unwrap_or("-"),
+            trace = %exchange.trace,
             micros = begun.elapsed().as_micros() as u64,
         );
     }
@@ -102,6 +121,7 @@ pub(super) struct OpenRecord {
     method: String,
     path: String,
     begun: Instant,
+    asked: Option<Asked>,
 }
 
 impl OpenRecord {
@@ -109,17 +129,17 @@ impl OpenRecord {
     pub(super) fn note(request: &mut Request<Body>, connection: Arc<Connection>) -> OpenRecord {
         let method = shortened(request.method().as_str(), LOGGED.2);
         let path = shortened(request.uri().path(), LOGGED.0);
-        let exchange = Exchange::begin(connection);
+        let (exchange, asked) = (Exchange::begin(connection, TraceId::of(request.headers())), Asked::of(request));
         request.extensions_mut().insert(exchange.clone());
-        OpenRecord { exchange, method, path, begun: Instant::now() }
+        OpenRecord { exchange, method, path, begun: Instant::now(), asked }
     }
 
     /// Returns the response with a body that counts the bytes sent.
     pub(super) fn into_counted(self, response: Response<Body>) -> Response<CountedBody> {
         let (mut head, body) = response.into_parts();
-        let OpenRecord { exchange, method, path, begun } = self;
+        let OpenRecord { exchange, method, path, begun, asked } = self;
         let digest = head.headers.get("docker-content-digest").cloned();
-        let record = Record { exchange, method, path, begun, status: head.status, digest, sent: 0 };
+        let record = Record { exchange, method, path, begun, status: head.status, digest, sent: 0, asked };
         let extensions = std::mem::take(&mut head.extensions);
         Response::from_parts(head, CountedBody { body, is_begun: false, record, _extensions: extensions })
     }

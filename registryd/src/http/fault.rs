@@ -130,6 +130,38 @@ impl Fault {
         Fault::new(StatusCode::INSUFFICIENT_STORAGE, "UNSUPPORTED", message).with_header("Retry-After", "60")
     }
 
+    /// The upstream of a mirror wants no requests for a time.
+    pub(crate) fn limited_upstream(seconds: u64) -> Fault {
+        let message = "the upstream of this mirror limits the rate of requests: retry later";
+        Fault::new(StatusCode::TOO_MANY_REQUESTS, "TOOMANYREQUESTS", message).with_header("Retry-After", seconds.to_string())
+    }
+
+    /// The tenant is a mirror, into which nothing is pushed.
+    pub(crate) fn mirror(repo: &str, upstream: &str, allowed: &'static str) -> Fault {
+        let message = format!("tenant {} is a mirror of {upstream}: push there", tenant_of(repo));
+        Fault::new(StatusCode::METHOD_NOT_ALLOWED, "DENIED", message).with_header("Allow", allowed)
+    }
+
+    /// Returns the message.
+    pub(crate) fn message(&self) -> &str {
+        &self.message
+    }
+
+    /// Returns whether there is no such thing.
+    pub(crate) fn is_unknown(&self) -> bool {
+        self.status == StatusCode::NOT_FOUND
+    }
+
+    /// Returns whether a limit of the tenant is reached, so that a delete would help.
+    pub(crate) fn is_of_bound(&self) -> bool {
+        self.status == StatusCode::FORBIDDEN && self.detail["limit"].is_string()
+    }
+
+    /// Returns whether the bound on a repository's manifests is reached.
+    pub(crate) fn is_of_repository(&self) -> bool {
+        self.detail["limit"] == "manifests"
+    }
+
     /// The request has no credentials, or they are wrong.
     pub(crate) fn unauthorized(challenge: impl Into<String>) -> Fault {
         Fault::new(StatusCode::UNAUTHORIZED, "UNAUTHORIZED", "valid credentials are required")

@@ -14,3 +14,4 @@ pub(crate) mod ranges;
 pub(crate) mod responses;
 pub(crate) mod server;
 pub(crate) mod tls;
+pub(crate) mod trace;

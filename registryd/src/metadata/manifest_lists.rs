@@ -74,7 +74,7 @@ impl ManifestTable {
                 return None;
             }
             let after = repo.tags.range::<str, _>((Bound::Excluded(last), Bound::Unbounded));
-            let visible = after.filter(|(_, digest)| repo.manifest(digest).is_some());
+            let visible = after.filter(|(_, tag)| repo.manifest(&tag.digest).is_some());
             Some(Page::of(visible.map(|(tag, _)| tag.clone()), most.min(MAX_PAGE)))
         };
         self.with(repo, page).flatten()
@@ -148,8 +148,8 @@ impl ManifestTable {
     /// Returns what a repository has, with at most `most` tags, and at most `most_referrers` referrers of each.
     pub(crate) fn overview(&self, repo: &str, most: usize, most_referrers: usize) -> Overview {
         let overview = |repo: &mut Repository| {
-            let mut visible = repo.tags.iter().filter_map(|(tag, digest)| Some((tag, repo.named(digest)?)));
-            let tags = visible.by_ref().take(most).map(|(tag, named)| repo.tag_overview(tag, named, most_referrers)).collect();
+            let mut visible = repo.tags.iter().filter_map(|(name, tag)| Some((name, repo.named(&tag.digest)?)));
+            let tags = visible.by_ref().take(most).map(|(name, named)| repo.tag_overview(name, named, most_referrers)).collect();
             let more = visible.next().is_some();
             Overview { manifests: repo.manifests.values().filter(|manifest| !manifest.is_leaving).count(), tags, more }
         };

@@ -9,6 +9,7 @@ use crate::metadata::bounds::{Bounds, Excess, Totals};
 use crate::metadata::document::Facts;
 use crate::metadata::names::tenant_of;
 use crate::metadata::repository::{Kept, NamedManifest, Removal, Repository};
+use crate::metadata::tag::{ExpiredTag, RemovedTag, Tag, TagTimes};
 use crate::operation::locks::guard_of;
 use std::collections::{BTreeMap, HashMap};
 use std::sync::{Arc, Mutex, RwLock};
@@ -128,13 +129,13 @@ impl ManifestTable {
 
     /// Returns the manifest with a tag.
     pub(crate) fn by_tag(&self, repo: &str, tag: &str) -> Option<NamedManifest> {
-        self.with(repo, |repo| repo.named(repo.tags.get(tag)?)).flatten()
+        self.with(repo, |repo| repo.named(&repo.tags.get(tag)?.digest)).flatten()
     }
 
     /// Returns the first tag of a manifest that `is_wanted` returns true for.
     pub(crate) fn find_tag_of(&self, repo: &str, digest: &str, is_wanted: impl Fn(&str) -> bool) -> Option<String> {
         let find = |repo: &mut Repository| {
-            let mut tags = repo.tags.iter().filter(|(_, named)| *named == digest).map(|(tag, _)| tag);
+            let mut tags = repo.tags.iter().filter(|(_, tag)| tag.digest == digest).map(|(name, _)| name);
             tags.find(|tag| is_wanted(tag)).cloned()
         };
         self.with(repo, find).flatten()
@@ -151,14 +152,14 @@ impl ManifestTable {
     }
 
     /// Adds a tag of a manifest that is here.
-    pub(crate) fn add_tag(&self, repo: &str, tag: &str, digest: &str) {
-        self.with(repo, |repo| repo.tags.insert(tag.to_string(), digest.to_string()));
+    pub(crate) fn add_tag(&self, repo: &str, tag: &str, digest: &str, times: TagTimes) {
+        self.with(repo, |repo| repo.tags.insert(tag.to_string(), Tag::new(digest, times)));
     }
 
     /// Removes a tag. Returns whether it was there.
     pub(super) fn remove_tag(&self, repo: &str, tag: &str, now: u64) -> bool {
         let remove = |repo: &mut Repository| {
-            let is_there = repo.tags.get(tag).map_or(false, |digest| repo.manifest(digest).is_some());
+            let is_there = repo.tags.get(tag).map_or(false, |tag| repo.manifest(&tag.digest).is_some());
             if is_there {
                 repo.remove_tag(tag, now);
             }
@@ -178,21 +179,35 @@ impl ManifestTable {
     }
 
     /// Removes all tags of a manifest, and returns them.
-    pub(crate) fn take_tags_of(&self, repo: &str, digest: &str) -> Vec<String> {
-        let take = |repo: &mut Repository| {
-            let tags: Vec<String> = repo.tags.iter().filter(|(_, named)| *named == digest).map(|(tag, _)| tag.clone()).collect();
-            repo.tags.retain(|_, named| named != digest);
-            tags
+    pub(crate) fn take_tags_of(&self, repo: &str, digest: &str) -> Vec<RemovedTag> {
+        self.with(repo, |repo| repo.take_tags_of(digest)).unwrap_or_default()
+    }
+
+    /// Removes tags, but for those that were pushed meanwhile, and returns the names of those that it removed.
+    pub(crate) fn expire_tags(&self, repo: &str, tags: &[ExpiredTag], now: u64) -> Vec<String> {
+        let expire = |repo: &mut Repository| {
+            let removed = tags.iter().filter(|tag| repo.expire_tag(tag, now));
+            removed.map(|tag| tag.name.clone()).collect()
         };
-        self.with(repo, take).unwrap_or_default()
+        self.with(repo, expire).unwrap_or_default()
+    }
+
+    /// Notes that a client pulled a tag. Returns whether the database is to be told.
+    pub(super) fn pull(&self, repo: &str, tag: &str, now: u64) -> bool {
+        self.with(repo, |repo| repo.tags.get_mut(tag).map_or(false, |tag| tag.pull(now))).unwrap_or(false)
+    }
+
+    /// Returns the time of the last pull of a tag.
+    pub(super) fn last_pull(&self, repo: &str, tag: &str) -> Option<u64> {
+        self.with(repo, |repo| repo.tags.get(tag).map(|tag| tag.times.pulled)).flatten()
     }
 
     /// Adds a manifest and its tags that were removed. A tag that names another manifest by now stays as it is.
-    pub(crate) fn restore(&self, repo: &str, digest: &str, facts: Facts, since: u64, tags: Vec<String>) {
+    pub(crate) fn restore(&self, repo: &str, digest: &str, facts: Facts, since: u64, tags: Vec<RemovedTag>) {
         self.put(repo, digest, facts, None, since);
         self.with(repo, |repo| {
-            for tag in tags {
-                repo.tags.entry(tag).or_insert_with(|| digest.to_string());
+            for RemovedTag { name, times } in tags {
+                repo.tags.entry(name).or_insert_with(|| Tag::new(digest, times));
             }
         });
     }
@@ -200,6 +215,11 @@ impl ManifestTable {
     /// Returns whether a manifest is known, marked or not.
     pub(crate) fn is_known(&self, repo: &str, digest: &str) -> bool {
         self.with(repo, |repo| repo.manifests.contains_key(digest)).unwrap_or(false)
+    }
+
+    /// Returns the indexes of a repository that list a manifest.
+    pub(crate) fn indexes_of(&self, repo: &str, digest: &str) -> Vec<String> {
+        self.with(repo, |repo| repo.indexes_of(digest)).unwrap_or_default()
     }
 
     /// Returns how many of these manifests a repository does not have.
@@ -276,6 +296,10 @@ mod tests {
         Facts { media_type: media_type.to_string(), ..Facts::default() }
     }
 
+    fn removed_tag(name: &str) -> RemovedTag {
+        RemovedTag { name: name.to_string(), times: TagTimes { pushed: 1, pulled: 0 } }
+    }
+
     impl ManifestTable {
         fn add(&self, digest: &str, media_type: &str, tag: Option<&str>) {
             self.put("acme/web", digest, facts(media_type), tag, 1);
@@ -311,7 +335,7 @@ mod tests {
         assert_eq!(table.take_tag("acme/web", "v3".to_string(), 2).as_deref(), Some("v3"));
         assert_eq!(table.take_tag("acme/web", "v3".to_string(), 2), None);
         let removed = table.take_tags_of("acme/web", "sha256:a");
-        assert_eq!(removed, ["v1", "v2"]);
+        assert_eq!(removed, ["v1", "v2"].map(removed_tag));
         assert!(table.is_known("acme/web", "sha256:a") && !table.is_known("acme/web", "sha256:b"));
         table.add("sha256:b", TYPE, Some("v2"));
         table.restore("acme/web", "sha256:a", facts(TYPE), 1, removed);
@@ -414,7 +438,7 @@ mod tests {
         assert_eq!((acme(), table.totals("acmes"), table.totals("none")), (totals(2, 20, 2), totals(1, 1, 0), totals(0, 0, 0)));
         table.put("acme/web", "sha256:b", of_size(5), Some("v2"), 1);
         assert_eq!(acme(), totals(3, 25, 2));
-        table.add_tag("acme/web", "v3", "sha256:b");
+        table.add_tag("acme/web", "v3", "sha256:b", TagTimes::default());
         assert!(table.remove_tag("acme/web", "v1", 2));
         assert_eq!(acme(), totals(3, 25, 2));
         // A marked manifest counts until the store has deleted it, and so do its tags.

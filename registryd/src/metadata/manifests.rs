@@ -2,10 +2,14 @@
 //! change is durable before it is visible.
 use crate::database::change::{Change, Done};
 use crate::database::writer::{WriteFailure, Writer};
+use crate::events::event::{Effect, Report};
+use crate::events::queue::Queue;
 use crate::metadata::clock::now;
 use crate::metadata::document::Facts;
 use crate::metadata::manifest_table::ManifestTable;
+use crate::metadata::pulls::UnrecordedPulls;
 use crate::metadata::repository::{Kept, Removal};
+use crate::metadata::tag::{ExpiredTag, Pull, RemovedTag};
 use std::ops::Deref;
 use std::sync::Arc;
 
@@ -13,10 +17,13 @@ use std::sync::Arc;
 pub(crate) struct Manifests {
     table: Arc<ManifestTable>,
     writer: Option<Arc<Writer>>,
+    pulls: UnrecordedPulls,
+    /// The queues of events, if there are receivers.
+    queue: Option<Arc<Queue>>,
 }
 
 /// The tags of a manifest that is being deleted.
-pub(crate) struct RemovedTags(Vec<String>);
+pub(crate) struct RemovedTags(Vec<RemovedTag>);
 
 impl Deref for Manifests {
     type Target = ManifestTable;
@@ -27,8 +34,16 @@ impl Deref for Manifests {
 }
 
 impl Manifests {
-    pub(crate) fn new(table: Arc<ManifestTable>, writer: Option<Arc<Writer>>) -> Manifests {
-        Manifests { table, writer }
+    pub(crate) fn new(table: Arc<ManifestTable>, writer: Option<Arc<Writer>>, queue: Option<Arc<Queue>>) -> Manifests {
+        Manifests { table, writer, pulls: UnrecordedPulls::default(), queue }
+    }
+
+    /// Makes a change of this process alone, and adds its events.
+    fn make<T>(&self, report: Option<Report>, change: impl FnOnce() -> (T, Effect)) -> T {
+        match (&self.queue, report) {
+            (Some(queue), Some(report)) => queue.push_after(&report, change),
+            _ => change().0,
+        }
     }
 
     /// Returns whether the manifests and tags survive the end of this program.
@@ -37,16 +52,24 @@ impl Manifests {
     }
 
     /// Adds a manifest that the store accepted, and its tag if it was put under one.
-    pub(crate) async fn put(&self, repo: &str, digest: &str, facts: Facts, tag: Option<&str>) -> Result<(), WriteFailure> {
+    pub(crate) async fn put(
+        &self,
+        repo: &str,
+        digest: &str,
+        facts: Facts,
+        tag: Option<&str>,
+        report: Option<Report>,
+    ) -> Result<(), WriteFailure> {
         let writer = match &self.writer {
             Some(writer) => writer,
             None => {
-                self.table.put(repo, digest, facts, tag, now());
+                self.make(report, || (self.table.put(repo, digest, facts, tag, now()), Effect::Made));
                 return Ok(());
             }
         };
         let (repo, digest) = (repo.to_string(), digest.to_string());
-        writer.write(Change::PutManifest { repo, digest, facts, tag: tag.map(str::to_string) }).await?;
+        let change = Change::PutManifest { repo, digest, facts, tag: tag.map(str::to_string) };
+        writer.write_reported(change, report).await?;
         Ok(())
     }
 
@@ -65,23 +88,77 @@ impl Manifests {
     }
 
     /// Removes a tag. Returns whether it was there.
-    pub(crate) async fn remove_tag(&self, repo: &str, tag: &str) -> Result<bool, WriteFailure> {
+    pub(crate) async fn remove_tag(&self, repo: &str, tag: &str, report: Option<Report>) -> Result<bool, WriteFailure> {
         let writer = match &self.writer {
             Some(writer) if self.table.by_tag(repo, tag).is_some() => writer,
-            _ => return Ok(self.table.remove_tag(repo, tag, now())),
+            _ => {
+                // With a database, only its thread adds events.
+                let report = report.filter(|_| self.writer.is_none());
+                return Ok(self.make(report, || match self.table.remove_tag(repo, tag, now()) {
+                    true => (true, Effect::Made),
+                    false => (false, Effect::Nothing),
+                }));
+            }
         };
-        let removed = writer.write(Change::RemoveTag { repo: repo.to_string(), tag: tag.to_string() }).await?;
+        let change = Change::RemoveTag { repo: repo.to_string(), tag: tag.to_string() };
+        let removed = writer.write_reported(change, report).await?;
         Ok(removed != Done::Removed(Vec::new()))
     }
 
+    /// Notes that a client pulled a tag.
+    pub(crate) fn pull(&self, repo: &str, tag: &str) {
+        if self.table.pull(repo, tag, now()) && self.writer.is_some() {
+            self.pulls.add(repo, tag);
+        }
+    }
+
+    /// Records pulls of at most `most` tags. Returns whether more wait.
+    pub(crate) fn record_pulls(&self, most: usize) -> bool {
+        let tags = self.pulls.take(most);
+        let is_more = tags.len() == most;
+        let times = tags.into_iter().filter_map(|(repo, tag)| {
+            let time = self.table.last_pull(&repo, &tag)?;
+            Some(Pull { repo, tag, time })
+        });
+        let pulls: Vec<Pull> = times.collect();
+        if let Some(writer) = self.writer.as_ref().filter(|_| !pulls.is_empty()) {
+            writer.note(Change::RecordPulls { pulls });
+        }
+        is_more
+    }
+
+    /// Removes tags in one step, but for those that were pushed meanwhile. Returns the names of those that it removed.
+    pub(crate) async fn expire_tags(
+        &self,
+        repo: &str,
+        tags: Vec<ExpiredTag>,
+        report: Option<Report>,
+    ) -> Result<Vec<String>, WriteFailure> {
+        let writer = match &self.writer {
+            Some(writer) => writer,
+            None => {
+                let expire = || {
+                    let removed = self.table.expire_tags(repo, &tags, now());
+                    (removed.clone(), Effect::Tags(removed))
+                };
+                return Ok(self.make(report, expire));
+            }
+        };
+        match writer.write_reported(Change::ExpireTags { repo: repo.to_string(), tags }, report).await? {
+            Done::Removed(names) => Ok(names),
+            Done::Nothing | Done::RemovedAll(_) => Ok(Vec::new()),
+        }
+    }
+
     /// Marks a manifest that the store is going to be asked to delete. With a database, it and its tags are removed there
-    /// before the store deletes it, so that no tag names a missing manifest after a crash. Fails if it is not to be deleted
-    /// on this condition.
+    /// before the store deletes it, so that no tag names a missing manifest after a crash. The events are taken out of `report`
+    /// then, and recorded with that change. Fails if it is not to be deleted on this condition.
     pub(crate) async fn begin_removal(
         &self,
         repo: &str,
         digest: &str,
         removal: Removal,
+        report: &mut Option<Report>,
     ) -> Result<Result<RemovedTags, Kept>, WriteFailure> {
         if let Err(kept) = self.table.begin_removal(repo, digest, removal) {
             return Ok(Err(kept));
@@ -90,9 +167,10 @@ impl Manifests {
             Some(writer) if self.table.is_known(repo, digest) => writer,
             _ => return Ok(Ok(RemovedTags(Vec::new()))),
         };
-        match writer.write(Change::RemoveManifest { repo: repo.to_string(), digest: digest.to_string() }).await {
-            Ok(Done::Removed(tags)) => Ok(Ok(RemovedTags(tags))),
-            Ok(Done::Nothing) => Ok(Ok(RemovedTags(Vec::new()))),
+        let change = Change::RemoveManifest { repo: repo.to_string(), digest: digest.to_string() };
+        match writer.write_reported(change, report.take()).await {
+            Ok(Done::RemovedAll(tags)) => Ok(Ok(RemovedTags(tags))),
+            Ok(_) => Ok(Ok(RemovedTags(Vec::new()))),
             Err(failure) => {
                 if failure == WriteFailure::NoRoom {
                     self.table.end_removal(repo, digest);
@@ -102,11 +180,34 @@ impl Manifests {
         }
     }
 
+    /// Removes a manifest that the store has deleted, and records its events if they are not recorded yet.
+    pub(crate) async fn finish_removal(&self, repo: &str, digest: &str, report: Option<Report>) -> Result<(), WriteFailure> {
+        match (&self.writer, report) {
+            (Some(writer), report) => {
+                self.table.remove_manifest(repo, digest, now());
+                if let Some(report) = report {
+                    writer.write_reported(Change::AddEvents, Some(report)).await?;
+                }
+            }
+            (None, report) => self.make(report, || {
+                let tags = self.table.take_tags_of(repo, digest).into_iter().map(|tag| tag.name).collect();
+                (self.table.remove_manifest(repo, digest, now()), Effect::Tags(tags))
+            }),
+        }
+        Ok(())
+    }
+
     /// Shows a manifest and its tags again that the store did not delete. A tag that names another manifest by now stays.
-    pub(crate) async fn undo_removal(&self, repo: &str, digest: &str, tags: RemovedTags) -> Result<(), WriteFailure> {
+    pub(crate) async fn undo_removal(
+        &self,
+        repo: &str,
+        digest: &str,
+        tags: RemovedTags,
+        report: impl FnOnce(&Facts) -> Option<Report>,
+    ) -> Result<(), WriteFailure> {
         if let (Some(writer), Some((facts, since))) = (&self.writer, self.table.any_facts(repo, digest)) {
-            let (repo, digest) = (repo.to_string(), digest.to_string());
-            writer.write(Change::RestoreManifest { repo, digest, facts, since, tags: tags.0 }).await?;
+            let (report, repo, digest) = (report(&facts), repo.to_string(), digest.to_string());
+            writer.write_reported(Change::RestoreManifest { repo, digest, facts, since, tags: tags.0 }, report).await?;
         }
         self.table.end_removal(repo, digest);
         Ok(())

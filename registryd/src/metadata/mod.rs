@@ -1,8 +1,10 @@
 //! Tags, facts of manifests, repositories and open uploads: what this process keeps in addition to the store.
 pub(crate) mod bounds;
+pub(crate) mod cached;
 pub(crate) mod clock;
 pub(crate) mod document;
 pub(crate) mod immutable_tags;
+pub(crate) mod leaving_tags;
 pub(crate) mod limits;
 pub(crate) mod loose_blobs;
 pub(crate) mod manifest_lists;
@@ -11,9 +13,13 @@ pub(crate) mod manifests;
 pub(crate) mod media_type;
 pub(crate) mod names;
 pub(crate) mod open_uploads;
+mod pulls;
 mod pushes;
 pub(crate) mod repositories;
 pub(crate) mod repository;
+pub(crate) mod retention_rules;
 mod reverse_references;
+pub(crate) mod tag;
+pub(crate) mod tag_pattern;
 pub(crate) mod turns;
 pub(crate) mod upload_names;

@@ -186,6 +186,12 @@ impl OpenUploads {
         guard_of(self.by_name.lock()).len()
     }
 
+    /// Returns the names of the uploads of a tenant.
+    pub(crate) fn names_of(&self, tenant: &str) -> Vec<Uuid> {
+        let uploads = guard_of(self.by_name.lock());
+        uploads.iter().filter(|(_, upload)| tenant_of(&upload.repo) == tenant).map(|(name, _)| *name).collect()
+    }
+
     /// Returns the names of the uploads to abandon.
     pub(crate) fn unused(&self, patience: UploadTimeouts) -> Vec<Uuid> {
         let uploads = guard_of(self.by_name.lock());

@@ -5,6 +5,7 @@ use crate::metadata::document::Facts;
 use crate::metadata::names::is_tag;
 use crate::metadata::pushes::Pushes;
 use crate::metadata::reverse_references::ReverseReferences;
+use crate::metadata::tag::{ExpiredTag, RemovedTag, Tag};
 use std::collections::{BTreeMap, HashMap, HashSet};
 
 /// A manifest of the store.
@@ -21,8 +22,7 @@ pub(super) struct Manifest {
 /// A repository's tags and manifests.
 #[derive(Default)]
 pub(super) struct Repository {
-    /// For each tag, the digest of its manifest.
-    pub(super) tags: BTreeMap<String, String>,
+    pub(super) tags: BTreeMap<String, Tag>,
     /// The manifests by digest.
     pub(super) manifests: HashMap<String, Manifest>,
     /// The indexes that list a manifest, marked or not.
@@ -139,16 +139,33 @@ impl Repository {
 
     /// Adds a tag, or moves it.
     pub(super) fn put_tag(&mut self, tag: &str, digest: &str, now: u64) {
-        if let Some(before) = self.tags.insert(tag.to_string(), digest.to_string()) {
-            self.release(&before, now);
+        if let Some(before) = self.tags.insert(tag.to_string(), Tag::pushed(digest, now)) {
+            self.release(&before.digest, now);
         }
     }
 
     /// Removes a tag.
-    pub(super) fn remove_tag(&mut self, tag: &str, now: u64) {
-        if let Some(digest) = self.tags.remove(tag) {
-            self.release(&digest, now);
+    pub(super) fn remove_tag(&mut self, name: &str, now: u64) {
+        if let Some(tag) = self.tags.remove(name) {
+            self.release(&tag.digest, now);
         }
+    }
+
+    /// Removes a tag, unless it was pushed meanwhile. Returns whether it was removed.
+    pub(super) fn expire_tag(&mut self, expired: &ExpiredTag, now: u64) -> bool {
+        let is_same = self.tags.get(&expired.name).map_or(false, |tag| tag.is(expired));
+        if is_same {
+            self.remove_tag(&expired.name, now);
+        }
+        is_same
+    }
+
+    /// Removes all tags of a manifest, and returns them.
+    pub(super) fn take_tags_of(&mut self, digest: &str) -> Vec<RemovedTag> {
+        let of_manifest = self.tags.iter().filter(|(_, tag)| tag.digest == digest);
+        let removed = of_manifest.map(|(name, tag)| RemovedTag { name: name.clone(), times: tag.times }).collect();
+        self.tags.retain(|_, tag| tag.digest != digest);
+        removed
     }
 
     /// Notes that something ceases to hold a manifest.
@@ -164,9 +181,14 @@ impl Repository {
         self.listed.first(digest).or_else(|| subject.filter(|subject| self.manifests.contains_key(*subject)))
     }
 
+    /// Returns the indexes that list a manifest.
+    pub(super) fn indexes_of(&self, digest: &str) -> Vec<String> {
+        self.listed.after(digest, "").cloned().collect()
+    }
+
     /// Returns the digests that have a tag.
     pub(super) fn tagged(&self) -> HashSet<&String> {
-        self.tags.values().collect()
+        self.tags.values().map(|tag| &tag.digest).collect()
     }
 
     /// Fails if a manifest is not to be deleted on a condition.
@@ -176,7 +198,7 @@ impl Repository {
             Removal::AskedEvenIfListed => Ok(()),
             Removal::UnheldSince(time) => match self.manifest(digest) {
                 Some(manifest) if manifest.since <= time && self.holder(digest).is_none() => {
-                    let is_tagged = self.tags.values().any(|tagged| tagged == digest);
+                    let is_tagged = self.tags.values().any(|tag| tag.digest == digest);
                     if is_tagged {
                         Err(Kept::Held)
                     } else {
@@ -194,7 +216,7 @@ impl Repository {
             Some(facts) => facts,
             None => return,
         };
-        self.tags.retain(|_, named| named != digest);
+        self.tags.retain(|_, tag| tag.digest != digest);
         facts.lists.iter().for_each(|named| self.release(named, now));
         let referrers: Vec<String> = self.referrers.after(digest, "").cloned().collect();
         referrers.iter().for_each(|referrer| self.release(referrer, now));

@@ -1,9 +1,12 @@
 //! What runs next to the requests: collection, retention, metrics, status, notices, reloads, and the end of the program.
+mod ages;
+pub(crate) mod audit;
 pub(crate) mod background;
 pub(crate) mod collector;
 pub(crate) mod exit;
 pub(crate) mod health;
 pub(crate) mod locks;
+pub(crate) mod log;
 pub(crate) mod memory_reserve;
 pub(crate) mod metrics;
 pub(crate) mod notify;
@@ -13,4 +16,5 @@ pub(crate) mod rewriting;
 pub(crate) mod shutdown;
 pub(crate) mod signals;
 pub(crate) mod status;
+pub(crate) mod tag_rules;
 pub(crate) mod upload_expiry;

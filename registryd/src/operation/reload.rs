@@ -51,15 +51,44 @@ pub(crate) fn read_text(path: &Path) -> io::Result<String> {
 }
 
 /// Returns the lines of a file with their numbers, without those that are empty or begin with `#`, and without spaces at their ends.
-pub(crate) fn numbered_lines(text: &str) -> impl Iterator<Item = (usize, &str)> {
+fn numbered_lines(text: &str) -> impl Iterator<Item = (usize, &str)> {
     let lines = text.lines().map(str::trim).enumerate().map(|(at, line)| (at + 1, line));
     lines.filter(|(_, line)| !line.is_empty() && !line.starts_with('#'))
+}
+
+/// Parses each line of a text by `parse`, which gets its number too.
+///
+/// # Errors
+///
+/// Fails at the first line that cannot be parsed, with its number and the reason.
+pub(crate) fn parse_lines<'t, T>(text: &'t str, parse: impl Fn(usize, &'t str) -> Result<T, String>) -> Result<Vec<T>, String> {
+    let parsed = numbered_lines(text).map(|(number, line)| parse(number, line).map_err(|why| format!("line {number}: {why}")));
+    parsed.collect()
+}
+
+/// Reads a file of lines, which `parse` makes a value of. `what` names the file in a message.
+///
+/// # Errors
+///
+/// - The file cannot be read.
+/// - `parse` fails.
+pub(crate) fn read_parsed<T>(path: &Path, what: &str, parse: impl Fn(&str) -> Result<T, String>) -> Result<T, String> {
+    let text = read_text(path).map_err(|error| error.to_string());
+    text.and_then(|text| parse(&text)).map_err(|why| format!("cannot read the {what}: {}: {why}", path.display()))
 }
 
 /// A value that can be read again.
 pub(crate) trait Reload: Send + Sync {
     /// Reads the value again. If this fails, the value is unchanged.
     fn reload(&self) -> Result<(), String>;
+
+    /// Logs the result for a value of this name.
+    fn log(&self, name: &str, reloaded: Result<(), String>) {
+        match reloaded {
+            Ok(()) => tracing::info!("read the {name} again"),
+            Err(why) => tracing::error!("{why}: kept the {name} that were read before"),
+        }
+    }
 }
 
 impl<T: Send + Sync> Reload for FromFile<T> {
@@ -98,10 +127,7 @@ fn reload_each(values: &[(&'static str, Arc<dyn Reload>)]) {
         tracing::info!("no file to read again");
     }
     for (name, value) in values {
-        match value.reload() {
-            Ok(()) => tracing::info!("read the {name} again"),
-            Err(why) => tracing::error!("{why}: kept the {name} that were read before"),
-        }
+        value.log(name, value.reload());
     }
 }
 

@@ -5,24 +5,17 @@ use crate::http::fault::Fault;
 use crate::metadata::clock::now;
 use crate::metadata::manifest_lists::Untagged;
 use crate::metadata::repository::Removal;
+use crate::operation::audit;
 use crate::store::client::StoreUnavailable;
 use crate::store::frames::{Reason, Refusal};
-use std::time::{Duration, Instant};
-
-/// The pause between two records of the time. After a crash, manifests are younger by as much as was not recorded.
-const TIME_RECORDED: Duration = Duration::from_secs(60);
+use std::time::Duration;
 
 impl Registry {
     /// Deletes manifests at intervals that nothing has held for this time, and blobs to which no manifest has referred for this
     /// time, until the store ends.
     pub(crate) async fn keep_untagged(&self, time: Duration) {
         let rest = (time / 60).clamp(Duration::from_millis(100), Duration::from_secs(60));
-        let mut recorded = Instant::now();
         while !self.store.has_ended() {
-            if recorded.elapsed() >= TIME_RECORDED {
-                recorded = Instant::now();
-                self.manifests.record_time();
-            }
             if self.has_room() {
                 for repo in self.manifests.names() {
                     self.delete_unheld(&repo, now().saturating_sub(time.as_secs())).await;
@@ -37,8 +30,11 @@ impl Registry {
     async fn delete_unheld(&self, repo: &str, since: u64) {
         let unheld = self.manifests.untagged(repo).into_iter().filter(|one| one.held_by.is_none() && one.since <= since);
         for Untagged { digest, .. } in unheld {
-            match delete_manifest(self, repo, &digest, Removal::UnheldSince(since)).await {
-                Ok(Ok(())) => tracing::info!(repo, digest = %digest, "deleted a manifest that nothing holds"),
+            match delete_manifest(self, repo, &digest, Removal::UnheldSince(since), self.own_reporter()).await {
+                Ok(Ok(())) => {
+                    tracing::info!(repo, digest = %digest, "deleted a manifest that nothing holds");
+                    audit::write_own_delete("keep-untagged", repo, None, &digest);
+                }
                 Ok(Err(_)) => {}
                 Err(fault) => log(repo, &digest, &fault),
             }
@@ -58,6 +54,11 @@ impl Registry {
                 Ok(Ok(())) => {
                     tracing::info!(repo = %repo, digest = %digest, "deleted a blob that no manifest refers to");
                     self.loose.remove(repo, digest);
+                    self.cached.unmark(repo, digest);
+                    audit::write_own_delete("keep-untagged", repo, None, digest);
+                    if let Some(reporter) = self.own_reporter() {
+                        reporter.note(reporter.deleted(repo, Some(digest), None));
+                    }
                 }
                 Ok(Err(Refusal { reason: Reason::Memory, .. })) => self.loose.undo_unlink(&key),
                 Ok(Err(_)) => self.loose.keep_linked(&key, time),

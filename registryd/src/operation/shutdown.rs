@@ -53,7 +53,9 @@ pub(crate) async fn serve(
     notifier: &Notifier,
     drain: Duration,
 ) -> Result<(), Failure> {
-    let Started { registry, mut child, database, synced } = started;
+    let Started { registry, mut child, database, synced, control } = started;
+    // The file of the socket is removed when this is dropped.
+    let _control = control.map(|control| control.serve(registry.clone()));
     let Serving { connections, server, stop } = serving;
     tokio::select! {
         ended = server => return Err(Failure::new(format!("cannot accept connections: {ended:?}"))),
@@ -74,10 +76,14 @@ pub(crate) async fn serve(
         tracing::warn!(connections = connections.len(), "closing connections whose requests did not finish in time");
         connections.close_all();
     }
+    if let (Some(events), None) = (&registry.events, &database) {
+        events.queue.log_lost();
+    }
     if let Some(folder) = &registry.folder {
         // The last changes of the database and the end of the log need little.
         folder.room.make();
     }
+    registry.record_last_pulls();
     // The database ends first: the store's lock on the folder protects it.
     let mut ended = Ok(());
     if let Some((writer, thread)) = database {

@@ -132,7 +132,7 @@ impl Registry {
             let (used, quota) = self.store.usage(tenant).await?.unwrap_or_default();
             let held = self.store.slot_use(tenant).await?.ok();
             let totals = self.manifests.totals(tenant);
-            tenants.push(json!({
+            let mut state = json!({
                 "name": tenant,
                 "used": used,
                 "quota": quota,
@@ -143,7 +143,11 @@ impl Registry {
                 "manifest_bytes": totals.manifest_bytes,
                 "most_manifest_bytes": self.bounds_of(tenant).manifest_bytes,
                 "tags": totals.tags,
-            }));
+            });
+            if let Some(mirror) = self.mirrors.of(tenant) {
+                state["mirror"] = mirror.json(self.cached.count(tenant));
+            }
+            tenants.push(state);
         }
         self.note_syncs().await?;
         let (sweeps, freed, held) = self.metrics.swept();
@@ -159,6 +163,8 @@ impl Registry {
             "collector": { "sweeps": sweeps, "freed": freed, "held": held, "last": self.sweeps.json() },
             "folder": self.folder_json(),
             "immutable_tags": self.immutable_tags.as_ref().map(|tags| json!({ "rules": tags.rules(), "refusals": tags.refusals.get() })),
+            "retention": self.retention.as_ref().map(|retention| retention.json()),
+            "events": self.events.as_ref().map(|events| events.queue.json()),
             "scrub": self.scrub.as_ref().map(|scrub| scrub.json()),
             "bounds": {
                 "manifests": self.bounds.manifests,
@@ -219,6 +225,9 @@ impl Registry {
     pub(super) async fn metrics_text(&self) -> Result<String, StoreUnavailable> {
         if let Some(folder) = &self.folder {
             self.metrics.set_folder(folder);
+        }
+        if let Some(events) = &self.events {
+            events.queue.set_metrics();
         }
         self.note_syncs().await?;
         self.metrics.text(&self.store, &self.tenants, self.slots, self.uploads.len()).await

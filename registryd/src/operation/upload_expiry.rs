@@ -28,6 +28,17 @@ impl Registry {
         Ok(())
     }
 
+    /// Abandons uploads that nothing continues any more.
+    pub(crate) async fn abandon_all(&self, names: Vec<Uuid>) -> Result<(), StoreUnavailable> {
+        let now = UploadTimeouts { begun: Duration::ZERO, empty: Duration::ZERO };
+        for name in names {
+            if let Some(upload) = self.uploads.take_unused(&name, now) {
+                self.abandon(name, upload).await?;
+            }
+        }
+        Ok(())
+    }
+
     /// Abandons an upload. If the store fails to, the upload is tried again later.
     async fn abandon(&self, name: Uuid, upload: Upload) -> Result<(), StoreUnavailable> {
         let repo = &upload.repo;

@@ -1,14 +1,20 @@
-//! The files of users, rights, keys of tokens, immutable tags and the certificate.
+//! The files of users, rights, keys of tokens, immutable tags, rules for tags, receivers of events, credentials of mirrors and the certificate, and
+//! the audit log.
 use crate::auth::access::Access;
 use crate::auth::rights::Rights;
 use crate::auth::tokens::{Issuer, Key};
 use crate::auth::users::{Logins, Users};
+use crate::events::receivers::ReceiversFile;
 use crate::http::tls;
 use crate::http::tls::Tls;
 use crate::metadata::immutable_tags::{ImmutableTags, Rules};
+use crate::metadata::retention_rules::RetentionRules;
+use crate::operation::audit::AuditLog;
 use crate::operation::exit::Failure;
 use crate::operation::reload::{FromFile, Reloads};
+use crate::operation::tag_rules::Retention;
 use crate::start::options::Options;
+use crate::start::upstreams::Upstreams;
 use std::path::Path;
 use std::sync::Arc;
 use std::time::Duration;
@@ -36,7 +42,7 @@ fn issuer(options: &Options, reloads: &mut Reloads) -> Result<Option<Arc<Issuer>
 }
 
 /// Reads the files of users and rights that there are, and the keys of the issuer.
-pub(crate) fn access(options: &Options, reloads: &mut Reloads) -> Result<Access, Failure> {
+fn access(options: &Options, reloads: &mut Reloads) -> Result<Access, Failure> {
     let mut access = Access { issuer: issuer(options, reloads)?, ..Access::default() };
     if let Some(path) = options.htpasswd.clone() {
         let (metrics_user, logins) = (options.metrics_user.clone(), Logins::new());
@@ -52,8 +58,41 @@ pub(crate) fn access(options: &Options, reloads: &mut Reloads) -> Result<Access,
     Ok(access)
 }
 
+/// What a registry reads from files, and its audit log.
+pub(crate) struct Files {
+    pub(crate) access: Access,
+    pub(crate) immutable_tags: Option<ImmutableTags>,
+    pub(crate) retention: Option<Retention>,
+    /// The receivers of events.
+    pub(crate) receivers: Option<Arc<ReceiversFile>>,
+    pub(crate) audit_log: Option<Arc<AuditLog>>,
+    /// The upstreams of mirrors.
+    pub(crate) upstreams: Option<Upstreams>,
+}
+
+/// Reads the files that there are, except the certificate.
+pub(crate) fn files(options: &Options, reloads: &mut Reloads) -> Result<Files, Failure> {
+    let access = access(options, reloads)?;
+    let immutable_tags = immutable_tags(options, reloads)?;
+    let retention = retention(options, reloads)?;
+    let receivers = receivers(options, reloads)?;
+    let audit_log = audit_log(options, reloads)?;
+    Ok(Files { access, immutable_tags, retention, receivers, audit_log, upstreams: Upstreams::of(options, reloads)? })
+}
+
+/// Reads the rules that let tags go, if there is a file of them.
+fn retention(options: &Options, reloads: &mut Reloads) -> Result<Option<Retention>, Failure> {
+    let path = match options.retention.clone() {
+        Some(path) => path,
+        None => return Ok(None),
+    };
+    let rules = FromFile::new(move || RetentionRules::read(&path))?;
+    reloads.push(("retention rules", rules.clone()));
+    Ok(Some(Retention::new(rules)))
+}
+
 /// Reads the immutable tags, if there is a file of them.
-pub(crate) fn immutable_tags(options: &Options, reloads: &mut Reloads) -> Result<Option<ImmutableTags>, Failure> {
+fn immutable_tags(options: &Options, reloads: &mut Reloads) -> Result<Option<ImmutableTags>, Failure> {
     let path = match options.immutable_tags.clone() {
         Some(path) => path,
         None => return Ok(None),
@@ -61,6 +100,28 @@ pub(crate) fn immutable_tags(options: &Options, reloads: &mut Reloads) -> Result
     let rules = FromFile::new(move || Rules::read(&path))?;
     reloads.push(("immutable tags", rules.clone()));
     Ok(Some(ImmutableTags::new(rules)))
+}
+
+/// Reads the receivers of events, if there is a file of them.
+fn receivers(options: &Options, reloads: &mut Reloads) -> Result<Option<Arc<ReceiversFile>>, Failure> {
+    let path = match &options.events {
+        Some(path) => path,
+        None => return Ok(None),
+    };
+    let file = ReceiversFile::new(path)?;
+    reloads.push(("receivers of events", file.clone()));
+    Ok(Some(file))
+}
+
+/// Opens the audit log, if there is one.
+fn audit_log(options: &Options, reloads: &mut Reloads) -> Result<Option<Arc<AuditLog>>, Failure> {
+    let path = match &options.audit_log {
+        Some(path) => path,
+        None => return Ok(None),
+    };
+    let log = AuditLog::begin(path)?;
+    reloads.push(("audit log", log.clone()));
+    Ok(Some(log))
 }
 
 /// Reads the certificate and its key, if there are files of them.

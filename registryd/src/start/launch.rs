@@ -1,24 +1,33 @@
 //! Starts the store, reads the database if there is one, and makes the registry over both.
 use crate::auth::access::Access;
+use crate::auth::robots::Robots;
+use crate::control::socket::ControlSocket;
 use crate::database::writer::{Writer, WriterThread};
 use crate::endpoints::registry::Registry;
+use crate::events::delivery;
+use crate::events::queue::Queue;
+use crate::events::receivers::ReceiversFile;
+use crate::events::reporter::Recorder;
 use crate::folder::disk_probe::DiskProbe;
 use crate::folder::disk_room::DiskRoom;
 use crate::folder::files::Folder;
 use crate::folder::scrub::Scrub;
 use crate::http::in_flight::Memory;
 use crate::metadata::bounds::Bounds;
+use crate::metadata::cached::CachedContents;
 use crate::metadata::clock;
-use crate::metadata::immutable_tags::ImmutableTags;
 use crate::metadata::loose_blobs::LooseBlobs;
 use crate::metadata::manifest_table::ManifestTable;
 use crate::metadata::manifests::Manifests;
 use crate::metadata::open_uploads::OpenUploads;
 use crate::metadata::repositories::Repositories;
 use crate::metadata::upload_names::Secret;
+use crate::mirror::mirrors::Mirrors;
+use crate::mirror::spool;
 use crate::operation::exit::Failure;
 use crate::operation::metrics::Metrics;
 use crate::operation::{background, memory_reserve};
+use crate::start::credentials::Files;
 use crate::start::opening::Opened;
 use crate::start::options::Options;
 use crate::start::provenance::Provenance;
@@ -28,6 +37,7 @@ use crate::start::{capacity, default_shares, opening, recovery};
 use crate::store::client::Store;
 use crate::store::process;
 use std::collections::HashMap;
+use std::net::SocketAddr;
 use std::path::PathBuf;
 use std::sync::Arc;
 use std::time::Duration;
@@ -42,6 +52,8 @@ pub(crate) struct Started {
     pub(crate) database: Option<(Arc<Writer>, WriterThread)>,
     /// The folder, if each change is on the disk before its reply.
     pub(crate) synced: Option<PathBuf>,
+    /// The socket of the owner's commands, if there is one.
+    pub(crate) control: Option<ControlSocket>,
 }
 
 /// Returns the bounds on the manifests and tags of each tenant. A tenant that has more than a default has no such bound.
@@ -97,12 +109,15 @@ struct Tables {
     repositories: Repositories,
     manifests: Arc<ManifestTable>,
     loose_blobs: Vec<(String, String)>,
+    robots: Robots,
+    pulls_since: Option<u64>,
+    cached: CachedContents,
     database: Option<(Arc<Writer>, WriterThread)>,
 }
 
 impl Tables {
     /// Makes the tables of this process with what was recovered, and starts the thread of the database.
-    fn new(recovered: Option<Recovered>, writer: &Option<Arc<Writer>>) -> Result<Tables, Failure> {
+    fn new(recovered: Option<Recovered>, writer: &Option<Arc<Writer>>, queue: &Option<Arc<Queue>>) -> Result<Tables, Failure> {
         let secret = recovered.as_ref().map_or_else(Secret::random, |recovered| Ok(recovered.secret))?;
         let uploads = OpenUploads::new(secret, writer.clone());
         let repositories = Repositories::recorded_by(writer.clone());
@@ -110,7 +125,10 @@ impl Tables {
             (Some(recovered), Some(writer)) => (recovered, writer),
             _ => {
                 clock::begin(None);
-                return Ok(Tables { uploads, repositories, manifests: Arc::default(), loose_blobs: Vec::new(), database: None });
+                let (manifests, loose_blobs) = (Arc::default(), Vec::new());
+                let (robots, cached) = (Robots::default(), CachedContents::default());
+                let pulls_since = Some(clock::now());
+                return Ok(Tables { uploads, repositories, manifests, loose_blobs, robots, pulls_since, cached, database: None });
             }
         };
         for upload in &recovered.uploads {
@@ -118,37 +136,60 @@ impl Tables {
         }
         recovered.repositories.iter().for_each(|repo| repositories.add(repo));
         recovered.recorded.keys().for_each(|tenant| repositories.set_numbered(tenant));
+        if let Some(queue) = queue {
+            queue.restore(recovered.events);
+        }
         let manifests = Arc::new(recovered.manifests);
         let thread = writer.start(recovered.database, manifests.clone(), recovered.recorded)?;
         let database = Some((writer.clone(), thread));
-        Ok(Tables { uploads, repositories, manifests, loose_blobs: recovered.loose_blobs, database })
+        let robots = Robots::new(Some(writer.clone()), recovered.robots);
+        let cached = CachedContents::new(Some(writer.clone()), recovered.cached);
+        let (loose_blobs, pulls_since) = (recovered.loose_blobs, recovered.pulls_since);
+        Ok(Tables { uploads, repositories, manifests, loose_blobs, robots, pulls_since, cached, database })
     }
 }
 
-/// Starts the store, reads the database if there is one, and makes the registry over both.
-pub(crate) async fn start(options: &Options, access: Access, immutable_tags: Option<ImmutableTags>) -> Result<Started, Failure> {
+/// Starts the store, reads the database if there is one, and makes the registry over both, which listens on an address.
+pub(crate) async fn start(options: &Options, files: Files, address: SocketAddr) -> Result<Started, Failure> {
+    let Files { access, immutable_tags, retention, receivers, audit_log, upstreams } = files;
     let provenance = Provenance::of(&options.blobd);
     provenance.log();
     let metrics = Metrics::new();
     metrics.set_verified(provenance.is_proved());
+    if let Some(log) = audit_log {
+        metrics.add(Box::new(log.lost.clone()));
+    }
     if let Some(tags) = &immutable_tags {
         metrics.add(Box::new(tags.refusals.clone()));
     }
+    if let Some(retention) = &retention {
+        metrics.add(Box::new(retention.removed.clone()));
+    }
+    let queue =
+        receivers.as_ref().map(|file| Arc::new(Queue::new(options.event_queue(), &file.get(), &metrics, options.data.is_some())));
     let limit = Duration::from_secs(options.call_s);
     let room = options.data.clone().map(|path| Arc::new(DiskRoom::new(path, options.min_free(), options.reserve())));
-    let writer = room.clone().map(|room| Writer::new(metrics.add_folder(options.is_durable()), limit, room));
+    let writer = room.clone().map(|room| Writer::new(metrics.add_folder(options.is_durable()), limit, room, queue.clone()));
     let opened = open_folder(options, &room).await?;
+    // It may lie in the folder.
+    let control = options.control.as_deref().map(ControlSocket::bind).transpose()?;
     capacity::warn_of_sums(&options.tenants(), options.slots);
     let (store, child) = default_shares::start_store(options, writer.clone()).await?;
     let (child, recovered) = recover(&store, child, opened).await?;
-    let Tables { uploads, repositories, manifests, loose_blobs, database } = Tables::new(recovered, &writer)?;
+    let Tables { uploads, repositories, manifests, loose_blobs, robots, pulls_since, cached, database } =
+        Tables::new(recovered, &writer, &queue)?;
+    let is_tls = options.tls_cert.is_some();
+    let recorder =
+        |(file, queue): (Arc<ReceiversFile>, &Arc<Queue>)| Recorder::new(file, queue.clone(), address, is_tls, writer.clone());
     let registry = Arc::new(Registry {
         memory: Memory::new(options.memory_in_flight, store.sharers()),
         store,
-        access,
+        access: Access { robots, ..access },
         uploads,
         repositories,
         loose: options.keep_untagged.map_or_else(LooseBlobs::default, |_| LooseBlobs::new(writer.clone(), loose_blobs)),
+        mirrors: upstreams.map_or_else(Mirrors::default, |upstreams| upstreams.mirrors(options, &metrics)),
+        cached,
         folder: options.data.clone().zip(room).map(|(path, room)| Folder::new(path, room)),
         disk_probe: options.data.as_deref().map(|path| Arc::new(DiskProbe::new(path))),
         scrub: options.data.clone().and_then(|path| Some(Scrub::new(path, options.scrub_pace()?, &metrics))),
@@ -164,17 +205,22 @@ pub(crate) async fn start(options: &Options, access: Access, immutable_tags: Opt
         bounds: options.bounds(),
         asked_removal: options.asked_removal(),
         immutable_tags,
+        pulls_since: pulls_since.filter(|_| retention.is_some()),
+        retention,
+        keeps_untagged: options.keep_untagged,
         bounds_by_tenant: bounds_by_tenant(options, &manifests),
-        manifests: Manifests::new(manifests, writer),
+        events: receivers.zip(queue.as_ref()).map(recorder),
+        manifests: Manifests::new(manifests, writer, queue),
+        debug: options.debug_scope(),
         draining: Default::default(),
         started: clock::time_of_day(),
     });
     work_in_background(&registry, options)?;
-    Ok(Started { registry, child, database, synced: options.data.clone().filter(|_| options.is_durable()) })
+    Ok(Started { registry, child, database, synced: options.data.clone().filter(|_| options.is_durable()), control })
 }
 
-/// Starts the garbage collector, the expiry of uploads and of manifests without tags, the reserve of memory, the probes of the disk, and
-/// the reads of the log.
+/// Starts the garbage collector, the expiry of uploads, tags and manifests without tags, the deliveries of events, the reserve of memory,
+/// the work of mirrors, the probes of the disk, and the reads of the log.
 fn work_in_background(registry: &Arc<Registry>, options: &Options) -> Result<(), Failure> {
     let rest = Duration::from_millis(options.sweep_ms);
     let sweeper = registry.clone();
@@ -186,7 +232,26 @@ fn work_in_background(registry: &Arc<Registry>, options: &Options) -> Result<(),
         let keeper = registry.clone();
         background::run(async move { keeper.keep_untagged(time).await });
     }
+    if registry.retention.is_some() {
+        let remover = registry.clone();
+        background::run(async move { remover.apply_rules().await });
+    }
+    if registry.retention.is_some() || options.keep_untagged.is_some() {
+        let recorder = registry.clone();
+        background::run(async move { recorder.record_ages().await });
+    }
+    if let Some(events) = &registry.events {
+        background::run(delivery::run(events.clone()));
+    }
     background::run(memory_reserve::keep_reserve());
+    if let Some(folder) = &registry.folder {
+        spool::remove_left(folder.path());
+    }
+    for mirror in registry.mirrors.all() {
+        // Nothing is pushed into a mirror, so fetches opened them.
+        let left = registry.uploads.names_of(&mirror.tenant);
+        background::run(mirror.clone().run(registry.clone(), left));
+    }
     if let Some(probe) = &registry.disk_probe {
         background::run(probe.clone().run());
     }

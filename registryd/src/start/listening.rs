@@ -47,6 +47,10 @@ const OTHER_FILES: u64 = 64;
 /// The number of open files of one connection to the store during the start: both ends of two pipes.
 const FILES_PER_STORE_CONNECTION: u64 = 4;
 
+/// The maximum number of open files of a mirror other than those that its clients keep open: of its fetches, each with a connection,
+/// and of unused connections.
+const FILES_PER_MIRROR: u64 = 128;
+
 /// What serves the addresses.
 pub(crate) struct Listening {
     pub(crate) service: Arc<Service>,
@@ -92,7 +96,9 @@ fn serve_metrics(service: &Arc<Service>, listener: TcpListener, options: &Option
 /// Returns the limits of client connections. The number of open files limits their number too.
 pub(crate) fn limits(options: &Options) -> Result<Limits, Failure> {
     let files = server::raise_file_limit()?;
-    let room = files.saturating_sub(OTHER_FILES + FILES_PER_STORE_CONNECTION * u64::from(options.lines));
+    let others = OTHER_FILES + FILES_PER_STORE_CONNECTION * u64::from(options.lines) + FILES_PER_MIRROR * options.mirror_count();
+    // A client of a mirror may also keep the file of a fetch open.
+    let room = files.saturating_sub(others) / if options.mirror_count() > 0 { 2 } else { 1 };
     if room == 0 {
         return Err(format!("cannot connect to the store: --lines {}: RLIMIT_NOFILE is {files}", options.lines).into());
     }

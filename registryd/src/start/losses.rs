@@ -128,6 +128,7 @@ impl OnLoss {
 mod tests {
     use super::*;
     use crate::metadata::document::Facts;
+    use crate::metadata::tag::TagTimes;
 
     fn end(log: u64, file: u64, length: u64) -> LogEnd {
         LogEnd { log, file, length }
@@ -161,7 +162,12 @@ mod tests {
             since: 0,
         };
         let missing: Vec<ManifestRow> = (0..12).map(|number| row(format!("d{number:02}"))).collect();
-        let tag = |tag: &str, digest: &str| TagRow { repo: "a/b".to_string(), tag: tag.to_string(), digest: digest.to_string() };
+        let tag = |tag: &str, digest: &str| TagRow {
+            repo: "a/b".to_string(),
+            tag: tag.to_string(),
+            digest: digest.to_string(),
+            times: TagTimes::default(),
+        };
         let tags = [tag("v2", "d01"), tag("v1", "d01"), tag("other", "kept")];
         let text = Loss::of_manifests(&missing, &tags).to_string();
         let expected = "12 manifests of registry.db with 2 tags: a/b:v1 (d01), a/b:v2 (d01), a/b@d00, a/b@d02, ";

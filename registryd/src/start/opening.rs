@@ -29,6 +29,8 @@ pub(super) struct Opened {
     pub(super) is_synced: bool,
     /// Whether the disk has no room, so that the start changes nothing.
     pub(super) is_full: bool,
+    /// Whether pulls of tags are counted from now on.
+    pub(super) counts_pulls: bool,
     on_loss: OnLoss,
     /// The length of the log if the store may cut it because the operator accepts what that loses.
     cuttable: Option<u64>,
@@ -164,5 +166,5 @@ pub(super) fn open(options: &Options, folder: PathBuf, room: &DiskRoom) -> Resul
     }
     room.tend();
     let cuttable = options.accept_loss_after.and_then(|_| files::log_length(&folder));
-    Ok(Opened { folder, database, is_synced, is_full, on_loss, cuttable })
+    Ok(Opened { folder, database, is_synced, is_full, counts_pulls: options.retention.is_some(), on_loss, cuttable })
 }

@@ -1,9 +1,13 @@
 //! The options and arguments of the command line.
+use crate::control::commands::Command;
 use crate::endpoints::registry::MetricsAccess;
 use crate::folder::scrub::DEFAULT_PACE;
 use crate::metadata::bounds::Bounds;
+use crate::metadata::names::check_prefix;
 use crate::metadata::open_uploads::UploadTimeouts;
 use crate::metadata::repository::Removal;
+use crate::mirror::address::{mirror_of, Address, MirrorOf};
+use crate::operation::log::DebugScope;
 use crate::start::tenants;
 use crate::start::tenants::{tenant_word, Tenant};
 use clap::{Parser, ValueEnum};
@@ -11,12 +15,16 @@ use std::ffi::OsString;
 use std::net::SocketAddr;
 use std::path::PathBuf;
 use std::time::Duration;
+use tracing::level_filters::LevelFilter;
 
 /// The minimum of free bytes if the option is missing.
 const MIN_FREE: u64 = 64 << 20;
 
 /// The length of the reserve if the option is missing, in bytes.
 const RESERVE: u64 = 64 << 20;
+
+/// The maximum number of events that wait for a receiver if the option is missing.
+const EVENT_QUEUE: u32 = 10_000;
 
 /// The form of the log.
 #[derive(Clone, Copy, Debug, PartialEq, Eq, ValueEnum)]
@@ -36,6 +44,20 @@ pub(crate) enum LogLevel {
     Warn,
     /// Each request too
     Info,
+    /// Details of requests too
+    Debug,
+}
+
+impl LogLevel {
+    /// Returns the level of the messages.
+    pub(crate) fn filter(self) -> LevelFilter {
+        match self {
+            LogLevel::Error => LevelFilter::ERROR,
+            LogLevel::Warn => LevelFilter::WARN,
+            LogLevel::Info => LevelFilter::INFO,
+            LogLevel::Debug => LevelFilter::DEBUG,
+        }
+    }
 }
 
 /// When changes are on the disk.
@@ -51,8 +73,10 @@ pub(super) enum SyncPolicy {
 
 /// Container registry (OCI Distribution Specification 1.1). Without --data, all data is lost when the program exits.
 #[derive(Clone, Debug, Parser)]
-#[command(name = "registryd", version)]
+#[command(name = "registryd", version, args_conflicts_with_subcommands = true, subcommand_negates_reqs = true)]
 pub(crate) struct Options {
+    #[command(subcommand)]
+    pub(crate) command: Option<Command>,
     /// Listen on this address
     #[arg(long, value_name = "ADDR:PORT", default_value = "127.0.0.1:5000")]
     pub(super) listen: SocketAddr,
@@ -143,6 +167,33 @@ pub(crate) struct Options {
     /// Let no client move or delete the tags of this file
     #[arg(long, value_name = "FILE")]
     pub(super) immutable_tags: Option<PathBuf>,
+    /// Remove tags that no rule of this file keeps
+    #[arg(long, value_name = "FILE")]
+    pub(super) retention: Option<PathBuf>,
+    /// Take commands of this user on a socket
+    #[arg(long, value_name = "SOCKET")]
+    pub(super) control: Option<PathBuf>,
+    /// Send events to the receivers of this file
+    #[arg(long, value_name = "FILE")]
+    pub(super) events: Option<PathBuf>,
+    /// Limit the events that wait for a receiver [default: 10000]
+    #[arg(long, value_name = "N", requires = "events", value_parser = clap::value_parser!(u32).range(1..=1_000_000))]
+    pub(super) event_queue: Option<u32>,
+    /// Copy what this tenant lacks from a registry; repeatable
+    #[arg(long, value_name = "[TENANT=]URL", value_parser = mirror_of)]
+    pub(super) mirror_of: Vec<MirrorOf>,
+    /// Ask upstreams with the users and passwords of this file
+    #[arg(long, value_name = "FILE", requires = "mirror_of")]
+    pub(super) mirror_credentials: Option<PathBuf>,
+    /// Believe a mirrored tag for this time
+    #[arg(long, value_name = "S", default_value_t = 60, value_parser = clap::value_parser!(u64).range(..=31_536_000))]
+    pub(super) mirror_tag_s: u64,
+    /// Give up an upstream after this time without a byte
+    #[arg(long, value_name = "S", default_value_t = 30, value_parser = clap::value_parser!(u64).range(1..=3600))]
+    pub(super) mirror_timeout_s: u64,
+    /// Copy all tags of upstreams at this interval
+    #[arg(long, value_name = "S", requires = "mirror_of", value_parser = clap::value_parser!(u64).range(1..=31_536_000))]
+    pub(super) mirror_s: Option<u64>,
     /// Accept tokens that are signed with these public keys
     #[arg(long, value_name = "FILE", requires_all = ["token_realm", "token_service", "token_issuer"])]
     pub(super) token_key: Option<PathBuf>,
@@ -173,6 +224,12 @@ pub(crate) struct Options {
     /// Log messages of this level and above
     #[arg(long, value_name = "LEVEL", default_value = "info")]
     pub(crate) log_level: LogLevel,
+    /// Log details only of this tenant or repository
+    #[arg(long, value_name = "PREFIX", value_parser = prefix)]
+    pub(super) debug_only: Vec<String>,
+    /// Write a line for each request to a repository
+    #[arg(long, value_name = "FILE")]
+    pub(crate) audit_log: Option<PathBuf>,
     /// Run this program as the store
     #[arg(long, value_name = "PATH", default_value = "blobd")]
     pub(super) blobd: PathBuf,
@@ -202,12 +259,49 @@ fn quotable(text: &str) -> Result<String, String> {
     }
 }
 
+/// Checks the name of a tenant or a repository, and returns it.
+fn prefix(text: &str) -> Result<String, String> {
+    check_prefix(text).map(|()| text.to_string())
+}
+
 impl Options {
     /// Returns why the options contradict each other, if they do.
     pub(crate) fn conflict(&self) -> Option<String> {
         let open = !self.has_users() && !self.listen.ip().is_loopback() && !self.let_anybody_in;
         let text = format!("cannot listen: {}: give --htpasswd, --token-key or --let-anybody-in", self.listen);
-        open.then_some(text).or_else(|| tenants::conflict(&self.tenants))
+        open.then_some(text).or_else(|| tenants::conflict(&self.tenants)).or_else(|| self.mirrors().err())
+    }
+
+    /// Returns the number of mirrors.
+    pub(super) fn mirror_count(&self) -> u64 {
+        self.mirror_of.len() as u64
+    }
+
+    /// Returns the tenants that are mirrors, each with the address of its upstream.
+    ///
+    /// # Errors
+    ///
+    /// - A tenant is not served, or has two upstreams.
+    /// - An upstream names no tenant, and several are served.
+    pub(super) fn mirrors(&self) -> Result<Vec<(String, Address)>, String> {
+        let names = self.tenant_names();
+        let mut found: Vec<(String, Address)> = Vec::new();
+        for MirrorOf { tenant, address } in &self.mirror_of {
+            let url = address.text();
+            let tenant = match (tenant, &names[..]) {
+                (Some(tenant), _) => tenant.clone(),
+                (None, [only]) => only.clone(),
+                (None, _) => return Err(format!("which tenant is a mirror of {url}? write --mirror-of TENANT={url}")),
+            };
+            if !names.contains(&tenant) {
+                return Err(format!("cannot mirror {url}: no such tenant: {tenant}"));
+            }
+            if found.iter().any(|(other, _)| *other == tenant) {
+                return Err(format!("cannot mirror {url}: tenant {tenant} is a mirror of another registry"));
+            }
+            found.push((tenant, address.clone()));
+        }
+        Ok(found)
     }
 
     /// Returns whether requests need credentials.
@@ -253,6 +347,16 @@ impl Options {
     /// Returns the length of the reserve, in bytes.
     pub(super) fn reserve(&self) -> u64 {
         self.reserve.unwrap_or(RESERVE)
+    }
+
+    /// Returns the requests that are logged in detail.
+    pub(super) fn debug_scope(&self) -> DebugScope {
+        DebugScope(self.debug_only.clone())
+    }
+
+    /// Returns the maximum number of events that wait for a receiver.
+    pub(super) fn event_queue(&self) -> usize {
+        self.event_queue.unwrap_or(EVENT_QUEUE) as usize
     }
 
     /// Returns whether changes are on the disk before their replies.
@@ -382,6 +486,26 @@ mod tests {
         assert_eq!(parsed(&["a=1"]).bounds(), Bounds::default());
         let words = ["--manifests", "5", "--manifest-bytes", "1000", "--tags", "0", "a=1"];
         assert_eq!(parsed(&words).bounds(), Bounds { manifests: Some(5), manifest_bytes: Some(1000), tags: Some(0) });
+    }
+
+    #[test]
+    fn a_mirror_has_one_tenant_and_one_upstream() {
+        let of = |words: &[&str]| parsed(words).mirrors();
+        let tenants = |words: &[&str]| of(words).unwrap().into_iter().map(|(tenant, _)| tenant).collect::<Vec<_>>();
+        assert!(tenants(&["a=1"]).is_empty());
+        assert_eq!(tenants(&["--mirror-of", "https://x", "a=1"]), ["a"]);
+        assert_eq!(tenants(&["--mirror-of", "b=https://x", "--mirror-of", "a=http://y/z", "a=1", "b=1"]), ["b", "a"]);
+        let wrong: [&[&str]; 3] = [
+            &["--mirror-of", "https://x", "a=1", "b=1"],
+            &["--mirror-of", "c=https://x", "a=1"],
+            &["--mirror-of", "a=https://x", "--mirror-of", "https://y", "a=1"],
+        ];
+        for words in wrong {
+            assert!(parsed(words).conflict().is_some(), "{words:?}");
+        }
+        for words in [["--mirror-credentials", "f"], ["--mirror-s", "9"]] {
+            assert!(Options::try_parse_from([&["registryd"], &words[..], &["a=1"]].concat()).is_err());
+        }
     }
 
     #[test]

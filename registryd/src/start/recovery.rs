@@ -3,9 +3,11 @@
 //! The store is asked about each manifest and each open upload. So after any crash no tag and no list of referrers names a
 //! missing manifest, and each open upload has a name and is abandoned if nobody continues it. Empty repositories are
 //! removed.
+use crate::auth::robots::RobotRow;
 use crate::database::change::Change;
 use crate::database::rows::{ManifestRow, Rows, UploadRow};
 use crate::database::sqlite::{Committed, Database};
+use crate::events::queue::EventRows;
 use crate::folder::log_end::LogEnd;
 use crate::folder::unsynced;
 use crate::metadata::clock::now;
@@ -49,8 +51,15 @@ pub(super) struct Recovered {
     pub(super) uploads: Vec<FoundUpload>,
     /// The repositories and digests of blobs that are to be unlinked after some time.
     pub(super) loose_blobs: Vec<(String, String)>,
+    pub(super) robots: Vec<RobotRow>,
+    /// The time since which all pulls of tags are recorded, in seconds since 1970, if they are.
+    pub(super) pulls_since: Option<u64>,
+    /// The copies of mirrors, each with the time of its last use.
+    pub(super) cached: Vec<(String, String, u64)>,
     /// For each tenant, a number up to which all uploads are recorded.
     pub(super) recorded: HashMap<String, u32>,
+    /// The events that are not delivered yet.
+    pub(super) events: EventRows,
 }
 
 /// What a start finds and changes.
@@ -67,7 +76,7 @@ struct Findings {
 /// the disk.
 pub(super) async fn recover(store: &Store, opened: Opened) -> Result<Recovered, Failure> {
     let on_loss = opened.on_loss();
-    let Opened { folder, mut database, is_synced, is_full, .. } = opened;
+    let Opened { folder, mut database, is_synced, is_full, counts_pulls, .. } = opened;
     let (database, mut rows) = blocking(move || {
         let rows = database.read()?;
         Ok((database, rows))
@@ -76,6 +85,7 @@ pub(super) async fn recover(store: &Store, opened: Opened) -> Result<Recovered, 
     clock::begin(database.marks().time.or_else(|| rows.manifests.iter().map(|row| row.since).max()));
     let unavailable = |StoreUnavailable| Failure::new("the store did not reply while the registry started");
     let mut findings = Findings::default();
+    let pulls_since = pulls_since(&database, counts_pulls, &mut findings);
     let missing = missing_manifests(store, &rows.manifests).await.map_err(unavailable)?;
     if !missing.is_empty() {
         on_loss.meet(&Loss::of_manifests(&missing, &rows.tags))?;
@@ -108,8 +118,30 @@ pub(super) async fn recover(store: &Store, opened: Opened) -> Result<Recovered, 
         false => blocking(move || correction.make(database, known)).await?,
     };
     let manifests = table_of(&rows);
-    let Rows { repositories, loose_blobs, .. } = rows;
-    Ok(Recovered { database, secret, manifests, repositories, uploads, loose_blobs, recorded })
+    let Rows { repositories, loose_blobs, cached, robots, events, .. } = rows;
+    Ok(Recovered {
+        database,
+        secret,
+        manifests,
+        repositories,
+        uploads,
+        loose_blobs,
+        robots,
+        pulls_since,
+        cached,
+        recorded,
+        events,
+    })
+}
+
+/// Returns the time since which all pulls of tags are recorded, if they are from now on. If that changes, it is recorded.
+fn pulls_since(database: &Database, counts_pulls: bool, findings: &mut Findings) -> Option<u64> {
+    let recorded = database.marks().pulls_since;
+    let since = counts_pulls.then(|| recorded.unwrap_or_else(now));
+    if since != recorded {
+        findings.changes.push(Change::CountPulls { since });
+    }
+    since
 }
 
 /// The changes of the database that a start makes.
@@ -206,7 +238,7 @@ fn table_of(rows: &Rows) -> ManifestTable {
         table.put(repo, digest, facts.clone(), None, *since);
     }
     for row in &rows.tags {
-        table.add_tag(&row.repo, &row.tag, &row.digest);
+        table.add_tag(&row.repo, &row.tag, &row.digest, row.times);
     }
     table
 }
