@@ -14,15 +14,17 @@ enum blobd_command {
     BLOBD_START = 1, BLOBD_STATUS, BLOBD_APPEND, BLOBD_CLOSE, BLOBD_ABANDON, BLOBD_MOUNT, BLOBD_DELETE,
     BLOBD_PUT_MANIFEST, BLOBD_GET_MANIFEST, BLOBD_DELETE_MANIFEST, BLOBD_LEASE, BLOBD_READ, BLOBD_GIVE_BACK,
     BLOBD_SWEEP, BLOBD_STAT = 17, BLOBD_STAT_MANIFEST, BLOBD_FREE_SLOTS, BLOBD_USAGE, BLOBD_FETCH,
-    BLOBD_REMOVE_REPO
+    BLOBD_REMOVE_REPO, BLOBD_SLOT_USE, BLOBD_REPO_COUNT, BLOBD_SYNC_COUNT
 };
 
-/* The status of a reply: 0, the number of an error, or BLOBD_LOST if the connection has failed. */
+/* The status of a reply: 0, the number of an error of the store, BLOBD_NO_LEASE, BLOBD_NO_COMMAND, or BLOBD_LOST if the
+ * connection has failed. */
 enum blobd_status {
     BLOBD_OK = 0, BLOBD_NAME_INVALID, BLOBD_DIGEST_INVALID, BLOBD_NAME_UNKNOWN, BLOBD_UPLOAD_UNKNOWN,
     BLOBD_SIZE_INVALID, BLOBD_RANGE_INVALID, BLOBD_BLOB_UNKNOWN, BLOBD_MANIFEST_INVALID, BLOBD_MANIFEST_UNKNOWN,
     BLOBD_MANIFEST_BLOB_UNKNOWN, BLOBD_QUOTA, BLOBD_REFERENCED, BLOBD_STORE_FULL, BLOBD_TOO_MANY_READERS,
-    BLOBD_LIMIT_REACHED, BLOBD_WEIGHT_SPENT, BLOBD_MEMORY, BLOBD_BUSY, BLOBD_REPO_IN_USE, BLOBD_LOST = -1
+    BLOBD_LIMIT_REACHED, BLOBD_WEIGHT_SPENT, BLOBD_MEMORY, BLOBD_BUSY, BLOBD_REPO_IN_USE, BLOBD_NO_LEASE = 254,
+    BLOBD_NO_COMMAND, BLOBD_LOST = -1
 };
 
 /* The maximum length of a digest, in bytes. */
@@ -45,7 +47,9 @@ struct blobd_reply {
      *   mount   the session that was opened, or 0
      *   sweep   the number of slots freed; the number of unlinked slots that readers held
      *   usage   the bytes that the tenant uses; its quota
-     *   slots   the number of the tenant's distinct blobs; its share of the slots
+     *   slots   the number of the tenant's distinct blobs; its share of the slots (BLOBD_SLOT_USE)
+     *   repos   the number of the tenant's repositories (BLOBD_REPO_COUNT)
+     *   syncs   the number of syncs of the log since the program started (BLOBD_SYNC_COUNT)
      *   others  a session, a length or a size */
     uint64_t first, second;
     char digest[BLOBD_MAX_DIGEST + 1];   /* of a manifest, or of the blob that it lacks */
