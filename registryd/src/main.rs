@@ -1,6 +1,7 @@
 //! A container registry (OCI Distribution Specification 1.1). A `blobd` stores the blobs and manifests. Tags, facts of manifests
 //! and open uploads are in this process, and with `--data` in a database too. Without `--data` all data is in memory.
 mod auth;
+mod browse;
 mod control;
 mod database;
 mod endpoints;

@@ -2,8 +2,9 @@
 """Opens the page of a registry in Chromium, and checks that it shows what was pushed. A second server gives the page names that no
 registry has, which must not become markup. Manifests of hostile media types must not run scripts, also those that an older version
 stored. With `--screenshot FILE` it writes a picture of the page instead."""
-import contextlib, html, http.server, json, re, shutil, sqlite3, subprocess, sys, tempfile, threading
+import contextlib, html, http.server, json, re, shutil, sqlite3, sys, tempfile, threading
 
+from browser import chromium
 from limits import CHEAP, basic, users
 from playing import play, until
 from referrers import descriptor, index, put
@@ -11,14 +12,6 @@ from restarts import folder, pushed
 from server import serving, sha256
 
 HOSTILE = '<img src="x" onerror="document.title=1"></td><script>document.title=2</script>&amp;'
-
-
-def chromium(address, *words, path="/"):
-    """Runs a browser without a window on a page, and returns what it prints. The page's clock runs ahead of the machine's."""
-    with tempfile.TemporaryDirectory() as profile:
-        command = ["chromium", "--headless", "--no-sandbox", "--disable-gpu", "--disable-dev-shm-usage", "--no-first-run", "--hide-scrollbars",
-                   "--disable-background-networking", f"--user-data-dir={profile}", "--virtual-time-budget=8000", *words, f"http://{address}{path}"]
-        return subprocess.run(command, stdout=subprocess.PIPE, stderr=subprocess.DEVNULL, text=True, timeout=120, check=True).stdout
 
 
 def shown(dom):

@@ -28,7 +28,7 @@ pub(crate) struct Access {
 
 /// The sender of a request, as far as it is known.
 #[derive(Debug)]
-enum Identity {
+pub(super) enum Identity {
     /// Anybody, in a registry without users and without an issuer.
     Anybody,
     /// A client that sent no credentials.
@@ -101,12 +101,9 @@ impl Access {
         let identity = match (credentials(headers), &self.users, &self.issuer) {
             (_, None, None) => Identity::Anybody,
             (Credentials::Missing, _, _) => Identity::Anonymous,
-            (Credentials::Password(user, secret), _, _) if is_robot(&user) => match self.robots.accept(&user, &secret) {
-                Some(robot) => Identity::Robot(robot),
-                None => return Err(unauthorized(&self.issuer, scope, None)),
-            },
-            (Credentials::Password(user, password), Some(users), _) if users.get().accept(&user, &password, client).await? => {
-                Identity::User(user)
+            (Credentials::Password(user, password), _, _) => {
+                let found = self.identify(user, &password, client).await?;
+                found.ok_or_else(|| unauthorized(&self.issuer, scope, None))?
             }
             (Credentials::Token(text), _, Some(issuer)) => match issuer.verify(&text) {
                 Some(token) => Identity::Holder(token),
@@ -114,8 +111,24 @@ impl Access {
             },
             _ => return Err(unauthorized(&self.issuer, scope, None)),
         };
+        Ok(self.caller_with(identity))
+    }
+
+    /// Returns who has a name and a password, or a name and a secret, if they are right.
+    pub(super) async fn identify(&self, user: String, password: &str, client: Option<IpAddr>) -> Result<Option<Identity>, Fault> {
+        if is_robot(&user) {
+            return Ok(self.robots.accept(&user, password).map(Identity::Robot));
+        }
+        match &self.users {
+            Some(users) if users.get().accept(&user, password, client).await? => Ok(Some(Identity::User(user))),
+            _ => Ok(None),
+        }
+    }
+
+    /// Returns a sender with the rights that it has now.
+    pub(super) fn caller_with(&self, identity: Identity) -> Caller {
         let rights = self.rights.as_ref().map(|rights| rights.get());
-        Ok(Caller { identity, rights, issuer: self.issuer.clone() })
+        Caller { identity, rights, issuer: self.issuer.clone() }
     }
 }
 
@@ -155,6 +168,16 @@ impl Caller {
             (Identity::Holder(_), rights) => rights.as_ref().map_or(false, |rights| rights.are_public(right, tenant)),
             _ => self.may(right, tenant),
         }
+    }
+
+    /// Returns whether the sender may read something of a tenant, whether it is there or not.
+    pub(crate) fn may_read_some_of(&self, tenant: &str) -> bool {
+        let reaches = match (&self.identity, &self.rights) {
+            (Identity::Robot(robot), _) => robot.reaches(tenant),
+            (Identity::User(user), Some(rights)) => rights.reach(user, tenant),
+            _ => self.may(Right::Read, tenant),
+        };
+        reaches || self.rights.as_ref().map_or(false, |rights| rights.everybody_reaches(tenant))
     }
 
     /// Returns whether the list of repositories shows a repository to the sender.
@@ -225,6 +248,18 @@ mod tests {
             assert_eq!(sender.may(right, repo), expected, "{text}");
             assert_eq!(sender.check(&Demand { right, repo }).is_ok(), expected);
         }
+        for (identity, tenant, expected) in [
+            (user("acme"), "acme", true),
+            (user("other"), "acme", true),
+            (Identity::Anonymous, "acme", true),
+            (user("acme"), "other", false),
+            (Identity::Anonymous, "acmes", false),
+        ] {
+            assert_eq!(caller(identity, lines).may_read_some_of(tenant), expected, "{tenant}");
+        }
+        assert!(
+            !caller(Identity::Anonymous, None).may_read_some_of("acme") && caller(user("acme"), None).may_read_some_of("acme")
+        );
         assert!(caller(Identity::Anonymous, lines).check_known(Scope::Nothing).is_err());
         assert!(caller(user("x"), lines).check_known(Scope::Nothing).is_ok());
     }

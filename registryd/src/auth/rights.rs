@@ -1,7 +1,7 @@
 //! Rights of users in repositories, and the file that lists them.
 use crate::auth::robots::is_robot;
 use crate::http::paths::Target;
-use crate::metadata::names::{check_prefix, is_below, is_repository};
+use crate::metadata::names::{check_prefix, is_below, is_repository, tenant_of};
 use crate::operation::reload::{parse_lines, read_parsed};
 use hyper::Method;
 use std::collections::HashMap;
@@ -130,6 +130,11 @@ impl Grant {
     pub(super) fn allows(&self, right: Right, repo: &str) -> bool {
         self.rights.contains(&right) && is_below(repo, &self.prefix)
     }
+
+    /// Returns whether it lets something of a tenant be read.
+    pub(super) fn reaches(&self, tenant: &str) -> bool {
+        self.rights.contains(&Right::Read) && (is_below(tenant, &self.prefix) || tenant_of(&self.prefix) == tenant)
+    }
 }
 
 impl fmt::Display for Grant {
@@ -187,10 +192,24 @@ impl Rights {
         self.allow(EVERYBODY, right, repo)
     }
 
+    /// Returns the lines for a user.
+    fn grants(&self, user: &str) -> &[Grant] {
+        self.by_user.get(user).map_or(&[][..], Vec::as_slice)
+    }
+
     /// Returns whether a user has a right in a repository by a line for the user.
     pub(super) fn allow(&self, user: &str, right: Right, repo: &str) -> bool {
-        let grants = self.by_user.get(user).map_or(&[][..], Vec::as_slice);
-        grants.iter().any(|grant| grant.allows(right, repo))
+        self.grants(user).iter().any(|grant| grant.allows(right, repo))
+    }
+
+    /// Returns whether a line for the user lets something of a tenant be read.
+    pub(super) fn reach(&self, user: &str, tenant: &str) -> bool {
+        self.grants(user).iter().any(|grant| grant.reaches(tenant))
+    }
+
+    /// Returns whether everybody may read something of a tenant.
+    pub(super) fn everybody_reaches(&self, tenant: &str) -> bool {
+        self.reach(EVERYBODY, tenant)
     }
 }
 

@@ -158,6 +158,20 @@ impl Robot {
         self.grants.iter().any(|grant| grant.allows(right, repo))
     }
 
+    /// Returns whether it may read something of a tenant.
+    pub(super) fn reaches(&self, tenant: &str) -> bool {
+        self.grants.iter().any(|grant| grant.reaches(tenant))
+    }
+
+    /// Returns whether it is neither revoked nor at its end.
+    fn is_active(&self) -> bool {
+        let has_ended = self.ends <= time_of_day();
+        if has_ended {
+            tracing::info!(robot = %self.name, "refused a robot whose time has ended");
+        }
+        !self.is_revoked && !has_ended
+    }
+
     /// Returns what is shown of it.
     pub(crate) fn json(&self) -> Value {
         let state = match self.is_revoked {
@@ -195,12 +209,13 @@ impl Robots {
     pub(super) fn accept(&self, name: &str, secret: &str) -> Option<Arc<Robot>> {
         let found = self.read().get(name).cloned();
         let is_right = is_same(&hash_of(secret), found.as_ref().map_or(&[0; HASH_LEN], |robot| &robot.hash));
-        let robot = found.filter(|robot| is_right && !robot.is_revoked)?;
-        if robot.ends <= time_of_day() {
-            tracing::info!(robot = %robot.name, "refused a robot whose time has ended");
-            return None;
-        }
-        Some(robot)
+        found.filter(|_| is_right).filter(|robot| robot.is_active())
+    }
+
+    /// Returns the robot that was accepted earlier, if it is still there.
+    pub(super) fn still(&self, accepted: &Robot) -> Option<Arc<Robot>> {
+        let found = self.read().get(&accepted.name).cloned();
+        found.filter(|robot| robot.hash == accepted.hash && robot.is_active())
     }
 
     /// Makes a robot, and returns it with its secret, which is not kept.

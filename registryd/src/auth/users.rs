@@ -136,6 +136,11 @@ impl Users {
         self.hashes.contains_key(user)
     }
 
+    /// Returns the hash of a user's password.
+    pub(super) fn hash_of(&self, user: &str) -> Option<&String> {
+        self.hashes.get(user)
+    }
+
     /// Returns whether a password is the one that was accepted last for the user, by the hash that the user has now.
     fn is_cached(&self, user: &str, password: &str) -> bool {
         let salted = self.logins.salted(password);

@@ -1,5 +1,6 @@
 //! The state of the registry, which all requests share.
 use crate::auth::access::{Access, Caller};
+use crate::browse::pages::Pages;
 use crate::events::reporter::{Recorder, Reporter};
 use crate::folder::disk_probe::DiskProbe;
 use crate::folder::files::Folder;
@@ -59,6 +60,8 @@ pub(crate) struct Registry {
     pub(crate) sweeps: SweepHistory,
     pub(crate) memory: Arc<Memory>,
     pub(crate) metrics_access: MetricsAccess,
+    /// The pages on which people browse the registry, if they are served.
+    pub(crate) pages: Option<Arc<Pages>>,
     pub(crate) tenants: Vec<String>,
     pub(crate) slots: u32,
     /// The maximum length of a blob, in bytes.

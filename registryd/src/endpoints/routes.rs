@@ -1,5 +1,7 @@
 //! Dispatches each request to its endpoint, after the checks that all have in common.
+use crate::auth::access::Caller;
 use crate::auth::rights::{Demand, Scope};
+use crate::browse::is_page;
 use crate::endpoints::call::Call;
 use crate::endpoints::registry::{MetricsAccess, Registry};
 use crate::endpoints::{blobs, catalog, manifests, mirrored, referrers, tags, untagged, uploads};
@@ -128,6 +130,9 @@ impl Registry {
         if path == READY {
             return self.readiness().await;
         }
+        if let Some(pages) = self.pages.clone().filter(|_| is_page(&path)) {
+            return self.browse(pages, head, content).await;
+        }
         let decoded = decoded(&path);
         let target = decoded.as_deref().and_then(Target::of);
         let demand = target.as_ref().and_then(|target| Demand::of(&head.method, target));
@@ -153,11 +158,22 @@ impl Registry {
         if !allowed.split(", ").any(|method| method == head.method.as_str()) {
             return Err(Fault::method(allowed));
         }
-        let demand = match demand {
-            Some(demand) => demand,
-            None if target == Target::Catalog => return catalog::list(&self, &caller, head.uri.query()),
-            None => return self.probe(&[("Docker-Distribution-API-Version", "registry/2.0")]).await,
-        };
+        match target {
+            Target::Catalog => catalog::list(&self, &caller, head.uri.query()),
+            Target::Base => self.probe(&[("Docker-Distribution-API-Version", "registry/2.0")]).await,
+            target => self.serve_target(head, caller, target, content).await,
+        }
+    }
+
+    /// Serves a request to a resource of a repository, whose sender is known. The method is one of the resource.
+    pub(crate) async fn serve_target(
+        self: Arc<Self>,
+        head: Parts,
+        caller: Caller,
+        target: Target<'_>,
+        content: &mut RequestContent,
+    ) -> HandlerResult {
+        let demand = Demand::of(&head.method, &target).ok_or_else(Fault::path)?;
         if self.debug.has(Some(demand.repo)) {
             let (user, right, allowed) = (caller.user(), demand.word(), caller.check(&demand).is_ok());
             tracing::debug!(repo = demand.repo, user = user.unwrap_or("-"), right, allowed, "its rights");
@@ -202,7 +218,7 @@ impl Registry {
             (&Method::GET, Target::Blob { digest, .. }) => blobs::get(&call, digest).await,
             (&Method::HEAD, Target::Blob { digest, .. }) => blobs::head(&call, digest).await,
             (&Method::DELETE, Target::Blob { digest, .. }) => blobs::delete(&call, digest).await,
-            _ => Err(Fault::method(allowed)),
+            (_, target) => Err(Fault::method(target.methods())),
         }
     }
 

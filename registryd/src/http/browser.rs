@@ -2,12 +2,12 @@
 use hyper::header::{HeaderValue, CONTENT_SECURITY_POLICY, X_CONTENT_TYPE_OPTIONS};
 use hyper::{Body, Response};
 
-/// The policy of each response but the page: a document has an origin of its own, runs no script, and loads nothing (Content
+/// The policy of each response but the pages: a document has an origin of its own, runs no script, and loads nothing (Content
 /// Security Policy Level 3, 6.3.2).
 const POLICY: &str = "default-src 'none'; sandbox";
 
-/// Adds the headers by which a browser takes a response as its type alone, and runs nothing that is in it. The page has a policy of
-/// its own, which stays.
+/// Adds the headers by which a browser takes a response as its type alone, and runs nothing that is in it. The pages have
+/// policies of their own, which stay.
 pub(crate) fn restrict(mut response: Response<Body>) -> Response<Body> {
     let headers = response.headers_mut();
     headers.insert(X_CONTENT_TYPE_OPTIONS, HeaderValue::from_static("nosniff"));

@@ -21,6 +21,9 @@ pub(crate) const HELD_LEN: u64 = 4 * PIECE_LEN as u64;
 /// The longest manifest, in bytes (the specification asks for at least 4 MiB).
 pub(crate) const MAX_MANIFEST: usize = 4_194_304;
 
+/// The longest content of a form, in bytes.
+const MAX_FORM: usize = 16 << 10;
+
 /// The time for which a client may send nothing, if its connection has no other limit.
 const IDLE_TIME: Duration = Duration::from_secs(60);
 
@@ -140,11 +143,24 @@ impl RequestContent {
 
     /// Returns the content of a manifest. Fails if it is longer than `MAX_MANIFEST`.
     pub(crate) async fn manifest(&mut self) -> Result<Vec<Bytes>, Fault> {
-        let too_long = || {
-            let message = format!("the manifest is longer than {MAX_MANIFEST} bytes");
-            Fault::new(StatusCode::PAYLOAD_TOO_LARGE, "SIZE_INVALID", message)
-        };
-        if self.len.map_or(false, |len| len > MAX_MANIFEST as u64) {
+        self.all(MAX_MANIFEST, "manifest").await
+    }
+
+    /// Returns the content of a form as text. Fails if its length is not given, or is more than `MAX_FORM`.
+    pub(crate) async fn form(&mut self) -> Result<String, Fault> {
+        if self.len.is_none() {
+            let message = "a form needs the header Content-Length";
+            return Err(Fault::new(StatusCode::LENGTH_REQUIRED, "SIZE_INVALID", message));
+        }
+        let bytes = self.all(MAX_FORM, "form").await?.concat();
+        String::from_utf8(bytes).map_err(|_| Fault::new(StatusCode::BAD_REQUEST, "UNSUPPORTED", "the form is not UTF-8"))
+    }
+
+    /// Returns the content. Fails if it is longer than `most` bytes. `what` names it in the message.
+    async fn all(&mut self, most: usize, what: &str) -> Result<Vec<Bytes>, Fault> {
+        let too_long =
+            || Fault::new(StatusCode::PAYLOAD_TOO_LARGE, "SIZE_INVALID", format!("the {what} is longer than {most} bytes"));
+        if self.len.map_or(false, |len| len > most as u64) {
             return Err(too_long());
         }
         let mut all_parts = Vec::new();
@@ -154,7 +170,7 @@ impl RequestContent {
             len += parts.iter().map(Bytes::len).sum::<usize>();
             all_parts.extend(parts);
             match then {
-                _ if len > MAX_MANIFEST => return Err(too_long()),
+                _ if len > most => return Err(too_long()),
                 Then::End => return Ok(all_parts),
                 Then::CutOff => return Err(Fault::cut_off()),
                 Then::More => {}

@@ -147,6 +147,11 @@ impl Fault {
         &self.message
     }
 
+    /// Returns the status.
+    pub(crate) fn status(&self) -> StatusCode {
+        self.status
+    }
+
     /// Returns whether there is no such thing.
     pub(crate) fn is_unknown(&self) -> bool {
         self.status == StatusCode::NOT_FOUND

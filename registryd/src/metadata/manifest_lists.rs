@@ -3,7 +3,9 @@ use crate::http::pages::{Page, MAX_PAGE};
 use crate::metadata::document::Facts;
 use crate::metadata::manifest_table::ManifestTable;
 use crate::metadata::repository::{NamedManifest, Repository};
+use crate::metadata::tag::Tag;
 use crate::operation::locks::guard_of;
+use std::collections::BTreeMap;
 use std::ops::Bound;
 
 /// A manifest that has a subject.
@@ -55,7 +57,35 @@ pub(crate) struct TagOverview {
     pub(crate) referrers: Page<Referrer>,
 }
 
+/// A tag, and when it was pushed.
+#[derive(Clone, Debug, PartialEq, Eq)]
+pub(crate) struct TagRow {
+    pub(crate) name: String,
+    pub(crate) manifest: NamedManifest,
+    /// In seconds since 1970.
+    pub(crate) pushed: u64,
+}
+
+/// A repository with the numbers of its tags and manifests.
+#[derive(Debug, PartialEq, Eq)]
+pub(crate) struct RepositoryRow {
+    pub(crate) name: String,
+    pub(crate) tags: usize,
+    pub(crate) manifests: usize,
+}
+
+/// Returns the entries after `last` whose keys begin with a prefix.
+fn after<'m, V>(map: &'m BTreeMap<String, V>, prefix: &'m str, last: &'m str) -> impl Iterator<Item = (&'m String, &'m V)> {
+    let begin = if last < prefix { Bound::Included(prefix) } else { Bound::Excluded(last) };
+    map.range::<str, _>((begin, Bound::Unbounded)).take_while(move |(name, _)| name.starts_with(prefix))
+}
+
 impl Repository {
+    /// Returns a tag with its manifest and its time, unless the manifest is marked.
+    fn tag_row(&self, name: &str, tag: &Tag) -> Option<TagRow> {
+        Some(TagRow { name: name.to_string(), manifest: self.named(&tag.digest)?, pushed: tag.times.pushed })
+    }
+
     /// Returns a tag with its manifest and the first referrers of that.
     fn tag_overview(&self, tag: &str, manifest: NamedManifest, most: usize) -> TagOverview {
         let mut all = self.referrers_after(&manifest.digest, "");
@@ -87,6 +117,69 @@ impl ManifestTable {
         let after = repos.range::<str, _>((Bound::Excluded(last), Bound::Unbounded));
         let visible = after.filter(|(name, repo)| may_list(name) && guard_of(repo.lock()).is_visible());
         Page::of(visible.map(|(name, _)| name.clone()), most.min(MAX_PAGE))
+    }
+
+    /// Returns the first repositories after `last` in order whose names begin with a prefix, and that have manifests and may be listed, at
+    /// most `most`.
+    ///
+    /// # Cost
+    ///
+    /// Looks at each repository of the prefix until it has enough.
+    pub(crate) fn repository_rows(
+        &self,
+        prefix: &str,
+        last: &str,
+        most: usize,
+        may_list: impl Fn(&str) -> bool,
+    ) -> Page<RepositoryRow> {
+        let repos = guard_of(self.repos.read());
+        let rows = after(&repos, prefix, last).filter(|(name, _)| may_list(name)).filter_map(|(name, repo)| {
+            let repo = guard_of(repo.lock());
+            let row = || RepositoryRow { name: name.clone(), tags: repo.tags.len(), manifests: repo.manifests.len() };
+            repo.is_visible().then(row)
+        });
+        Page::of(rows, most.min(MAX_PAGE))
+    }
+
+    /// Returns the first tags after `last` in order that begin with a prefix, at most `most`. Returns `None` if the repository has no
+    /// manifest.
+    pub(crate) fn tag_rows(&self, repo: &str, prefix: &str, last: &str, most: usize) -> Option<Page<TagRow>> {
+        let rows = |repo: &mut Repository| {
+            let rows = after(&repo.tags, prefix, last).filter_map(|(name, tag)| repo.tag_row(name, tag));
+            repo.is_visible().then(|| Page::of(rows, most.min(MAX_PAGE)))
+        };
+        self.with(repo, rows).flatten()
+    }
+
+    /// Returns a tag with its manifest and its time.
+    pub(crate) fn tag_row(&self, repo: &str, name: &str) -> Option<TagRow> {
+        self.with(repo, |repo| repo.tag_row(name, repo.tags.get(name)?)).flatten()
+    }
+
+    /// Returns the first tags of a manifest in order, at most `most`.
+    ///
+    /// # Cost
+    ///
+    /// Compares each tag of the repository, as a delete of the manifest does.
+    pub(crate) fn tags_of(&self, repo: &str, digest: &str, most: usize) -> Page<String> {
+        let find = |repo: &mut Repository| {
+            let of_manifest = repo.tags.iter().filter(|(_, tag)| tag.digest == digest);
+            Page::of(of_manifest.map(|(name, _)| name.clone()), most)
+        };
+        self.with(repo, find).unwrap_or(Page { items: Vec::new(), more: false })
+    }
+
+    /// Returns the manifests of a repository that are no indexes and have no subject, but for one, in the order of digests.
+    pub(crate) fn images_but(&self, repo: &str, digest: &str) -> Vec<NamedManifest> {
+        let find = |repo: &mut Repository| {
+            let images = repo.manifests.iter().filter(|(other, manifest)| {
+                *other != digest && manifest.facts.lists.is_empty() && manifest.facts.subject.is_none()
+            });
+            let mut found: Vec<NamedManifest> = images.filter_map(|(digest, _)| repo.named(digest)).collect();
+            found.sort_unstable_by(|one, other| one.digest.cmp(&other.digest));
+            found
+        };
+        self.with(repo, find).unwrap_or_default()
     }
 
     /// Returns the names of all repositories, in order.
@@ -175,6 +268,52 @@ mod tests {
         assert_eq!(page("", 3), Page { items: texts(&["v1", "v2", "v3"]), more: false });
         assert_eq!(page("", 0), Page { items: vec![], more: true });
         assert_eq!(table.page("acme/other", "", 2), None);
+    }
+
+    #[test]
+    fn rows_begin_with_a_prefix() {
+        let table = ManifestTable::default();
+        for (number, tag) in ["v1", "v10", "v2", "w"].into_iter().enumerate() {
+            table.put("acme/web", "sha256:a", Facts::default(), Some(tag), number as u64);
+        }
+        let names = |prefix, last, most| {
+            let page = table.tag_rows("acme/web", prefix, last, most).unwrap();
+            (page.items.iter().map(|row| row.name.clone()).collect::<Vec<_>>().join(" "), page.more)
+        };
+        assert_eq!(names("", "", 3), ("v1 v10 v2".to_string(), true));
+        assert_eq!(names("v1", "", 9), ("v1 v10".to_string(), false));
+        assert_eq!(names("v", "v10", 1), ("v2".to_string(), false));
+        assert_eq!((names("x", "", 9), names("v", "w", 9)), ((String::new(), false), (String::new(), false)));
+        assert_eq!(table.tag_row("acme/web", "v2").map(|row| row.pushed), Some(2));
+        assert_eq!((table.tag_row("acme/web", "x"), table.tag_rows("acme/none", "", "", 1)), (None, None));
+        assert_eq!(table.tags_of("acme/web", "sha256:a", 3).items.len(), 3);
+        for repo in ["acme-x/web", "acme/a", "acme/app", "acme/b"] {
+            table.put(repo, "sha256:a", Facts::default(), None, 1);
+        }
+        let rows = |prefix, last, most| {
+            let page = table.repository_rows(prefix, last, most, |name| name != "acme/b");
+            (page.items.into_iter().map(|row| row.name).collect::<Vec<_>>().join(" "), page.more)
+        };
+        assert_eq!(rows("acme/", "", 2), ("acme/a acme/app".to_string(), true));
+        assert_eq!(rows("acme/", "acme/app", 2), ("acme/web".to_string(), false));
+        assert_eq!(rows("acme/ap", "", 2), ("acme/app".to_string(), false));
+    }
+
+    #[test]
+    fn images_are_neither_indexes_nor_referrers() {
+        let table = ManifestTable::default();
+        let facts = |lists: &[&str], subject: Option<&str>| Facts {
+            lists: lists.iter().map(|text| text.to_string()).collect(),
+            subject: subject.map(str::to_string),
+            ..Facts::default()
+        };
+        for (digest, facts) in
+            [("b", facts(&[], None)), ("a", facts(&[], None)), ("c", facts(&["a"], None)), ("d", facts(&[], Some("a")))]
+        {
+            table.put("acme/web", digest, facts, None, 1);
+        }
+        let digests = |but| table.images_but("acme/web", but).into_iter().map(|named| named.digest).collect::<String>();
+        assert_eq!((digests("c"), digests("a")), ("ab".to_string(), "b".to_string()));
     }
 
     #[test]

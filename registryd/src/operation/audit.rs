@@ -1,5 +1,6 @@
 //! The audit log: a file with a line of JSON for each request to a repository, each refused login, each delete by the registry's own
 //! work, and each robot that is made or revoked. It has no password and no token. A thread writes it, so that no request waits for its disk.
+use crate::browse::{Place, Reference};
 use crate::endpoints::manifests::is_digest;
 use crate::http::exchange::shortened;
 use crate::http::paths::{decoded, query_value, Target};
@@ -130,6 +131,22 @@ fn action_of(method: &Method, target: &Target<'_>, query: Option<&str>) -> &'sta
     }
 }
 
+/// Returns what a request for a page asks for.
+fn asked_of_page(method: &Method, place: Place<'_>) -> Asked {
+    let action = match place {
+        Place::Delete(_) if method == Method::POST => "delete",
+        Place::Login => "login",
+        _ => "browse",
+    };
+    let (repo, reference) = place.subject().map_or((None, None), |(repo, reference)| (Some(repo.to_string()), reference));
+    let text = reference.map(|reference| shortened(reference.text(), MOST_TEXT));
+    let (tag, digest) = match reference {
+        Some(Reference::Tag(_)) => (text, None),
+        _ => (None, text),
+    };
+    Asked { action, repository: repo, tag, digest, ..Asked::default() }
+}
+
 impl Asked {
     /// Returns what a request asks for, if there is an audit log.
     pub(crate) fn of(request: &Request<Body>) -> Option<Asked> {
@@ -137,6 +154,9 @@ impl Asked {
         let useragent = request.headers().get(USER_AGENT).and_then(|text| text.to_str().ok()).unwrap_or_default();
         let (path, query) = (decoded(request.uri().path())?, request.uri().query());
         let mut asked = Asked { action: "other", useragent: shortened(useragent, MOST_TEXT), ..Asked::default() };
+        if let Some(place) = Place::of(&path) {
+            return Some(Asked { useragent: asked.useragent, ..asked_of_page(request.method(), place) });
+        }
         let target = match Target::of(&path) {
             Some(target) => target,
             None => return Some(asked),

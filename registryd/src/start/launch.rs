@@ -1,6 +1,7 @@
 //! Starts the store, reads the database if there is one, and makes the registry over both.
 use crate::auth::access::Access;
 use crate::auth::robots::Robots;
+use crate::browse::pages::Pages;
 use crate::control::socket::ControlSocket;
 use crate::database::writer::{Writer, WriterThread};
 use crate::endpoints::registry::Registry;
@@ -199,6 +200,7 @@ pub(crate) async fn start(options: &Options, files: Files, address: SocketAddr) 
         sweeps: Default::default(),
         provenance,
         metrics_access: options.metrics_access(),
+        pages: options.browse.then(|| Pages::new(is_tls).map(Arc::new)).transpose()?,
         tenants: options.tenant_names(),
         slots: options.slots,
         max_blob: options.max_blob,

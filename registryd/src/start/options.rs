@@ -215,6 +215,9 @@ pub(crate) struct Options {
     /// Serve the metrics only on this address, to everybody
     #[arg(long, value_name = "ADDR:PORT", conflicts_with = "metrics_user")]
     pub(super) metrics_listen: Option<SocketAddr>,
+    /// Serve pages to browse and delete images, below /ui/
+    #[arg(long)]
+    pub(super) browse: bool,
     /// Fail /readyz for this time after SIGTERM, and then stop
     #[arg(long, value_name = "S", default_value_t = 0, value_parser = clap::value_parser!(u64).range(..=3600))]
     pub(crate) drain_s: u64,
