@@ -1,6 +1,7 @@
 //! Requests of this program to other servers: what it trusts, a client for HTTP and HTTPS, and the texts of failures.
+use hyper::body::HttpBody;
 use hyper::client::HttpConnector;
-use hyper::{Client, Uri};
+use hyper::{Body, Client, Uri};
 use hyper_rustls::{HttpsConnector, HttpsConnectorBuilder};
 use rustls::{ClientConfig, RootCertStore};
 use std::net::IpAddr;
@@ -59,6 +60,24 @@ pub(crate) fn ip_of(url: &Uri) -> Option<IpAddr> {
     url.host()?.trim_start_matches('[').trim_end_matches(']').parse().ok()
 }
 
+/// Reads all of a response of at most `most` bytes.
+///
+/// # Errors
+///
+/// - The response was cut.
+/// - It is longer.
+pub(crate) async fn read_at_most(mut body: Body, most: usize) -> Result<Vec<u8>, String> {
+    let mut bytes = Vec::new();
+    while let Some(part) = body.data().await {
+        let part = part.map_err(|error| format!("its response was cut: {}", with_causes(&error)))?;
+        if bytes.len() + part.len() > most {
+            return Err(format!("its response is longer than {most} bytes"));
+        }
+        bytes.extend_from_slice(&part);
+    }
+    Ok(bytes)
+}
+
 /// Returns the text of an error with those of its causes.
 pub(crate) fn with_causes(error: &dyn std::error::Error) -> String {
     let mut text = error.to_string();
@@ -85,5 +104,17 @@ mod tests {
         for text in ["https://localhost/", "http://127.0.0.1.example/", "/x"] {
             assert_eq!(of(text), None, "{text}");
         }
+    }
+
+    #[tokio::test]
+    async fn a_response_has_a_bound() {
+        assert_eq!(read_at_most(Body::from("abcd"), 4).await.unwrap(), b"abcd");
+        assert_eq!(read_at_most(Body::from("abcde"), 4).await.unwrap_err(), "its response is longer than 4 bytes");
+        let (mut sender, body) = Body::channel();
+        tokio::spawn(async move {
+            sender.send_data("ab".into()).await.unwrap();
+            sender.abort();
+        });
+        assert!(read_at_most(body, 4).await.unwrap_err().starts_with("its response was cut"));
     }
 }
