@@ -190,7 +190,7 @@ def check_image(image, root, folder):
         return Running(root, config["User"], [*words, "acme=1000000"], address)
     use_twice(start, folder)
     done = subprocess.run(["chroot", root, *config["Entrypoint"], "acme=1"], stderr=subprocess.PIPE, text=True)
-    assert done.returncode == 2 and "give --htpasswd, --token-key or --let-anybody-in" in done.stderr, done.stderr
+    assert done.returncode == 2 and "give --htpasswd, --oidc, --token-key or --let-anybody-in" in done.stderr, done.stderr
 
 
 def run_in_podman(image, folder):

@@ -199,7 +199,7 @@ def names_of_users_are_none_of_robots():
         with users(f"acme:{CHEAP}", line) as file:
             check(ended("--htpasswd", file), 1, f"{file}: line 2: names that begin with `robot+` are those of `registryd robot`")
     with users("acme read acme", "robot+ci read acme") as rights, users(f"acme:{CHEAP}") as file:
-        check(ended("--htpasswd", file, "--rights", rights), 1, f"{rights}: line 2: a robot gets its rights by `registryd robot add`")
+        check(ended("--htpasswd", file, "--rights", rights), 1, f"{rights}: line 2: names that begin with `robot+` are those of `registryd robot`")
 
 
 def the_next_robots_are_made_at_once():

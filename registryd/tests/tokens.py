@@ -31,11 +31,11 @@ def encoded(data):
     return base64.urlsafe_b64encode(data).rstrip(b"=").decode()
 
 
-def of_der(signature):
-    """Returns the two numbers of a signature in DER as 64 bytes (RFC 7518, 3.4)."""
+def of_der(signature, size=32):
+    """Returns the two numbers of a signature in DER as `size` bytes each (RFC 7518, 3.4)."""
     first = 4 + signature[3]
     numbers = signature[4:first], signature[first + 2:]
-    return b"".join(number[-32:].rjust(32, b"\0") for number in numbers)
+    return b"".join(number[-size:].rjust(size, b"\0") for number in numbers)
 
 
 def sign(path, algorithm, message):

@@ -1,8 +1,10 @@
 //! Authentication and authorization. A user has a password (RFC 7617), or a token of an issuer (RFC 6750). A token lists rights. An
-//! account of a machine has a secret instead of a password, and rights of its own. A file has the rights of users with a password; without it, such a user may use the repositories of the tenant that has the
-//! user's name.
+//! account of a machine has a secret instead of a password, and rights of its own; or a token whose claims have rights by a file. A file has
+//! the rights of users with a password; without it, such a user may use the repositories of the tenant that has the user's name.
+use crate::auth::oidc::{Account, Oidc, TokenFault};
+use crate::auth::reserved::{is_oidc, is_robot};
 use crate::auth::rights::{Demand, Right, Rights, Scope};
-use crate::auth::robots::{is_robot, Robot, Robots};
+use crate::auth::robots::{Robot, Robots};
 use crate::auth::tokens::{Issuer, Token};
 use crate::auth::users::Users;
 use crate::http::fault::Fault;
@@ -16,12 +18,14 @@ use std::sync::Arc;
 /// The challenge to a client that has to send a user and a password (RFC 7617, 2).
 const BASIC: &str = "Basic realm=\"registry\", charset=\"UTF-8\"";
 
-/// The rules that decide which requests are accepted. Without users and an issuer every request is.
+/// The rules that decide which requests are accepted. Without users and issuers every request is.
 #[derive(Default)]
 pub(crate) struct Access {
     pub(crate) users: Option<Arc<FromFile<Users>>>,
     pub(crate) rights: Option<Arc<FromFile<Rights>>>,
     pub(crate) issuer: Option<Arc<Issuer>>,
+    /// The issuers of tokens that machines have anyway.
+    pub(crate) oidc: Option<Oidc>,
     /// The accounts of machines. They count only if requests need credentials.
     pub(crate) robots: Robots,
 }
@@ -29,7 +33,7 @@ pub(crate) struct Access {
 /// The sender of a request, as far as it is known.
 #[derive(Debug)]
 pub(super) enum Identity {
-    /// Anybody, in a registry without users and without an issuer.
+    /// Anybody, in a registry without users and without issuers.
     Anybody,
     /// A client that sent no credentials.
     Anonymous,
@@ -37,6 +41,8 @@ pub(super) enum Identity {
     User(String),
     /// A machine whose secret was right.
     Robot(Arc<Robot>),
+    /// A machine whose token was good.
+    Account(Account),
     /// The holder of a valid token.
     Holder(Token),
 }
@@ -93,23 +99,17 @@ fn unauthorized(issuer: &Option<Arc<Issuer>>, scope: Scope<'_>, error: Option<&s
 impl Access {
     /// Returns whether requests need credentials.
     pub(crate) fn wants_credentials(&self) -> bool {
-        self.users.is_some() || self.issuer.is_some()
+        self.users.is_some() || self.issuer.is_some() || self.oidc.is_some()
     }
 
     /// Returns the sender of a request after checking its credentials. A challenge names what the request needs.
     pub(crate) async fn caller(&self, headers: &HeaderMap, scope: Scope<'_>, client: Option<IpAddr>) -> Result<Caller, Fault> {
-        let identity = match (credentials(headers), &self.users, &self.issuer) {
-            (_, None, None) => Identity::Anybody,
-            (Credentials::Missing, _, _) => Identity::Anonymous,
-            (Credentials::Password(user, password), _, _) => {
-                let found = self.identify(user, &password, client).await?;
-                found.ok_or_else(|| unauthorized(&self.issuer, scope, None))?
-            }
-            (Credentials::Token(text), _, Some(issuer)) => match issuer.verify(&text) {
-                Some(token) => Identity::Holder(token),
-                None => return Err(unauthorized(&self.issuer, scope, Some("invalid_token"))),
-            },
-            _ => return Err(unauthorized(&self.issuer, scope, None)),
+        let identity = match credentials(headers) {
+            _ if !self.wants_credentials() => Identity::Anybody,
+            Credentials::Missing => Identity::Anonymous,
+            Credentials::Password(user, secret) => self.by_password(user, &secret, scope, client).await?,
+            Credentials::Token(text) => self.by_token(&text, scope).await?,
+            Credentials::Invalid => return Err(unauthorized(&self.issuer, scope, None)),
         };
         Ok(self.caller_with(identity))
     }
@@ -118,6 +118,9 @@ impl Access {
     pub(super) async fn identify(&self, user: String, password: &str, client: Option<IpAddr>) -> Result<Option<Identity>, Fault> {
         if is_robot(&user) {
             return Ok(self.robots.accept(&user, password).map(Identity::Robot));
+        }
+        if is_oidc(&user) {
+            return Ok(None);
         }
         match &self.users {
             Some(users) if users.get().accept(&user, password, client).await? => Ok(Some(Identity::User(user))),
@@ -130,6 +133,40 @@ impl Access {
         let rights = self.rights.as_ref().map(|rights| rights.get());
         Caller { identity, rights, issuer: self.issuer.clone() }
     }
+
+    /// Returns the sender of a user and a password, or of what a machine sends in its place.
+    async fn by_password(&self, user: String, secret: &str, scope: Scope<'_>, client: Option<IpAddr>) -> Result<Identity, Fault> {
+        match &self.oidc {
+            Some(oidc) if is_oidc(&user) => self.account(oidc.by_user(&user, secret).await, scope),
+            _ => self.identify(user, secret, client).await?.ok_or_else(|| unauthorized(&self.issuer, scope, None)),
+        }
+    }
+
+    /// Returns the sender of a token. Its issuer decides who verifies it.
+    async fn by_token(&self, text: &str, scope: Scope<'_>) -> Result<Identity, Fault> {
+        if let Some(oidc) = &self.oidc {
+            if let Some(result) = oidc.by_issuer(text).await {
+                return self.account(result, scope);
+            }
+        }
+        match &self.issuer {
+            Some(issuer) => {
+                let token = issuer.verify(text).ok_or_else(|| unauthorized(&self.issuer, scope, Some("invalid_token")))?;
+                Ok(Identity::Holder(token))
+            }
+            None => Err(unauthorized(&self.issuer, scope, None)),
+        }
+    }
+
+    /// Returns the sender of a machine's token. The message of a failure is for those who configure the machine.
+    fn account(&self, result: Result<Account, TokenFault>, scope: Scope<'_>) -> Result<Identity, Fault> {
+        result.map(Identity::Account).map_err(|fault| match fault {
+            TokenFault::Refused(refusal) => {
+                unauthorized(&self.issuer, scope, None).because(&format!("the token is refused: {}", refusal.text()))
+            }
+            TokenFault::NoKeys => Fault::unavailable("the keys of the token's issuer cannot be fetched"),
+        })
+    }
 }
 
 impl Caller {
@@ -138,6 +175,7 @@ impl Caller {
         match &self.identity {
             Identity::User(user) => Some(user),
             Identity::Robot(robot) => Some(&robot.name),
+            Identity::Account(account) => Some(&account.name),
             Identity::Holder(token) => token.user(),
             Identity::Anybody | Identity::Anonymous => None,
         }
@@ -156,6 +194,7 @@ impl Caller {
             (Identity::User(user), Some(rights)) => rights.allow(user, right, repo),
             (Identity::User(user), None) => tenant_of(repo) == user,
             (Identity::Robot(robot), _) => robot.allows(right, repo),
+            (Identity::Account(account), _) => account.allows(right, repo),
             (Identity::Holder(token), _) => token.allows(right, repo),
         };
         has || self.rights.as_ref().map_or(false, |rights| rights.are_public(right, repo))
@@ -191,16 +230,17 @@ impl Caller {
             _ if self.may(demand.right, demand.repo) => Ok(()),
             Identity::User(user) => Err(Fault::denied(user, demand.right.word(), demand.repo)),
             Identity::Robot(robot) => Err(Fault::denied(&robot.name, demand.right.word(), demand.repo)),
+            Identity::Account(account) => Err(Fault::denied(&account.name, demand.right.word(), demand.repo)),
             Identity::Holder(_) => Err(unauthorized(&self.issuer, Scope::Repository(*demand), Some("insufficient_scope"))),
             Identity::Anybody | Identity::Anonymous => Err(unauthorized(&self.issuer, Scope::Repository(*demand), None)),
         }
     }
 
-    /// Fails if the sender sent no credentials, and the registry has users or an issuer.
+    /// Fails if the sender sent no credentials, and the registry has users or issuers.
     pub(crate) fn check_known(&self, scope: Scope<'_>) -> Result<(), Fault> {
         match &self.identity {
             Identity::Anonymous => Err(unauthorized(&self.issuer, scope, None)),
-            Identity::Anybody | Identity::User(_) | Identity::Robot(_) | Identity::Holder(_) => Ok(()),
+            Identity::Anybody | Identity::User(_) | Identity::Robot(_) | Identity::Account(_) | Identity::Holder(_) => Ok(()),
         }
     }
 }

@@ -1,7 +1,12 @@
 //! Who sends a request, and what it may do.
 pub(crate) mod access;
 pub(crate) mod held_login;
+mod issuer_keys;
+mod key_set;
+pub(crate) mod oidc;
+mod oidc_file;
 mod password_queue;
+mod reserved;
 pub(crate) mod rights;
 pub(crate) mod robots;
 pub(crate) mod same;

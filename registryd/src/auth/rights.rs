@@ -1,5 +1,5 @@
 //! Rights of users in repositories, and the file that lists them.
-use crate::auth::robots::is_robot;
+use crate::auth::reserved::check_unreserved;
 use crate::http::paths::Target;
 use crate::metadata::names::{check_prefix, is_below, is_repository, tenant_of};
 use crate::operation::reload::{parse_lines, read_parsed};
@@ -110,7 +110,7 @@ pub(super) struct Grant {
 
 impl Grant {
     /// Makes the grant of two words of a line.
-    fn of(rights: &str, prefix: &str) -> Result<Grant, String> {
+    pub(super) fn of(rights: &str, prefix: &str) -> Result<Grant, String> {
         let right = |word| Right::named(word).ok_or_else(|| format!("no such right: `{word}`: write read, write or delete"));
         let rights = rights.split(',').map(right).collect::<Result<Vec<Right>, String>>()?;
         check_prefix(prefix)?;
@@ -161,9 +161,7 @@ fn parse_line(line: &str) -> Result<(&str, Grant), String> {
     if user == EVERYBODY && grant.rights.iter().any(|right| *right != Right::Read) {
         return Err("everybody may only read: write `* read PREFIX`".to_string());
     }
-    if is_robot(user) {
-        return Err("a robot gets its rights by `registryd robot add`".to_string());
-    }
+    check_unreserved(user)?;
     Ok((user, grant))
 }
 
@@ -259,6 +257,7 @@ mod tests {
             "acme read ..",
             "acme\u{0}read acme",
             "robot+ci read acme",
+            "oidc+ci read acme",
         ];
         for line in lines {
             let why = Rights::parse(&format!("# rights\nacme read acme\n{line}\n")).unwrap_err();

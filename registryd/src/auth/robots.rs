@@ -1,4 +1,5 @@
 //! Accounts of machines. Each has a secret that is shown once, rights of its own, and an end. The database has a hash of the secret.
+use crate::auth::reserved::ROBOT;
 use crate::auth::rights::{Grant, Right};
 use crate::auth::same::is_same;
 use crate::database::change::Change;
@@ -13,9 +14,6 @@ use sha2::{Digest, Sha256};
 use std::collections::BTreeMap;
 use std::io;
 use std::sync::{Arc, RwLock, RwLockReadGuard, RwLockWriteGuard};
-
-/// What the names of robots begin with, and no name of a user.
-const PREFIX: &str = "robot+";
 
 /// What secrets begin with, so that programs that search for secrets find them.
 const SECRET_PREFIX: &str = "regd_";
@@ -87,14 +85,9 @@ pub(crate) struct Robots {
     changing: tokio::sync::Mutex<()>,
 }
 
-/// Returns whether a name is kept for robots.
-pub(super) fn is_robot(user: &str) -> bool {
-    user.starts_with(PREFIX)
-}
-
 /// Returns the whole name of a robot whose name may lack its prefix.
 fn whole(name: &str) -> String {
-    format!("{PREFIX}{}", name.strip_prefix(PREFIX).unwrap_or(name))
+    format!("{ROBOT}{}", name.strip_prefix(ROBOT).unwrap_or(name))
 }
 
 /// Returns the hash of a secret. It is fast: nobody guesses a secret of 256 random bits, however fast the guesses are checked.
@@ -111,7 +104,7 @@ fn new_secret() -> io::Result<String> {
 impl NewRobot {
     /// Returns the robot with a secret.
     fn robot(&self, secret: &str, now: u64) -> Result<Robot, RobotFault> {
-        let name = self.name.strip_prefix(PREFIX).unwrap_or(&self.name);
+        let name = self.name.strip_prefix(ROBOT).unwrap_or(&self.name);
         let invalid = |why: String| Err(RobotFault::Invalid(why));
         if !is_component(name) || name.len() > MAX_NAME {
             return invalid(format!(

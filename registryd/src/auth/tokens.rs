@@ -4,16 +4,17 @@ use crate::auth::rights::{Right, Scope};
 use crate::operation::reload::{read_file, FromFile};
 use jsonwebtoken::errors::{Error, ErrorKind};
 use jsonwebtoken::{decode, Algorithm, DecodingKey, Validation};
+use serde::de::DeserializeOwned;
 use serde::Deserialize;
 use serde_json::{Number, Value};
 use std::path::Path;
 use std::sync::Arc;
 
 /// The maximum length of a token, in bytes.
-const MAX_TOKEN: usize = 16 << 10;
+pub(super) const MAX_TOKEN: usize = 16 << 10;
 
 /// The difference that the clocks of the issuer and of this machine may have, in seconds.
-const LEEWAY: u64 = 60;
+pub(super) const LEEWAY: u64 = 60;
 
 /// The beginning of the DER of a public key on the curve P-256 (RFC 5480), up to the point.
 const P256: [u8; 26] =
@@ -92,6 +93,38 @@ struct Critical {
     crit: Option<Value>,
 }
 
+/// Returns the rules for the claims of a token that an issuer made for an audience.
+fn rules(algorithm: Algorithm, audience: &str, issuer: &str) -> Validation {
+    let mut rules = Validation::new(algorithm);
+    rules.leeway = LEEWAY;
+    rules.validate_nbf = true;
+    rules.set_audience(&[audience]);
+    rules.set_issuer(&[issuer]);
+    rules.set_required_spec_claims(&["exp", "iss", "aud"]);
+    rules
+}
+
+/// Returns the part of a token with a number, decoded.
+pub(super) fn part<T: DeserializeOwned>(text: &str, number: usize) -> Result<T, Error> {
+    let part = text.split('.').nth(number).unwrap_or_default();
+    Ok(serde_json::from_slice(&base64::decode_config(part, base64::URL_SAFE_NO_PAD)?)?)
+}
+
+/// Returns the claims of a token after checking its signature by one algorithm, its times, its issuer and its audience.
+pub(super) fn verified<T: DeserializeOwned>(
+    text: &str,
+    key: &DecodingKey,
+    algorithm: Algorithm,
+    audience: &str,
+    issuer: &str,
+) -> Result<T, Error> {
+    let claims = decode(text, key, &rules(algorithm, audience, issuer))?.claims;
+    match part::<Critical>(text, 0)?.crit {
+        Some(_) => Err(ErrorKind::InvalidToken.into()),
+        None => Ok(claims),
+    }
+}
+
 /// A token that was verified.
 #[derive(Debug)]
 pub(super) struct Token {
@@ -139,28 +172,13 @@ impl Issuer {
         let keys = self.keys.get();
         let mut why = Error::from(ErrorKind::InvalidToken);
         for key in keys.iter().filter(|_| text.len() <= MAX_TOKEN) {
-            match self.verify_with(text, key) {
+            match verified(text, &key.key, key.algorithm, &self.service, &self.name) {
                 Ok(claims) => return Some(Token { claims }),
                 Err(error) => why = error,
             }
         }
         tracing::info!(%why, "refused a token");
         None
-    }
-
-    fn verify_with(&self, text: &str, key: &Key) -> Result<Claims, Error> {
-        let mut rules = Validation::new(key.algorithm);
-        rules.leeway = LEEWAY;
-        rules.validate_nbf = true;
-        rules.set_audience(&[&self.service]);
-        rules.set_issuer(&[&self.name]);
-        rules.set_required_spec_claims(&["exp", "iss", "aud"]);
-        let claims = decode::<Claims>(text, &key.key, &rules)?.claims;
-        let header = base64::decode_config(text.split('.').next().unwrap_or_default(), base64::URL_SAFE_NO_PAD)?;
-        match serde_json::from_slice::<Critical>(&header)?.crit {
-            Some(_) => Err(ErrorKind::InvalidToken.into()),
-            None => Ok(claims),
-        }
     }
 
     /// Returns the challenge to a client that has to send a token for what it wants, or another one because of an error (RFC 6750,
@@ -178,7 +196,7 @@ impl Issuer {
 }
 
 #[cfg(test)]
-mod tests {
+pub(super) mod tests {
     use super::*;
     use crate::auth::rights::Demand;
     use jsonwebtoken::{encode, get_current_timestamp, EncodingKey, Header};
@@ -191,13 +209,13 @@ mod tests {
         -----END PUBLIC KEY-----\n";
 
     /// A new key on P-256: the private one in DER, and the public one in PEM.
-    struct Pair {
+    pub(crate) struct Pair {
         private: Vec<u8>,
-        public: String,
+        pub(crate) public: String,
     }
 
     impl Pair {
-        fn new() -> Pair {
+        pub(crate) fn new() -> Pair {
             let algorithm = &ring::signature::ECDSA_P256_SHA256_FIXED_SIGNING;
             let private = EcdsaKeyPair::generate_pkcs8(algorithm, &ring::rand::SystemRandom::new()).unwrap().as_ref().to_vec();
             let pair = EcdsaKeyPair::from_pkcs8(algorithm, &private).unwrap();
@@ -205,8 +223,15 @@ mod tests {
             Pair { private, public: pem::encode(&pem::Pem { tag: "PUBLIC KEY".to_string(), contents }) }
         }
 
-        fn key(&self) -> EncodingKey {
+        pub(crate) fn key(&self) -> EncodingKey {
             EncodingKey::from_ec_der(&self.private)
+        }
+
+        /// Returns the coordinates of the public key.
+        pub(crate) fn point(&self) -> (Vec<u8>, Vec<u8>) {
+            let der = pem::parse(&self.public).unwrap().contents;
+            let (x, y) = der[P256.len() + 1..].split_at(32);
+            (x.to_vec(), y.to_vec())
         }
 
         /// Returns a token with these claims instead of others.

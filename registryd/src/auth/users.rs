@@ -1,6 +1,6 @@
 //! The file of users, the hashes of their passwords, and the passwords that were accepted.
 use crate::auth::password_queue::{PasswordQueue, Sender};
-use crate::auth::robots::is_robot;
+use crate::auth::reserved::check_unreserved;
 use crate::auth::same::is_same;
 use crate::http::fault::Fault;
 use crate::operation::locks::guard_of;
@@ -88,10 +88,10 @@ fn is_locked(hash: &str) -> bool {
 /// Parses a line `USER:HASH` whose hash this program can check. `tried` has the formats that the system is known to support.
 fn parse_line<'l>(line: &'l str, tried: &mut HashSet<&'static str>) -> Result<(&'l str, &'l str), &'static str> {
     let (user, hash) = match line.split_once(':') {
-        Some((user, _)) if is_robot(user) => return Err("names that begin with `robot+` are those of `registryd robot`"),
         Some((user, hash)) if !user.is_empty() => (user, hash),
         _ => return Err("not USER:HASH"),
     };
+    check_unreserved(user)?;
     if is_locked(hash) {
         return Ok((user, hash));
     }
@@ -261,7 +261,17 @@ mod tests {
         }
         let apr1 = "acme:$apr1$Zk7Yq2xT$DZ7UqqZQZkSc1.xlOGv7u.";
         let short = &format!("acme:{}", &BCRYPT[..40]);
-        for line in [apr1, short, "acme:{SHA}qUqP5cyxm6YcTAhz05Hph5gvu9M=", "acme:secret", "acme", ":x", "acme:", "robot+ci:!"] {
+        for line in [
+            apr1,
+            short,
+            "acme:{SHA}qUqP5cyxm6YcTAhz05Hph5gvu9M=",
+            "acme:secret",
+            "acme",
+            ":x",
+            "acme:",
+            "robot+ci:!",
+            "oidc+ci:!",
+        ] {
             assert!(parse_line(line, &mut HashSet::new()).is_err(), "{line}");
         }
     }

@@ -42,7 +42,7 @@ pub(super) fn list(registry: &Registry) -> HandlerResult {
 /// Makes a robot, and returns its secret.
 pub(super) async fn add(registry: &Registry, content: &[u8]) -> HandlerResult {
     if !registry.access.wants_credentials() {
-        return Err(invalid("requests need no credentials here: give --htpasswd or --token-key to the registry"));
+        return Err(invalid("requests need no credentials here: give --htpasswd, --oidc or --token-key to the registry"));
     }
     let new: NewRobot = serde_json::from_slice(content).map_err(|error| invalid(&error.to_string()))?;
     let (robot, secret) = registry.access.robots.add(new).await?;

@@ -1,9 +1,10 @@
 //! The receivers of events, and the file that lists them. Its headers and URLs may have secrets, which no log line and no reply has.
 use crate::events::event::{Action, Event};
+use crate::http::client::trusted_by_system;
 use crate::operation::reload::{read_file, FromFile, Reload};
 use hyper::header::{HeaderMap, HeaderName, HeaderValue};
 use hyper::Uri;
-use rustls::{Certificate, ClientConfig, RootCertStore, ServerName};
+use rustls::{ClientConfig, ServerName};
 use serde::Deserialize;
 use serde_json::error::Category;
 use std::collections::{BTreeMap, HashSet};
@@ -141,20 +142,6 @@ fn form_fault(error: &serde_json::Error) -> String {
     }
 }
 
-/// Returns the settings of TLS that trust the certificates of the system.
-fn trusted_by_system() -> Result<Arc<ClientConfig>, String> {
-    let fault = |why: &str| format!("cannot read the certificates that the system trusts: {why}");
-    let found = rustls_native_certs::load_native_certs().map_err(|error| fault(&error.to_string()))?;
-    let mut roots = RootCertStore::empty();
-    // One that is not understood is left out.
-    let used = found.into_iter().map(|found| Certificate(found.0)).filter(|found| roots.add(found).is_ok()).count();
-    if used == 0 {
-        return Err(fault("there are none"));
-    }
-    let config = ClientConfig::builder().with_safe_defaults().with_root_certificates(roots).with_no_client_auth();
-    Ok(Arc::new(config))
-}
-
 /// Parses the text of a file.
 fn parse(bytes: &[u8]) -> Result<Vec<Arc<Receiver>>, String> {
     let form: Form = serde_json::from_slice(bytes).map_err(|error| form_fault(&error))?;
@@ -164,7 +151,7 @@ fn parse(bytes: &[u8]) -> Result<Vec<Arc<Receiver>>, String> {
     let mut config = None;
     let mut trusted = || match &config {
         Some(config) => Ok(Arc::clone(config)),
-        None => Ok(config.insert(trusted_by_system()?).clone()),
+        None => Ok(config.insert(Arc::new(trusted_by_system()?)).clone()),
     };
     let receivers: Result<Vec<_>, String> =
         form.receivers.into_iter().map(|entry| Receiver::of(entry, &mut trusted).map(Arc::new)).collect();

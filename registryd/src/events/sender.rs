@@ -1,6 +1,7 @@
 //! A request to a receiver: over HTTP/1.1, with TLS if its URL has it, on a connection of its own.
 use crate::events::event::MEDIA_TYPE;
 use crate::events::receivers::Receiver;
+use crate::http::client::AGENT;
 use hyper::body::HttpBody;
 use hyper::header::{CONTENT_TYPE, HOST, USER_AGENT};
 use hyper::{Body, Request, StatusCode};
@@ -44,7 +45,7 @@ async fn exchange(receiver: &Receiver, envelope: String) -> Result<StatusCode, S
 fn request(receiver: &Receiver, envelope: String) -> Result<Request<Body>, String> {
     let mut request = Request::post(receiver.path.as_str())
         .header(HOST, receiver.authority.as_str())
-        .header(USER_AGENT, concat!("registryd/", env!("CARGO_PKG_VERSION")))
+        .header(USER_AGENT, AGENT)
         .header(CONTENT_TYPE, MEDIA_TYPE)
         .body(envelope.into())
         .map_err(|_| "the URL is invalid".to_string())?;

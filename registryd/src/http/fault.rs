@@ -32,6 +32,11 @@ impl Fault {
         Fault { header: Some((name, value.into())), ..self }
     }
 
+    /// Returns the failure with another message.
+    pub(crate) fn because(self, message: &str) -> Fault {
+        Fault { message: message.to_string(), ..self }
+    }
+
     fn with_detail(self, detail: Value) -> Fault {
         Fault { detail, ..self }
     }

@@ -1,5 +1,6 @@
-//! HTTP: the connections of clients, what the head and the content of a request say, and the parts of responses.
+//! HTTP: the connections of clients, what the head and the content of a request say, the parts of responses, and a client of other servers.
 pub(crate) mod browser;
+pub(crate) mod client;
 pub(crate) mod conditions;
 pub(crate) mod connections;
 pub(crate) mod content;

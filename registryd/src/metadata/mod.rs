@@ -23,3 +23,4 @@ pub(crate) mod tag;
 pub(crate) mod tag_pattern;
 pub(crate) mod turns;
 pub(crate) mod upload_names;
+pub(crate) mod wildcards;

@@ -1,5 +1,6 @@
 //! Tags that a line of a file covers: a prefix of repositories, and a pattern of tags.
 use crate::metadata::names::{check_prefix, is_below, is_tag};
+use crate::metadata::wildcards::is_matched;
 use std::fmt;
 
 /// Tags of some repositories.
@@ -7,33 +8,6 @@ use std::fmt;
 pub(crate) struct TagPattern {
     prefix: String,
     pattern: String,
-}
-
-/// Returns whether a pattern matches a tag: `*` matches any text, also none, and `?` one character.
-fn is_matched(pattern: &str, tag: &str) -> bool {
-    let (pattern, tag) = (pattern.as_bytes(), tag.as_bytes());
-    let (mut at, mut read) = (0, 0);
-    // The place after the last `*`, and the end of the text that it matches so far.
-    let mut star = None;
-    while read < tag.len() {
-        match (pattern.get(at), star) {
-            (Some(b'*'), _) => {
-                at += 1;
-                star = Some((at, read));
-            }
-            (Some(byte), _) if *byte == b'?' || *byte == tag[read] => {
-                at += 1;
-                read += 1;
-            }
-            (_, Some((after, end))) => {
-                star = Some((after, end + 1));
-                at = after;
-                read = end + 1;
-            }
-            (_, None) => return false,
-        }
-    }
-    pattern[at..].iter().all(|byte| *byte == b'*')
 }
 
 impl TagPattern {
@@ -70,43 +44,5 @@ impl TagPattern {
 impl fmt::Display for TagPattern {
     fn fmt(&self, text: &mut fmt::Formatter) -> fmt::Result {
         write!(text, "{} {}", self.prefix, self.pattern)
-    }
-}
-
-#[cfg(test)]
-mod tests {
-    use super::*;
-
-    #[test]
-    fn a_pattern_has_stars_and_question_marks() {
-        for (pattern, tag) in [
-            ("v1.0", "v1.0"),
-            ("*", "latest"),
-            ("v*", "v"),
-            ("v*", "v1.2.3"),
-            ("v?", "v1"),
-            ("v?.*", "v1.2"),
-            ("*-rc?", "v1-rc1-rc2"),
-            ("*1*", "v1.0"),
-            ("*a*a*b", "aaab"),
-            ("**", "x"),
-            ("?*", "x"),
-        ] {
-            assert!(is_matched(pattern, tag), "{pattern} {tag}");
-        }
-        for (pattern, tag) in [
-            ("v1.0", "v1x0"),
-            ("v1.0", "v1.0.1"),
-            ("v1.0", "v1"),
-            ("v1.0", "xv1.0"),
-            ("v?", "v"),
-            ("v?", "v10"),
-            ("v*", "V1"),
-            ("*-rc?", "v1-rc"),
-            ("*a*a*b", "aab1"),
-            ("?*?", "x"),
-        ] {
-            assert!(!is_matched(pattern, tag), "{pattern} {tag}");
-        }
     }
 }

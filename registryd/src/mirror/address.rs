@@ -1,7 +1,7 @@
 //! Which tenant is a mirror of which registry, and the names of its repositories there.
+use crate::http::client::ip_of;
 use crate::metadata::names::{is_component, is_repository};
 use hyper::Uri;
-use std::net::IpAddr;
 
 /// The address of the registry that a mirror copies, with a prefix of its repositories.
 #[derive(Clone, Debug, PartialEq, Eq)]
@@ -17,13 +17,6 @@ pub(crate) struct Address {
 pub(crate) struct MirrorOf {
     pub(crate) tenant: Option<String>,
     pub(crate) address: Address,
-}
-
-/// Returns whether the host of an authority is an IP address.
-fn is_ip(authority: &str) -> bool {
-    let is_port = |text: &str| text.bytes().all(|byte| byte.is_ascii_digit());
-    let host = authority.rsplit_once(':').filter(|(_, port)| is_port(port)).map_or(authority, |(host, _)| host);
-    host.starts_with('[') || host.parse::<IpAddr>().is_ok()
 }
 
 impl Address {
@@ -44,11 +37,11 @@ impl Address {
             return Err(fault("write users and passwords into the file of --mirror-credentials"));
         }
         let (authority, path) = rest.split_once('/').unwrap_or((rest, ""));
-        let is_host = !authority.is_empty() && format!("{scheme}://{authority}/").parse::<Uri>().is_ok();
-        if !is_host || authority.contains(&['?', '#'][..]) {
+        let url = format!("{scheme}://{authority}/").parse::<Uri>().map_err(|_| fault("it has no valid host"))?;
+        if authority.is_empty() || authority.contains(&['?', '#'][..]) {
             return Err(fault("it has no valid host"));
         }
-        if scheme == "https" && is_ip(authority) {
+        if scheme == "https" && ip_of(&url).is_some() {
             return Err(fault("write the name of the host: certificates of addresses are not supported"));
         }
         let prefix = path.trim_end_matches('/');

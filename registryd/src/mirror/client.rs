@@ -1,4 +1,5 @@
 //! Requests to an upstream by HTTP: TLS, credentials and tokens, redirects, time limits, rate limits.
+use crate::http::client::{with_causes, HttpClient, AGENT};
 use crate::http::content::MAX_MANIFEST;
 use crate::mirror::address::Address;
 use crate::mirror::challenge::Challenge;
@@ -9,17 +10,11 @@ use crate::mirror::tokens::{self, Tokens};
 use crate::operation::locks::guard_of;
 use crate::operation::reload::FromFile;
 use hyper::body::HttpBody;
-use hyper::client::HttpConnector;
 use hyper::header::{HeaderMap, HeaderValue, ACCEPT, AUTHORIZATION, LOCATION, RETRY_AFTER, USER_AGENT};
-use hyper::{Body, Client, Method, Request, Response, StatusCode, Uri};
-use hyper_rustls::{HttpsConnector, HttpsConnectorBuilder};
-use rustls::{ClientConfig, RootCertStore};
+use hyper::{Body, Method, Request, Response, StatusCode, Uri};
 use std::sync::{Arc, Mutex};
 use std::time::{Duration, Instant, SystemTime};
 use tokio::time::timeout;
-
-/// The name of this program in requests (RFC 9110, 10.1.5).
-const AGENT: &str = concat!("registryd/", env!("CARGO_PKG_VERSION"));
 
 /// The maximum number of redirects of a request.
 const REDIRECTS: usize = 5;
@@ -32,37 +27,6 @@ const DOWN_TIME: Duration = Duration::from_secs(5);
 
 /// The time for which an upstream that limits requests is not asked if it does not say how long, and the longest such time.
 const LIMIT_TIMES: (Duration, Duration) = (Duration::from_secs(10), Duration::from_secs(3600));
-
-/// The time for which an unused connection is kept, and the number of such connections to one host.
-const POOL: (Duration, usize) = (Duration::from_secs(30), 8);
-
-/// A client for HTTP and HTTPS.
-pub(crate) type HttpClient = Client<HttpsConnector<HttpConnector>>;
-
-/// Makes a client that trusts the certificate authorities of the system.
-///
-/// # Errors
-///
-/// Fails if the system has none and an upstream has TLS.
-pub(crate) fn http_client(limit: Duration, has_tls: bool) -> Result<HttpClient, String> {
-    let fault = |why: String| format!("cannot read the certificates of the system's authorities: {why}");
-    let found = match rustls_native_certs::load_native_certs() {
-        Err(error) if has_tls => return Err(fault(error.to_string())),
-        found => found.unwrap_or_default(),
-    };
-    let ders: Vec<Vec<u8>> = found.into_iter().map(|certificate| certificate.0).collect();
-    let mut roots = RootCertStore::empty();
-    if roots.add_parsable_certificates(&ders).0 == 0 && has_tls {
-        return Err(fault("there are none: install ca-certificates".to_string()));
-    }
-    let config = ClientConfig::builder().with_safe_defaults().with_root_certificates(roots).with_no_client_auth();
-    let mut connector = HttpConnector::new();
-    connector.enforce_http(false);
-    connector.set_nodelay(true);
-    connector.set_connect_timeout(Some(limit));
-    let https = HttpsConnectorBuilder::new().with_tls_config(config).https_or_http().enable_http1().wrap_connector(connector);
-    Ok(Client::builder().pool_idle_timeout(POOL.0).pool_max_idle_per_host(POOL.1).build(https))
-}
 
 /// When the upstream is asked again.
 #[derive(Default)]
@@ -326,20 +290,6 @@ impl Upstream {
     pub(super) async fn read_short(&self, body: Body) -> Result<Vec<u8>, UpstreamError> {
         self.read(body, MAX_MANIFEST).await.map_err(|error| self.failed(error))
     }
-}
-
-/// Returns the text of an error with those of its causes.
-fn with_causes(error: &dyn std::error::Error) -> String {
-    let mut text = error.to_string();
-    let mut cause = error.source();
-    while let Some(inner) = cause {
-        let own = inner.to_string();
-        if !text.contains(&own) {
-            text = format!("{text}: {own}");
-        }
-        cause = inner.source();
-    }
-    text
 }
 
 /// Returns the text of a header.

@@ -1,6 +1,7 @@
-//! The files of users, rights, keys of tokens, immutable tags, rules for tags, receivers of events, credentials of mirrors and the certificate, and
-//! the audit log.
+//! The files of users, rights, keys of tokens, issuers, immutable tags, rules for tags, receivers of events, credentials of mirrors and the
+//! certificate, and the audit log.
 use crate::auth::access::Access;
+use crate::auth::oidc::Oidc;
 use crate::auth::rights::Rights;
 use crate::auth::tokens::{Issuer, Key};
 use crate::auth::users::{Logins, Users};
@@ -41,9 +42,20 @@ fn issuer(options: &Options, reloads: &mut Reloads) -> Result<Option<Arc<Issuer>
     Ok(Some(Arc::new(Issuer { realm, service, name, keys })))
 }
 
-/// Reads the files of users and rights that there are, and the keys of the issuer.
+/// Reads the issuers of machines' tokens, if there is a file of them.
+fn oidc(options: &Options, reloads: &mut Reloads) -> Result<Option<Oidc>, Failure> {
+    let path = match options.oidc.clone() {
+        Some(path) => path,
+        None => return Ok(None),
+    };
+    let oidc = Oidc::new(path)?;
+    reloads.push(("issuers", oidc.file()));
+    Ok(Some(oidc))
+}
+
+/// Reads the files of users, rights and issuers that there are, and the keys of the issuer of tokens that list rights.
 fn access(options: &Options, reloads: &mut Reloads) -> Result<Access, Failure> {
-    let mut access = Access { issuer: issuer(options, reloads)?, ..Access::default() };
+    let mut access = Access { issuer: issuer(options, reloads)?, oidc: oidc(options, reloads)?, ..Access::default() };
     if let Some(path) = options.htpasswd.clone() {
         let (metrics_user, logins) = (options.metrics_user.clone(), Logins::new());
         let users = FromFile::new(move || read_users(&path, &metrics_user, &logins))?;

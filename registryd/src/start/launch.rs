@@ -160,6 +160,9 @@ pub(crate) async fn start(options: &Options, files: Files, address: SocketAddr) 
     if let Some(log) = audit_log {
         metrics.add(Box::new(log.lost.clone()));
     }
+    if let Some(oidc) = &access.oidc {
+        oidc.count_in(&metrics);
+    }
     if let Some(tags) = &immutable_tags {
         metrics.add(Box::new(tags.refusals.clone()));
     }

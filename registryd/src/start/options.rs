@@ -206,6 +206,9 @@ pub(crate) struct Options {
     /// Accept tokens of an issuer with this name
     #[arg(long, value_name = "NAME", requires = "token_key", value_parser = quotable)]
     pub(super) token_issuer: Option<String>,
+    /// Give tokens of the issuers of this file its rights
+    #[arg(long, value_name = "FILE")]
+    pub(super) oidc: Option<PathBuf>,
     /// Serve without passwords on non-loopback addresses
     #[arg(long)]
     pub(super) let_anybody_in: bool,
@@ -271,7 +274,7 @@ impl Options {
     /// Returns why the options contradict each other, if they do.
     pub(crate) fn conflict(&self) -> Option<String> {
         let open = !self.has_users() && !self.listen.ip().is_loopback() && !self.let_anybody_in;
-        let text = format!("cannot listen: {}: give --htpasswd, --token-key or --let-anybody-in", self.listen);
+        let text = format!("cannot listen: {}: give --htpasswd, --oidc, --token-key or --let-anybody-in", self.listen);
         open.then_some(text).or_else(|| tenants::conflict(&self.tenants)).or_else(|| self.mirrors().err())
     }
 
@@ -309,7 +312,7 @@ impl Options {
 
     /// Returns whether requests need credentials.
     fn has_users(&self) -> bool {
-        self.htpasswd.is_some() || self.token_key.is_some()
+        self.htpasswd.is_some() || self.token_key.is_some() || self.oidc.is_some()
     }
 
     /// Returns the times after which unused uploads are abandoned.
@@ -427,6 +430,7 @@ mod tests {
     fn other_addresses_want_users_or_a_word() {
         assert!(parsed(&["--listen", "0.0.0.0:80", "a=1"]).conflict().is_some());
         assert!(parsed(&["--listen", "0.0.0.0:80", "--htpasswd", "users", "a=1"]).conflict().is_none());
+        assert!(parsed(&["--listen", "0.0.0.0:80", "--oidc", "issuers", "a=1"]).conflict().is_none());
         assert!(parsed(&["--listen", "0.0.0.0:80", "--let-anybody-in", "a=1"]).conflict().is_none());
         let tls = ["--tls-cert", "c", "--tls-key", "k"];
         assert!(parsed(&[&["--listen", "0.0.0.0:443", "a=1"], &tls[..]].concat()).conflict().is_some());
@@ -437,6 +441,7 @@ mod tests {
     fn the_metrics_have_one_place() {
         assert_eq!(parsed(&["a=1"]).metrics_access(), MetricsAccess::Anybody);
         assert_eq!(parsed(&["--htpasswd", "users", "a=1"]).metrics_access(), MetricsAccess::Nobody);
+        assert_eq!(parsed(&["--oidc", "issuers", "a=1"]).metrics_access(), MetricsAccess::Nobody);
         let named = parsed(&["--htpasswd", "users", "--metrics-user", "prometheus", "a=1"]);
         assert_eq!(named.metrics_access(), MetricsAccess::User("prometheus".to_string()));
         assert_eq!(parsed(&["--metrics-listen", "127.0.0.1:1", "a=1"]).metrics_access(), MetricsAccess::Elsewhere);

@@ -1,6 +1,7 @@
 //! The upstreams of mirrors, made before the store starts, so that a wrong file or a missing certificate ends the start at once.
+use crate::http::client::{http_client, HttpClient};
 use crate::mirror::address::Address;
-use crate::mirror::client::{http_client, HttpClient, Upstream};
+use crate::mirror::client::Upstream;
 use crate::mirror::counts::CountsByTenant;
 use crate::mirror::credentials::Credentials;
 use crate::mirror::mirrors::{Mirror, Mirrors, Settings};
