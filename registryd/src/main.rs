@@ -11,6 +11,7 @@ mod http;
 mod metadata;
 mod mirror;
 mod operation;
+mod signatures;
 mod start;
 mod store;
 

@@ -6,6 +6,7 @@ mod key_set;
 pub(crate) mod oidc;
 mod oidc_file;
 mod password_queue;
+pub(crate) mod public_keys;
 mod reserved;
 pub(crate) mod rights;
 pub(crate) mod robots;

@@ -1,7 +1,8 @@
 //! Bearer tokens of an issuer, by Docker's "Token Authentication Specification": signed JSON Web Tokens (RFC 7519) that list what
 //! their holder may do.
+use crate::auth::public_keys::{check_label, read_blocks, P256};
 use crate::auth::rights::{Right, Scope};
-use crate::operation::reload::{read_file, FromFile};
+use crate::operation::reload::FromFile;
 use jsonwebtoken::errors::{Error, ErrorKind};
 use jsonwebtoken::{decode, Algorithm, DecodingKey, Validation};
 use serde::de::DeserializeOwned;
@@ -15,10 +16,6 @@ pub(super) const MAX_TOKEN: usize = 16 << 10;
 
 /// The difference that the clocks of the issuer and of this machine may have, in seconds.
 pub(super) const LEEWAY: u64 = 60;
-
-/// The beginning of the DER of a public key on the curve P-256 (RFC 5480), up to the point.
-const P256: [u8; 26] =
-    *b"\x30\x59\x30\x13\x06\x07\x2a\x86\x48\xce\x3d\x02\x01\x06\x08\x2a\x86\x48\xce\x3d\x03\x01\x07\x03\x42\x00";
 
 /// The beginning of the DER of a public key of Ed25519 (RFC 8410), up to its 32 bytes.
 const ED25519: [u8; 12] = *b"\x30\x2a\x30\x05\x06\x03\x2b\x65\x70\x03\x21\x00";
@@ -35,9 +32,7 @@ pub(crate) struct Key {
 impl Key {
     /// Returns the key of a block of PEM.
     fn of(block: &pem::Pem) -> Result<Key, String> {
-        if block.tag != "PUBLIC KEY" {
-            return Err(format!("a block is not PUBLIC KEY: {}", block.tag));
-        }
+        check_label(block)?;
         let der = &block.contents[..];
         match (der.strip_prefix(&P256), der.strip_prefix(&ED25519)) {
             (Some(point), _) => Ok(Key { key: DecodingKey::from_ec_der(point), algorithm: Algorithm::ES256 }),
@@ -59,13 +54,8 @@ impl Key {
     /// - A block is no public key, or a key is not of RSA from 2,048 bits, P-256 or Ed25519.
     pub(crate) fn read(path: &Path) -> Result<Vec<Key>, String> {
         let fault = |why: String| format!("cannot read the token keys: {}: {why}", path.display());
-        let text = read_file(path).map_err(|error| fault(error.to_string()))?;
-        let blocks = pem::parse_many(text).map_err(|error| fault(error.to_string()))?;
-        let keys = blocks.iter().map(Key::of).collect::<Result<Vec<Key>, String>>().map_err(fault)?;
-        match keys.is_empty() {
-            true => Err(fault("no public key in PEM".to_string())),
-            false => Ok(keys),
-        }
+        let blocks = read_blocks(path).map_err(fault)?;
+        blocks.iter().map(Key::of).collect::<Result<Vec<Key>, String>>().map_err(fault)
     }
 }
 

@@ -7,7 +7,7 @@ mod schema;
 pub(crate) mod sqlite;
 mod statements;
 #[cfg(test)]
-mod test_folder;
+pub(crate) mod test_folder;
 mod upload_numbers;
 pub(crate) mod witness;
 pub(crate) mod writer;

@@ -6,10 +6,10 @@ use crate::metadata::document::Facts;
 use std::path::PathBuf;
 
 /// A folder that is removed after the test.
-pub(super) struct TestFolder(pub(super) PathBuf);
+pub(crate) struct TestFolder(pub(crate) PathBuf);
 
 impl TestFolder {
-    pub(super) fn new() -> TestFolder {
+    pub(crate) fn new() -> TestFolder {
         let path = std::env::temp_dir().join(format!("registryd-{}", uuid::Uuid::new_v4()));
         std::fs::create_dir(&path).unwrap();
         TestFolder(path)

@@ -81,14 +81,15 @@ fn facts_of_stored(content: &[Bytes]) -> Option<Facts> {
     Some(document.facts_of_stored(media_type, size_of(content)))
 }
 
-/// Finds the manifest of a reference, and asks the store about it. The manifest may be deleted after the look-up while its
-/// tag moves to another one. Then the reference is looked up again.
+/// Finds the manifest of a reference, and asks the store about it. Fails if it is a tag whose image lacks a signature. The manifest may
+/// be deleted after the look-up while its tag moves to another one. Then the reference is looked up again.
 async fn read<T, A>(call: &Call, reference: &str, ask: impl Fn(NamedManifest) -> A) -> Result<(NamedManifest, T), Fault>
 where
     A: Future<Output = Result<Result<T, Refusal>, Fault>>,
 {
     for _ in 0..LOOK_UPS {
         let named = look_up(call, reference).await?;
+        call.check_signed(reference, &named.digest).await?;
         match ask(named.clone()).await? {
             Err(Refusal { reason: Reason::ManifestUnknown, .. }) => {}
             answer => return Ok((named, answer?)),

@@ -65,6 +65,7 @@ pub(super) async fn manifest(call: &Call, mirror: &Arc<Mirror>, reference: &str,
 /// Returns the manifest of a reference that is not stored, or its headers if `is_head`.
 async fn passing(call: &Call, manifest: &FetchedManifest, reference: &str, is_head: bool) -> HandlerResult {
     let digest = manifest.digest.as_str();
+    call.check_signed(reference, digest).await?;
     check_match(call, Some(digest))?;
     if has_content(call, digest) {
         return not_modified(digest);

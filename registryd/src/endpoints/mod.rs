@@ -10,6 +10,7 @@ mod referrers;
 pub(crate) mod registry;
 mod reports;
 pub(crate) mod routes;
+mod signed;
 mod tags;
 mod transfer;
 mod untagged;

@@ -24,6 +24,7 @@ use crate::operation::log::DebugScope;
 use crate::operation::metrics::Metrics;
 use crate::operation::status::SweepHistory;
 use crate::operation::tag_rules::Retention;
+use crate::signatures::checking::SignedTags;
 use crate::start::provenance::Provenance;
 use crate::store::client::Store;
 use hyper::StatusCode;
@@ -72,6 +73,8 @@ pub(crate) struct Registry {
     pub(crate) asked_removal: Removal,
     /// The tags that no client moves or deletes, if there is a file of them.
     pub(crate) immutable_tags: Option<ImmutableTags>,
+    /// The tags that are served only if their images are signed, if there is a file of them.
+    pub(crate) signed_tags: Option<SignedTags>,
     /// The rules that let tags go, if there is a file of them.
     pub(crate) retention: Option<Retention>,
     /// The time since which all pulls of tags are known, in seconds since 1970, if they are counted.

@@ -89,6 +89,14 @@ impl Fault {
         Fault::new(StatusCode::CONFLICT, "DENIED", message).with_detail(json!({ "tag": tag, "digest": digest }))
     }
 
+    /// The tag is served only with a signature, which its image lacks. `has_more` is whether the image has more than were tried.
+    pub(crate) fn unsigned(tag: &str, digest: &str, rule: &str, has_more: bool) -> Fault {
+        let tried = if has_more { " among the newest that were tried" } else { "" };
+        let message = format!("tag {tag} must be signed: {digest} has no signature by a key of the rule `{rule}`{tried}");
+        let detail = json!({ "tag": tag, "digest": digest, "rule": rule });
+        Fault::new(StatusCode::FORBIDDEN, "DENIED", message).with_detail(detail)
+    }
+
     /// The content is not a manifest, or differs from its description in the request.
     pub(crate) fn manifest_invalid(message: impl Into<String>) -> Fault {
         Fault::new(StatusCode::BAD_REQUEST, "MANIFEST_INVALID", message)

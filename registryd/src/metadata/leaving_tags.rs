@@ -3,7 +3,7 @@ use crate::metadata::immutable_tags::Rules;
 use crate::metadata::manifest_table::ManifestTable;
 use crate::metadata::repository::Repository;
 use crate::metadata::retention_rules::{Moment, RetentionRules};
-use crate::metadata::tag::{ExpiredTag, Tag, TagTimes};
+use crate::metadata::tag::{digest_in, ExpiredTag, Tag, TagTimes};
 use std::collections::{HashMap, HashSet};
 
 /// What decides which tags leave.
@@ -44,14 +44,6 @@ type Found = (ExpiredTag, TagTimes);
 pub(crate) struct Preview {
     pub(crate) leaving: Vec<(LeavingTag, Option<Holder>)>,
     pub(crate) tags: usize,
-}
-
-/// Returns the digest that a tag has in its name, by which clients name what belongs to a manifest (OCI Distribution Specification 1.1,
-/// "Referrers Tag Schema"). Some add a suffix, such as `.sig`.
-fn digest_in(tag: &str) -> Option<String> {
-    let hex = tag.strip_prefix("sha256-")?.split('.').next()?;
-    let is_hex = hex.len() == 64 && hex.bytes().all(|byte| matches!(byte, b'0'..=b'9' | b'a'..=b'f'));
-    is_hex.then(|| format!("sha256:{hex}"))
 }
 
 impl Repository {

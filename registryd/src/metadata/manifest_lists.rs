@@ -24,6 +24,15 @@ impl Referrer {
     }
 }
 
+/// Which referrers of a manifest are wanted: those of a type, as many as `most`, the newest first.
+#[derive(Clone, Copy, Debug)]
+pub(crate) struct NewestReferrers<'t> {
+    pub(crate) artifact_type: &'t str,
+    pub(crate) most: usize,
+    /// The maximum length of each, in bytes.
+    pub(crate) most_bytes: u64,
+}
+
 /// A manifest without a tag.
 #[derive(Debug, PartialEq, Eq)]
 pub(crate) struct Untagged {
@@ -236,6 +245,21 @@ impl ManifestTable {
             Page { more: wanted.peek().is_some(), items }
         };
         self.with(repo, page).unwrap_or(Page { items: Vec::new(), more: false })
+    }
+
+    /// Returns the digests of the wanted manifests whose subject is a digest. Those that were pushed, or asked for by their digest, last
+    /// come first.
+    pub(crate) fn newest_referrers(&self, repo: &str, subject: &str, wanted: &NewestReferrers<'_>) -> Page<String> {
+        let find = |repo: &mut Repository| {
+            let NewestReferrers { artifact_type, most_bytes, .. } = *wanted;
+            let is_wanted = |facts: &Facts| facts.artifact_type.as_deref() == Some(artifact_type) && facts.size <= most_bytes;
+            let all = repo.referrers_after(subject, "").filter(|(_, facts)| is_wanted(facts));
+            let mut found: Vec<(u64, &String)> =
+                all.filter_map(|(digest, _)| Some((repo.manifest(digest)?.since, digest))).collect();
+            found.sort_unstable_by(|one, other| other.cmp(one));
+            Page::of(found.into_iter().map(|(_, digest)| digest.clone()), wanted.most)
+        };
+        self.with(repo, find).unwrap_or(Page { items: Vec::new(), more: false })
     }
 
     /// Returns what a repository has, with at most `most` tags, and at most `most_referrers` referrers of each.

@@ -46,6 +46,14 @@ pub(crate) struct Pull {
     pub(crate) time: u64,
 }
 
+/// Returns the digest that a tag has in its name, by which clients name what belongs to a manifest (OCI Distribution Specification 1.1,
+/// "Referrers Tag Schema"). Some add a suffix, such as `.sig`.
+pub(crate) fn digest_in(tag: &str) -> Option<String> {
+    let hex = tag.strip_prefix("sha256-")?.split('.').next()?;
+    let is_hex = hex.len() == 64 && hex.bytes().all(|byte| matches!(byte, b'0'..=b'9' | b'a'..=b'f'));
+    is_hex.then(|| format!("sha256:{hex}"))
+}
+
 impl Tag {
     /// Makes a tag that the database has with these times.
     pub(super) fn new(digest: &str, times: TagTimes) -> Tag {

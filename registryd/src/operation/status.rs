@@ -163,6 +163,7 @@ impl Registry {
             "collector": { "sweeps": sweeps, "freed": freed, "held": held, "last": self.sweeps.json() },
             "folder": self.folder_json(),
             "immutable_tags": self.immutable_tags.as_ref().map(|tags| json!({ "rules": tags.rules(), "refusals": tags.refusals.get() })),
+            "signed_tags": self.signed_tags.as_ref().map(|tags| tags.json()),
             "retention": self.retention.as_ref().map(|retention| retention.json()),
             "events": self.events.as_ref().map(|events| events.queue.json()),
             "scrub": self.scrub.as_ref().map(|scrub| scrub.json()),

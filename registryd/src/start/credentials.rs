@@ -1,4 +1,5 @@
-//! The files of users, rights, keys of tokens, issuers, immutable tags, rules for tags, receivers of events, credentials of mirrors and the
+//! The files of users, rights, keys of tokens, issuers, immutable and signed tags, rules for tags, receivers of events, credentials of
+//! mirrors and the
 //! certificate, and the audit log.
 use crate::auth::access::Access;
 use crate::auth::oidc::Oidc;
@@ -14,6 +15,8 @@ use crate::operation::audit::AuditLog;
 use crate::operation::exit::Failure;
 use crate::operation::reload::{FromFile, Reloads};
 use crate::operation::tag_rules::Retention;
+use crate::signatures::checking::SignedTags;
+use crate::signatures::rules::SigningRules;
 use crate::start::options::Options;
 use crate::start::upstreams::Upstreams;
 use std::path::Path;
@@ -74,6 +77,7 @@ fn access(options: &Options, reloads: &mut Reloads) -> Result<Access, Failure> {
 pub(crate) struct Files {
     pub(crate) access: Access,
     pub(crate) immutable_tags: Option<ImmutableTags>,
+    pub(crate) signed_tags: Option<SignedTags>,
     pub(crate) retention: Option<Retention>,
     /// The receivers of events.
     pub(crate) receivers: Option<Arc<ReceiversFile>>,
@@ -86,10 +90,12 @@ pub(crate) struct Files {
 pub(crate) fn files(options: &Options, reloads: &mut Reloads) -> Result<Files, Failure> {
     let access = access(options, reloads)?;
     let immutable_tags = immutable_tags(options, reloads)?;
+    let signed_tags = signed_tags(options, reloads)?;
     let retention = retention(options, reloads)?;
     let receivers = receivers(options, reloads)?;
     let audit_log = audit_log(options, reloads)?;
-    Ok(Files { access, immutable_tags, retention, receivers, audit_log, upstreams: Upstreams::of(options, reloads)? })
+    let upstreams = Upstreams::of(options, reloads)?;
+    Ok(Files { access, immutable_tags, signed_tags, retention, receivers, audit_log, upstreams })
 }
 
 /// Reads the rules that let tags go, if there is a file of them.
@@ -112,6 +118,17 @@ fn immutable_tags(options: &Options, reloads: &mut Reloads) -> Result<Option<Imm
     let rules = FromFile::new(move || Rules::read(&path))?;
     reloads.push(("immutable tags", rules.clone()));
     Ok(Some(ImmutableTags::new(rules)))
+}
+
+/// Reads the tags that need a signature with their keys, if there is a file of them.
+fn signed_tags(options: &Options, reloads: &mut Reloads) -> Result<Option<SignedTags>, Failure> {
+    let path = match options.signed_tags.clone() {
+        Some(path) => path,
+        None => return Ok(None),
+    };
+    let rules = FromFile::new(move || SigningRules::read(&path))?;
+    reloads.push(("signed tags", rules.clone()));
+    Ok(Some(SignedTags::new(rules)))
 }
 
 /// Reads the receivers of events, if there is a file of them.

@@ -152,7 +152,7 @@ impl Tables {
 
 /// Starts the store, reads the database if there is one, and makes the registry over both, which listens on an address.
 pub(crate) async fn start(options: &Options, files: Files, address: SocketAddr) -> Result<Started, Failure> {
-    let Files { access, immutable_tags, retention, receivers, audit_log, upstreams } = files;
+    let Files { access, immutable_tags, signed_tags, retention, receivers, audit_log, upstreams } = files;
     let provenance = Provenance::of(&options.blobd);
     provenance.log();
     let metrics = Metrics::new();
@@ -164,6 +164,9 @@ pub(crate) async fn start(options: &Options, files: Files, address: SocketAddr) 
         oidc.count_in(&metrics);
     }
     if let Some(tags) = &immutable_tags {
+        metrics.add(Box::new(tags.refusals.clone()));
+    }
+    if let Some(tags) = &signed_tags {
         metrics.add(Box::new(tags.refusals.clone()));
     }
     if let Some(retention) = &retention {
@@ -210,6 +213,7 @@ pub(crate) async fn start(options: &Options, files: Files, address: SocketAddr) 
         bounds: options.bounds(),
         asked_removal: options.asked_removal(),
         immutable_tags,
+        signed_tags,
         pulls_since: pulls_since.filter(|_| retention.is_some()),
         retention,
         keeps_untagged: options.keep_untagged,

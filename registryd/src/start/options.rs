@@ -167,6 +167,9 @@ pub(crate) struct Options {
     /// Let no client move or delete the tags of this file
     #[arg(long, value_name = "FILE")]
     pub(super) immutable_tags: Option<PathBuf>,
+    /// Serve the tags of this file only if they are signed
+    #[arg(long, value_name = "FILE")]
+    pub(super) signed_tags: Option<PathBuf>,
     /// Remove tags that no rule of this file keeps
     #[arg(long, value_name = "FILE")]
     pub(super) retention: Option<PathBuf>,
