@@ -1,6 +1,5 @@
 //! The files of users, rights, keys of tokens, issuers, immutable and signed tags, rules for tags, receivers of events, credentials of
-//! mirrors and the
-//! certificate, and the audit log.
+//! mirrors and the certificate, and the audit log.
 use crate::auth::access::Access;
 use crate::auth::oidc::Oidc;
 use crate::auth::rights::Rights;
