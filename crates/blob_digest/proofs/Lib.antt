@@ -8,4 +8,5 @@ pub mod NameTexts
 pub mod RangeTexts
 pub mod Refusals
 pub mod Slices
+pub mod Tenants
 pub mod WordOrder

@@ -62,7 +62,7 @@ of_put C repo m fits some =
     past (check_all_links C repo refs) _ (of_links C repo refs) (λ _.
     elim (has_manifest C repo (sha256_text m)) as (λ b. IsRefusedForOther (if b then Ok (sha256_text m, C) else add_manifest C t repo m)) [
       | true ↦ tt
-      | false ↦ past (refuse (lacks_room_for C t repo) LimitReached) _ (limit (lacks_room_for C t repo)) (λ _. past (refuse (is_full_of_manifests C repo) LimitReached) _ (limit (is_full_of_manifests C repo)) (λ _. tt))
+      | false ↦ past (refuse (lacks_room_for C t repo) LimitReached) _ (limit (lacks_room_for C t repo)) (λ _. past (refuse (is_full_of_manifests C t repo) LimitReached) _ (limit (is_full_of_manifests C t repo)) (λ _. tt))
     ]))))
 
 -- the same holds of the outcome with its reply in another form

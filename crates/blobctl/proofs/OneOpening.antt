@@ -63,7 +63,12 @@ module _ (x y : Tenant) (xs ys : List Tenant) (rising : Rises (x ∷ xs)) (other
       omega (arith, sums f, here, there, rest, rest')
 
   same_heads : x.name ≡ y.name → x ≡ y
-  same_heads name = λ i. record { name = name i; quota = same_value (λ t. t.quota) name i; share = same_value (λ t. t.share) name i }
+  same_heads name = λ i. record {
+    name = name i;
+    quota = same_value (λ t. t.quota) name i;
+    share = same_value (λ t. t.share) name i;
+    limits = record { repos = same_value (λ t. t.limits.repos) name i; manifests = same_value (λ t. t.limits.manifests) name i; sessions = same_value (λ t. t.limits.sessions) name i };
+  }
 
   same_tails : x ≡ y → (f : Tenant → ℕ) → sum_by f xs ≡ sum_by f ys
   same_tails same f = omega (arith, sums f, sum_by-cons f x xs, sum_by-cons f y ys, ap f same)

@@ -153,7 +153,7 @@ module _ (C : Catalog) (none : LentNone C) where
   run_keeps (Delete repo digest) no_lease =
       answered_keeps _ (delete C repo digest) (bind_keeps (tenant C repo) _ (λ t _. bind_keeps (check_link C repo digest) _ (λ _ _. bind_keeps (check_no_referrer (referrer C repo digest)) _ (λ _ _. ok_keeps _ _ none))))
   run_keeps (PutManifest repo bytes) no_lease =
-      answered_keeps _ (put_manifest C repo bytes) (bind_keeps (tenant C repo) _ (λ t _. bind_keeps (refuse (nat_lt max_manifest (length bytes)) no.SizeInvalid) _ (λ _ _. bind_keeps (ok_or (refs_of bytes) no.ManifestInvalid) _ (λ refs _. bind_keeps (check_all_links C repo refs) _ (λ _ _. if_keeps (has_manifest C repo (sha256_text bytes)) _ (add_manifest C t repo bytes) (ok_keeps _ _ none) (bind_keeps (refuse (lacks_room_for C t repo) no.LimitReached) _ (λ _ _. bind_keeps (refuse (is_full_of_manifests C repo) no.LimitReached) _ (λ _ _. ok_keeps _ _ none))))))))
+      answered_keeps _ (put_manifest C repo bytes) (bind_keeps (tenant C repo) _ (λ t _. bind_keeps (refuse (nat_lt max_manifest (length bytes)) no.SizeInvalid) _ (λ _ _. bind_keeps (ok_or (refs_of bytes) no.ManifestInvalid) _ (λ refs _. bind_keeps (check_all_links C repo refs) _ (λ _ _. if_keeps (has_manifest C repo (sha256_text bytes)) _ (add_manifest C t repo bytes) (ok_keeps _ _ none) (bind_keeps (refuse (lacks_room_for C t repo) no.LimitReached) _ (λ _ _. bind_keeps (refuse (is_full_of_manifests C t repo) no.LimitReached) _ (λ _ _. ok_keeps _ _ none))))))))
   run_keeps (GetManifest repo digest) no_lease = read_keeps _ _
   run_keeps (DeleteManifest repo digest) no_lease = answered_keeps _ (delete_manifest C repo digest) (bind_keeps (tenant C repo) _ (λ t _. bind_keeps (manifest C repo digest) _ (λ _ _. ok_keeps _ _ none)))
   run_keeps (RemoveRepo repo) no_lease = answered_keeps _ (remove_repo C repo) (bind_keeps (tenant C repo) _ (λ t _. bind_keeps (check_repo C repo) _ (λ _ _. bind_keeps (refuse (is_in_use C repo) no.RepoInUse) _ (λ _ _. ok_keeps _ _ none))))

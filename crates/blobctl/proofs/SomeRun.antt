@@ -152,7 +152,7 @@ module _ (C : Catalog) where
   delete_fine repo digest = bind_fine (steps.tenant C repo) _ (tenant_fine repo) (λ _. bind_fine (steps.check_link C repo digest) _ (refuse_fine _ _ refl) (λ _. bind_fine (steps.check_no_referrer (steps.referrer C repo digest)) _ (unreferenced_fine _) (λ _. tt)))
 
   add_fine : (t : ℕ) (repo bytes : Text) → Fine (steps.add_manifest C t repo bytes)
-  add_fine t repo bytes = bind_fine (refuse (steps.lacks_room_for C t repo) no.LimitReached) _ (refuse_fine _ _ refl) (λ _. bind_fine (refuse (steps.is_full_of_manifests C repo) no.LimitReached) _ (refuse_fine _ _ refl) (λ _. tt))
+  add_fine t repo bytes = bind_fine (refuse (steps.lacks_room_for C t repo) no.LimitReached) _ (refuse_fine _ _ refl) (λ _. bind_fine (refuse (steps.is_full_of_manifests C t repo) no.LimitReached) _ (refuse_fine _ _ refl) (λ _. tt))
 
   put_fine : (repo bytes : Text) → Fine (steps.put_manifest C repo bytes)
   put_fine repo bytes =

@@ -2,7 +2,7 @@
 //!
 //!     blobd --version
 //!     blobd [--data DIR [--sync closes|each|never] [--accept-loss-after BYTE]]
-//!           SLOTS MAX_BLOB TENANT=QUOTA[,BLOBS].. [-- IN OUT [IN OUT]..]
+//!           SLOTS MAX_BLOB TENANT=QUOTA[,BLOBS[,REPOS,MANIFESTS,UPLOADS]].. [-- IN OUT [IN OUT]..]
 //!
 //! A connection is a pair of files, such as the ends of two pipes. Requests are read from `IN` and replies written to
 //! `OUT`, in the frames of `docs/PROTOCOL.md`. Without files there is one connection: standard input and output. Each

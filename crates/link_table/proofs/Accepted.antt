@@ -31,6 +31,9 @@ module _ (l m : Linked) (t : ℕ) (repo : Text) (b : Bool) (done : appear l t re
       ∙ ap is_some (get-insert nat_list_cmp_total l.repos repo (tt {0}) repo ∙ ap (λ r. cond (is_eq r) (Some tt) (get l.repos repo)) (tied_itself nat_list_cmp_total repo))
 
   -- tenants and links stay
+  pub appear-tenants : m.tenants ≡ l.tenants
+  appear-tenants = ap (λ (x : Linked). x.tenants) appeared
+
   pub appear-own : is_repo_of_tenant l.tenants t repo ≡ true → is_repo_of_tenant m.tenants t repo ≡ true
   appear-own own = ap (λ (x : Linked). is_repo_of_tenant x.tenants t repo) appeared ∙ own
 

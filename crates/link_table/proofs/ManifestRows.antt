@@ -188,14 +188,14 @@ module _ (m : RepoManifestBytes) (k bytes : Text) (refs : List Text) (is : refs_
 
 -- ---- the results of the calls
 
-pub put_there : (m : RepoManifestBytes) (bytes : Text) → fmap.contains_key m (sha256_text bytes) ≡ true → put_in m bytes ≡ Ok (tt {0}, m)
-put_there m bytes there = rw there refl
+pub put_there : (n : ℕ) (m : RepoManifestBytes) (bytes : Text) → fmap.contains_key m (sha256_text bytes) ≡ true → put_in n m bytes ≡ Ok (tt {0}, m)
+put_there n m bytes there = rw there refl
 
-pub put_full : (m : RepoManifestBytes) (bytes : Text) → fmap.contains_key m (sha256_text bytes) ≡ false → 1024 ≤ fmap.len m → put_in m bytes ≡ Err LimitReached
-put_full m bytes none many = rw (none, le-leb 1024 (fmap.len m) many) refl
+pub put_full : (n : ℕ) (m : RepoManifestBytes) (bytes : Text) → fmap.contains_key m (sha256_text bytes) ≡ false → n ≤ fmap.len m → put_in n m bytes ≡ Err LimitReached
+put_full n m bytes none many = rw (none, le-leb n (fmap.len m) many) refl
 
-pub put_new : (m : RepoManifestBytes) (bytes : Text) → fmap.contains_key m (sha256_text bytes) ≡ false → fmap.len m < 1024 → put_in m bytes ≡ Ok (tt {0}, insert m (sha256_text bytes) bytes)
-put_new m bytes none few = rw (none, lt-leb 1024 (fmap.len m) few) refl
+pub put_new : (n : ℕ) (m : RepoManifestBytes) (bytes : Text) → fmap.contains_key m (sha256_text bytes) ≡ false → fmap.len m < n → put_in n m bytes ≡ Ok (tt {0}, insert m (sha256_text bytes) bytes)
+put_new n m bytes none few = rw (none, lt-leb n (fmap.len m) few) refl
 
 seen_some : (o : Option (Arc Text Global)) → is_some (option_map (λ a. a.value) o) ≡ is_some o
 seen_some None = refl

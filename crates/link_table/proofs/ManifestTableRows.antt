@@ -1,5 +1,5 @@
 -- The manifests of all repositories in their trees, as one map.
-use Rattle.std.proofs.Common.{◌≡◌, Bool, true, false, cond, List, [], ◌∷◌, length, map, filter, Option, Some, None, is_some, Result, Ok, Err, refl, sym, ap, ◌∙◌, subst}
+use Rattle.std.proofs.Common.{◌≡◌, ℕ, Bool, true, false, cond, List, [], ◌∷◌, length, map, filter, Option, Some, None, is_some, Result, Ok, Err, refl, sym, ap, ◌∙◌, subst}
 use Rattle.std.specs.Prelude.{◌&&◌, nat_le, IsSome}
 use Rattle.std.specs.declared.cmp.Ordering.{Ordering}
 use Rattle.std.specs.Ordering.{eq_by_cmp, is_lt, ordering_then}
@@ -200,12 +200,12 @@ module _ (g : ManifestsByRepo) (r : Text) where
 
   -- ---- to put a manifest
 
-  put_as : (bytes : Text) → put_on (all_manifests g) r bytes ≡
-      cond (contains_key (group g r) (sha256_text bytes)) (done (all_manifests g)) (cond (nat_le 1024 (len (group g r))) (failed LimitReached) (done (insert (all_manifests g) (r, sha256_text bytes) bytes)))
-  put_as bytes = λ i. cond (is_some (get-all_manifests g r (sha256_text bytes) i)) (done (all_manifests g)) (cond (nat_le 1024 (count-all_manifests g r i)) (failed LimitReached) (done (insert (all_manifests g) (r, sha256_text bytes) bytes)))
+  put_as : (n : ℕ) (bytes : Text) → put_on n (all_manifests g) r bytes ≡
+      cond (contains_key (group g r) (sha256_text bytes)) (done (all_manifests g)) (cond (nat_le n (len (group g r))) (failed LimitReached) (done (insert (all_manifests g) (r, sha256_text bytes) bytes)))
+  put_as n bytes = λ i. cond (is_some (get-all_manifests g r (sha256_text bytes) i)) (done (all_manifests g)) (cond (nat_le n (count-all_manifests g r i)) (failed LimitReached) (done (insert (all_manifests g) (r, sha256_text bytes) bytes)))
 
-  accepted : (bytes : Text) (w : RepoManifestBytes) → put_in (group g r) bytes ≡ done w → put_on (all_manifests g) r bytes ≡ done (all_manifests (insert g r w))
-  accepted bytes w h = put_as bytes ∙ by_tests (contains_key (group g r) (sha256_text bytes)) (nat_le 1024 (len (group g r))) h
+  accepted : (n : ℕ) (bytes : Text) (w : RepoManifestBytes) → put_in n (group g r) bytes ≡ done w → put_on n (all_manifests g) r bytes ≡ done (all_manifests (insert g r w))
+  accepted n bytes w h = put_as n bytes ∙ by_tests (contains_key (group g r) (sha256_text bytes)) (nat_le n (len (group g r))) h
     where
       by_tests : (a b : Bool) → cond a (done (group g r)) (cond b (failed LimitReached) (done (insert (group g r) (sha256_text bytes) bytes))) ≡ done w →
           cond a (done (all_manifests g)) (cond b (failed LimitReached) (done (insert (all_manifests g) (r, sha256_text bytes) bytes))) ≡ done (all_manifests (insert g r w))
@@ -213,8 +213,8 @@ module _ (g : ManifestsByRepo) (r : Text) where
       by_tests false true is = failed_done is
       by_tests false false is = ap (λ m. done m) (sym (all_manifests-insert (sha256_text bytes) bytes) ∙ ap (λ m. all_manifests (insert g r m)) (done_same is))
 
-  refused : (bytes : Text) (e : Refusal) → put_in (group g r) bytes ≡ Err e → put_on (all_manifests g) r bytes ≡ Err e
-  refused bytes e h = put_as bytes ∙ by_tests (contains_key (group g r) (sha256_text bytes)) (nat_le 1024 (len (group g r))) h
+  refused : (n : ℕ) (bytes : Text) (e : Refusal) → put_in n (group g r) bytes ≡ Err e → put_on n (all_manifests g) r bytes ≡ Err e
+  refused n bytes e h = put_as n bytes ∙ by_tests (contains_key (group g r) (sha256_text bytes)) (nat_le n (len (group g r))) h
     where
       by_tests : (a b : Bool) → cond a (done (group g r)) (cond b (failed LimitReached) (done (insert (group g r) (sha256_text bytes) bytes))) ≡ failed {S = RepoManifestBytes} e →
           cond a (done (all_manifests g)) (cond b (failed LimitReached) (done (insert (all_manifests g) (r, sha256_text bytes) bytes))) ≡ failed {S = ManifestBytes} e
@@ -223,9 +223,9 @@ module _ (g : ManifestsByRepo) (r : Text) where
       by_tests false false is = failed_done (sym is)
 
   -- a manifest is put in its repository's
-  pub put-all_manifests : (result : Result (Unit {0}) Refusal) (w : RepoManifestBytes) (bytes : Text) → Does (λ u. u) result (group g r) w (put_in (group g r) bytes) → Does (λ u. u) result (all_manifests g) (all_manifests (insert g r w)) (put_on (all_manifests g) r bytes)
-  put-all_manifests (Ok u) w bytes h = accepted bytes w h
-  put-all_manifests (Err e) w bytes h = (λ other. refused bytes e (h.0 other), ap (λ m. all_manifests (insert g r m)) h.1 ∙ all_manifests-same)
+  pub put-all_manifests : (n : ℕ) (result : Result (Unit {0}) Refusal) (w : RepoManifestBytes) (bytes : Text) → Does (λ u. u) result (group g r) w (put_in n (group g r) bytes) → Does (λ u. u) result (all_manifests g) (all_manifests (insert g r w)) (put_on n (all_manifests g) r bytes)
+  put-all_manifests n (Ok u) w bytes h = accepted n bytes w h
+  put-all_manifests n (Err e) w bytes h = (λ other. refused n bytes e (h.0 other), ap (λ m. all_manifests (insert g r m)) h.1 ∙ all_manifests-same)
 
 -- ---- the tree of the repositories
 
@@ -246,14 +246,14 @@ module _ (rows : tree.BTreeMap Text RepoManifestBytes) (r : Text) where
   pub written : (n : tree.BTreeMap Text RepoManifestBytes) (m w : RepoManifestBytes) → Some m ≡ tree.get text_cmp rows r → (IsSome (tree.get text_cmp rows r) → tree.UpdatesBy text_cmp (text_cmp r) rows n (Some w)) → map_of n ≡ insert (map_of rows) r w
   written n m w is h = insert_is rows n r w (h (is_there (tree.get text_cmp rows r) is)).0
 
-  pub put_there : (n : tree.BTreeMap Text RepoManifestBytes) (m w : RepoManifestBytes) (bytes : Text) (result : Result (Unit {0}) Refusal) → group (map_of rows) r ≡ m → map_of n ≡ insert (map_of rows) r w →
-      Does (λ u. u) result m w (put_in m bytes) → Does (λ u. u) result (manifest_bytes rows) (manifest_bytes n) (put_on (manifest_bytes rows) r bytes)
-  put_there n m w bytes result found new h =
-      subst (λ (x : ManifestsByRepo). Does (λ u. u) result (manifest_bytes rows) (all_manifests x) (put_on (manifest_bytes rows) r bytes)) (sym new)
-      (put-all_manifests (map_of rows) r result w bytes (subst (λ (x : RepoManifestBytes). Does (λ u. u) result x w (put_in x bytes)) (sym found) h))
+  pub put_there : (limit : ℕ) (n : tree.BTreeMap Text RepoManifestBytes) (m w : RepoManifestBytes) (bytes : Text) (result : Result (Unit {0}) Refusal) → group (map_of rows) r ≡ m → map_of n ≡ insert (map_of rows) r w →
+      Does (λ u. u) result m w (put_in limit m bytes) → Does (λ u. u) result (manifest_bytes rows) (manifest_bytes n) (put_on limit (manifest_bytes rows) r bytes)
+  put_there limit n m w bytes result found new h =
+      subst (λ (x : ManifestsByRepo). Does (λ u. u) result (manifest_bytes rows) (all_manifests x) (put_on limit (manifest_bytes rows) r bytes)) (sym new)
+      (put-all_manifests (map_of rows) r limit result w bytes (subst (λ (x : RepoManifestBytes). Does (λ u. u) result x w (put_in limit x bytes)) (sym found) h))
 
-  pub put_refused : (m w : RepoManifestBytes) (bytes : Text) (e : Refusal) → group (map_of rows) r ≡ m → Does {A = Unit {0}} (λ u. u) (Err e) m w (put_in m bytes) → Does {A = Unit {0}} (λ u. u) (Err e) (manifest_bytes rows) (manifest_bytes rows) (put_on (manifest_bytes rows) r bytes)
-  put_refused m w bytes e found h = (λ other. refused (map_of rows) r bytes e (ap (λ x. put_in x bytes) found ∙ h.0 other), refl)
+  pub put_refused : (limit : ℕ) (m w : RepoManifestBytes) (bytes : Text) (e : Refusal) → group (map_of rows) r ≡ m → Does {A = Unit {0}} (λ u. u) (Err e) m w (put_in limit m bytes) → Does {A = Unit {0}} (λ u. u) (Err e) (manifest_bytes rows) (manifest_bytes rows) (put_on limit (manifest_bytes rows) r bytes)
+  put_refused limit m w bytes e found h = (λ other. refused (map_of rows) r limit bytes e (ap (λ x. put_in limit x bytes) found ∙ h.0 other), refl)
 
   pub removed : (n : tree.BTreeMap Text RepoManifestBytes) (m w : RepoManifestBytes) (d : Text) → group (map_of rows) r ≡ m → map_of n ≡ insert (map_of rows) r w → w ≡ remove m d → manifest_bytes n ≡ remove (manifest_bytes rows) (r, d)
   removed n m w d found new is = ap all_manifests (new ∙ ap (insert (map_of rows) r) (is ∙ ap (λ x. remove x d) (sym found))) ∙ all_manifests-remove (map_of rows) r d

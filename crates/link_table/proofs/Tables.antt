@@ -22,7 +22,7 @@ use Rattle.spec_lib.proofs.Texts.{tied_text}
 use Rattle.spec_lib.proofs.Maps.{remove-insert_new}
 use Rattle.spec_lib.proofs.Options.{some_same, some_none, no_value}
 use Rattle.spec_lib.proofs.Rows.{entries-empty, no_tie}
-use Rattle.link_table.specs.Linked.{Linked, Tenant, is_repo_of_tenant, appear, cannot_appear, HasNoLinks}
+use Rattle.link_table.specs.Linked.{Linked, Tenant, is_repo_of_tenant, appear, cannot_appear, HasNoLinks, limits_in}
 use Rattle.link_table.specs.ManifestTable.{ManifestBytes}
 use Rattle.link_table.specs.TenantRepos.{OwnRepos, IsOwned, repos_shown, links_shown, appear_on, repo_count, empty_tenant}
 use Rattle.link_table.proofs.TenantRepos.{repos-there, links-there, repos-insert, repos-same, links-same, counted-there, IsOwned-set}
@@ -73,17 +73,17 @@ refused : (full was : Bool) (m : OwnRepos) (e : Refusal) → ◌≡◌ {A = Resu
 refused true was m e h = (refl, cc)
 refused false was m e h = cc
 
-module _ (s new : OwnRepos) (r : Text) where
+-- the links are unchanged, and no other repository is added
+pub record IsGrown (s new : OwnRepos) (r : Text) : Type 0 where
+  pub links : new.links ≡ s.links
+  pub members : (q : Text) → sets.contains new.repos q ≡ true → (q ≡ r) ⊎ (sets.contains s.repos q ≡ true)
+  pub kept : (q : Text) → sets.contains s.repos q ≡ true → sets.contains new.repos q ≡ true
+
+module _ (n : ℕ) (s new : OwnRepos) (r : Text) where
   abbrev full : Bool
-  full = not (sets.contains s.repos r) && nat_le 1024 (repo_count s)
+  full = not (sets.contains s.repos r) && nat_le n (repo_count s)
 
-  -- the links are unchanged, and no other repository is added
-  pub record IsGrown : Type 0 where
-    pub links : new.links ≡ s.links
-    pub members : (q : Text) → sets.contains new.repos q ≡ true → (q ≡ r) ⊎ (sets.contains s.repos q ≡ true)
-    pub kept : (q : Text) → sets.contains s.repos q ≡ true → sets.contains new.repos q ≡ true
-
-  pub grown : (result : Result Bool Refusal) → Does (λ b. b) result s new (appear_on s r) → IsGrown
+  pub grown : (result : Result Bool Refusal) → Does (λ b. b) result s new (appear_on n s r) → IsGrown s new r
   grown (Ok b) done =
       let is = (accepted full (not (sets.contains s.repos r)) b s (record s { repos = sets.insert s.repos r }) new done).2 in record {
         links = ap (λ (x : OwnRepos). x.links) is;
@@ -97,22 +97,26 @@ module _ (s new : OwnRepos) (r : Text) where
   }
 
 module _ (tenants : List Tenant) (by_tenant : List OwnRepos) (owned : IsOwned tenants by_tenant) (manifests : ManifestBytes) (charges : List ℕ) (t : ℕ) (s : OwnRepos) (at : slice_get by_tenant t ≡ Some s) (r : Text) (own : is_repo_of_tenant tenants t r ≡ true) where
+  -- the tenant's limit
+  abbrev limit : ℕ
+  limit = (limits_in tenants t).repos
+
   -- the table's test is that of the tenant
-  same_test : cannot_appear (linked_of tenants by_tenant manifests charges) t r ≡ not (sets.contains s.repos r) && nat_le 1024 (repo_count s)
-  same_test = λ i. not (is_some (repos-there tenants by_tenant owned t s at r own i)) && nat_le 1024 (counted-there tenants by_tenant owned t s at i)
+  same_test : cannot_appear (linked_of tenants by_tenant manifests charges) t r ≡ not (sets.contains s.repos r) && nat_le limit (repo_count s)
+  same_test = λ i. not (is_some (repos-there tenants by_tenant owned t s at r own i)) && nat_le limit (counted-there tenants by_tenant owned t s at i)
 
   same_new : not (sets.contains (repos_shown by_tenant) r) ≡ not (sets.contains s.repos r)
   same_new = ap (λ x. not (is_some x)) (repos-there tenants by_tenant owned t s at r own)
 
-  pub appear_does : (new : OwnRepos) (result : Result Bool Refusal) → Does (λ b. b) result s new (appear_on s r) →
+  pub appear_does : (new : OwnRepos) (result : Result Bool Refusal) → Does (λ b. b) result s new (appear_on limit s r) →
       Does (λ b. b) result (linked_of tenants by_tenant manifests charges) (linked_of tenants (set by_tenant t new) manifests charges) (appear (linked_of tenants by_tenant manifests charges) t r)
   appear_does new (Ok b) done =
-      let parts = accepted (full s new r) (not (sets.contains s.repos r)) b s (record s { repos = sets.insert s.repos r }) new done in
+      let parts = accepted (full limit s new r) (not (sets.contains s.repos r)) b s (record s { repos = sets.insert s.repos r }) new done in
       let repos = repos-insert tenants by_tenant owned t s at r own new (ap (λ (x : OwnRepos). x.repos) parts.2) in
       let links = links-same tenants by_tenant owned t s at new (ap (λ (x : OwnRepos). x.links) parts.2) in
       rw (same_test ∙ parts.0) (λ i. Ok ((same_new ∙ sym parts.1) i, record { tenants = tenants; repos = sym repos i; links = sym links i; manifests = manifests; charges = charges }))
   appear_does new (Err e) done = (
-    (λ other. (let parts = refused (full s new r) (not (sets.contains s.repos r)) (record s { repos = sets.insert s.repos r }) e (done.0 other) in rw (same_test ∙ parts.0) (ap Err parts.1))),
+    (λ other. (let parts = refused (full limit s new r) (not (sets.contains s.repos r)) (record s { repos = sets.insert s.repos r }) e (done.0 other) in rw (same_test ∙ parts.0) (ap Err parts.1))),
     (λ i. record {
       tenants = tenants;
       repos = repos-same tenants by_tenant owned t s at new (ap (λ (x : OwnRepos). x.repos) done.1) i;

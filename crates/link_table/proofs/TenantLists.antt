@@ -18,9 +18,11 @@ use Rattle.std.proofs.lemmas.List.Sums.{sum_by-cons}
 use Rattle.spec_lib.proofs.Texts.{same_itself, text_is_same}
 use Rattle.spec_lib.specs.Texts.{Text, text_cmp, same_text}
 use Rattle.blob_digest.specs.Names.{tenant_name, IsComponent}
-use Rattle.blob_digest.specs.Tenants.{Tenant, tenant_of, is_repo_of_tenant}
+use Rattle.blob_digest.specs.Tenants.{AreSupported, Tenant, tenant_of, is_repo_of_tenant, no_tenant}
 use Rattle.spec_lib.proofs.Rows.{position-map, sum_by-map}
+use Rattle.link_table.specs.declared.tenants.TenantLimits.{TenantLimits}
 use Rattle.link_table.specs.declared.tenants.TenantSettings.{TenantSettings}
+use Rattle.link_table.specs.Linked.{limits_in}
 use Rattle.link_table.specs.Tenancy.{HasNames, IsWithinLimits, AreTenants, tenant_shown, tenants_shown}
 use Rattle.spec_lib.proofs.Sorted.{is_less}
 
@@ -89,7 +91,13 @@ module _ (xs ys : List Tenant) (moved : IsPermutation xs ys) where
   pub IsWithinLimits-moved : IsWithinLimits xs → IsWithinLimits ys
   IsWithinLimits-moved h =
       let same = length_permutation xs ys moved in
-      record { some = (let some = h.some in omega arith); few = (let few = h.few in omega arith); quotas = All-permutation (λ t. t.quota ≤ 2 ^ 50) xs ys moved h.quotas }
+      record { some = (let some = h.some in omega arith); few = (let few = h.few in omega arith); quotas = All-permutation (λ t. t.quota ≤ 2 ^ 50) xs ys moved h.quotas; limits = All-permutation (λ t. AreSupported t.limits) xs ys moved h.limits }
+
+-- a tenant's limits are supported, also if there is no such tenant
+pub limits_supported : (ts : List Tenant) → All (λ t. AreSupported t.limits) ts → (t : ℕ) → AreSupported (limits_in ts t)
+limits_supported [] all t = record { repos = omega arith; manifests = omega arith; sessions = omega arith }
+limits_supported (x ∷ ts) all zero = all 0 x (omega arith)
+limits_supported (x ∷ ts) all (suc t) = limits_supported ts (λ k d lt. all (suc k) d (omega arith)) t
 
 -- ---- whose a repository is
 
@@ -102,7 +110,7 @@ is_repo_of_tenant-found ts repo t found = ap (λ o. option_eq nat_eq o (Some t))
 
 -- a tenant with a repository exists
 pub own_within : (ts : List Tenant) (t : ℕ) (repo : Text) → is_repo_of_tenant ts t repo ≡ true → t < length ts
-own_within ts t repo own = (position-Some (λ x. same_text x.name (tenant_name repo)) ts t (record { name = []; quota = 0; share = 0 }) (is_some_of (tenant_of ts repo) own)).0
+own_within ts t repo own = (position-Some (λ x. same_text x.name (tenant_name repo)) ts t no_tenant (is_some_of (tenant_of ts repo) own)).0
   where
     is_some_of : (o : Option ℕ) → option_eq nat_eq o (Some t) ≡ true → o ≡ Some t
     is_some_of None e = cc
@@ -120,8 +128,15 @@ All-unmap P f [] all k d lt = absurd (omega arith)
 All-unmap P f (x ∷ xs) all zero d lt = all 0 (f x) (omega arith)
 All-unmap P f (x ∷ xs) all (suc k) d lt = All-unmap P f xs (λ j e below. all (suc j) e (omega arith)) k d (omega arith)
 
+-- the order of limits, and of what follows a tenant's name
+abbrev pub limits_cmp : TenantLimits → TenantLimits → Ordering
+limits_cmp x y = ordering_then (nat_cmp x.repos y.repos) (ordering_then (nat_cmp x.manifests y.manifests) (nat_cmp x.sessions y.sessions))
+
+abbrev pub numbers_cmp : TenantSettings → TenantSettings → Ordering
+numbers_cmp x y = ordering_then (nat_cmp x.quota y.quota) (ordering_then (nat_cmp x.share y.share) (limits_cmp x.limits y.limits))
+
 abbrev pub row_cmp : TenantSettings → TenantSettings → Ordering
-row_cmp x y = ordering_then (text_cmp (string_bytes x.name) (string_bytes y.name)) (ordering_then (nat_cmp x.quota y.quota) (nat_cmp x.share y.share))
+row_cmp x y = ordering_then (text_cmp (string_bytes x.name) (string_bytes y.name)) (numbers_cmp x y)
 
 -- neighbours in order of which the first name isn't below the second have one name
 tied : (x y : TenantSettings) → is_lt (row_cmp y x) ≡ false → false ≡ is_lt (text_cmp (string_bytes x.name) (string_bytes y.name)) → same_text (string_bytes x.name) (string_bytes y.name) ≡ true
@@ -132,7 +147,7 @@ tied x y up not_below = texts_ties (string_bytes x.name) (string_bytes y.name) �
     by_cases Equal e = refl
     by_cases Greater e =
         let back : text_cmp (string_bytes y.name) (string_bytes x.name) ≡ Less = nat_list_cmp_total.antisymm (string_bytes y.name) (string_bytes x.name) ∙ ap ordering_reverse e in
-        absurd (true≢false (sym (ap (λ r. is_lt (ordering_then r (ordering_then (nat_cmp y.quota x.quota) (nat_cmp y.share x.share)))) back) ∙ up))
+        absurd (true≢false (sym (ap (λ r. is_lt (ordering_then r (numbers_cmp y x))) back) ∙ up))
 
 abbrev pub name_of : TenantSettings → Text
 name_of x = string_bytes x.name

@@ -90,7 +90,7 @@ names-set [] i row new at is = refl
 names-set (r ∷ rows) zero row new at is = (λ j. (is j, tt {0}) ∷ map repo_entry rows) ∙ ap (λ (x : Repo). repo_entry x ∷ map repo_entry rows) (sym (some_same at))
 names-set (r ∷ rows) (suc i) row new at is = ap (λ es. repo_entry r ∷ es) (names-set rows i row new at is)
 
-pub few-rows : (rows : List Repo) → AreRepos rows → repo_count (own_repos_shown rows) ≤ 1024
+pub few-rows : (rows : List Repo) → AreRepos rows → repo_count (own_repos_shown rows) ≤ 65536
 few-rows rows are = (let few = are.few in omega (arith, repo_count-rows rows are.order))
 
 pub AreRepos-set : (rows : List Repo) (i : ℕ) (row new : Repo) → slice_get rows i ≡ Some row → new.name ≡ row.name → AreRepos rows → AreRepos (set rows i new)

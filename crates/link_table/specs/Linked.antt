@@ -13,7 +13,7 @@ use Rattle.spec_lib.specs.Outcomes.{refuse, ◌>>=◌}
 use Rattle.blob_digest.specs.declared.refusal.Refusal.{Refusal}
 use Rattle.blob_digest.specs.declared.refusal.Refusal.TheVariants.{LimitReached, NameUnknown, Quota}
 use Rattle.link_table.specs.ManifestTable.{ManifestBytes, put_on}
-pub use Rattle.blob_digest.specs.Tenants.{Tenant, tenant_of, is_repo_of_tenant, tenant_repo_count, coded_tenant}
+pub use Rattle.blob_digest.specs.Tenants.{Tenant, Limits, no_tenant, tenant_of, is_repo_of_tenant, tenant_repo_count, coded_tenant}
 
 -- tenants in the order of their names, the existing repositories, the links with the sizes of their blobs, the manifests, and each tenant's charge in bytes
 pub record Linked : Type 0 where
@@ -40,6 +40,10 @@ quota_in tenants t = option_map_or (λ x. x.quota) (slice_get tenants t) 0
 -- a tenant's share of the slots: the maximum number of distinct blobs of its repositories
 abbrev pub share_in : List Tenant → ℕ → ℕ
 share_in tenants t = option_map_or (λ x. x.share) (slice_get tenants t) 0
+
+-- the limits of a tenant
+abbrev pub limits_in : List Tenant → ℕ → Limits
+limits_in tenants t = option_map_or (λ x. x.limits) (slice_get tenants t) no_tenant.limits
 
 -- ---- sizes and usage
 
@@ -116,9 +120,9 @@ initial_links tenants = record { tenants = tenants; repos = set.empty_set; links
 abbrev pub known_tenant : Linked → Text → Result ℕ Refusal
 known_tenant l repo = ok_or (tenant_of l.tenants repo) NameUnknown
 
--- the repository is new, and its tenant has 1,024
+-- the repository is new, and its tenant has as many as its limit
 abbrev pub cannot_appear : Linked → ℕ → Text → Bool
-cannot_appear l t repo = not (set.contains l.repos repo) && nat_le 1024 (tenant_repo_count l.tenants l.repos t)
+cannot_appear l t repo = not (set.contains l.repos repo) && nat_le (limits_in l.tenants t).repos (tenant_repo_count l.tenants l.repos t)
 
 -- the table with this repository, and whether it is new
 abbrev pub appear : Linked → ℕ → Text → OutcomeIn Linked Bool
@@ -140,10 +144,10 @@ unlink l repo digest = record l { links = fmap.remove l.links (repo, digest) }
 abbrev pub with_manifests : Linked → ManifestBytes → Linked
 with_manifests l manifests = record l { manifests = manifests }
 
--- the table with this manifest, or `LimitReached` if the repository has 1,024 others
-abbrev pub put_manifest : Linked → Text → Text → OutcomeIn Linked (Unit {0})
-put_manifest l repo bytes = do
-  r ← put_on l.manifests repo bytes
+-- the table with this manifest of a tenant, or `LimitReached` if the repository has as many others as the tenant's limit
+abbrev pub put_manifest : Linked → ℕ → Text → Text → OutcomeIn Linked (Unit {0})
+put_manifest l t repo bytes = do
+  r ← put_on (limits_in l.tenants t).manifests l.manifests repo bytes
   Ok (tt {0}, with_manifests l r.1)
 
 -- the table without this manifest

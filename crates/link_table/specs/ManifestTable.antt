@@ -30,11 +30,11 @@ manifests_on m repo = map (λ e. (e.0.1, e.1)) (filter (λ e. same_text e.0.0 re
 abbrev pub referrer_on : ManifestBytes → Text → Text → Option Text
 referrer_on m repo digest = option_map (λ e. e.0.1) (find (λ e. same_text e.0.0 repo && refers e.1 digest) (fmap.entries m))
 
--- the manifests with this one under its digest, or `LimitReached` if the repository has 1,024 others
-abbrev pub put_on : ManifestBytes → Text → Text → OutcomeIn ManifestBytes (Unit {0})
-put_on m repo bytes =
+-- the manifests with this one under its digest, or `LimitReached` if the repository has n others, the limit
+abbrev pub put_on : ℕ → ManifestBytes → Text → Text → OutcomeIn ManifestBytes (Unit {0})
+put_on n m repo bytes =
     if fmap.contains_key m (repo, sha256_text bytes) then Ok (tt {0}, m) else
-    if nat_le 1024 (manifests_in m repo) then Err LimitReached else Ok (tt {0}, fmap.insert m (repo, sha256_text bytes) bytes)
+    if nat_le n (manifests_in m repo) then Err LimitReached else Ok (tt {0}, fmap.insert m (repo, sha256_text bytes) bytes)
 
 -- the call has this outcome, with its result read as it is
 abbrev pub Fulfils : {S A : Type 0} → Result A Refusal → S → S → OutcomeIn S A → Type 0

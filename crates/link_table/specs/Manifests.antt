@@ -1,5 +1,5 @@
 -- The manifests of one repository, and the set of their references.
-use Rattle.std.specs.Prelude.{◌≡◌, Bool, false, ◌&&◌, ◌||◌, not, nat_le, Option, Some, None, Ok, Err, List, map, if◌then◌else◌}
+use Rattle.std.specs.Prelude.{◌≡◌, ℕ, Bool, false, ◌&&◌, ◌||◌, not, nat_le, Option, Some, None, Ok, Err, List, map, if◌then◌else◌}
 use Rattle.std.specs.declared.cmp.Ordering.{Ordering}
 use Rattle.std.specs.declared.alloc.Global.{Global}
 use Rattle.std.specs.declared.sync.Arc.{Arc}
@@ -24,11 +24,11 @@ RepoManifestBytes = fmap.FinMap text_cmp Text
 abbrev pub referrer_in : RepoManifestBytes → Text → Option Text
 referrer_in m digest = option_map (λ e. e.0) (find (λ e. refers e.1 digest) (fmap.entries m))
 
--- the manifests with this one under its digest, or `LimitReached` if there are 1,024 others
-abbrev pub put_in : RepoManifestBytes → Text → OutcomeIn RepoManifestBytes (Unit {0})
-put_in m bytes =
+-- the manifests with this one under its digest, or `LimitReached` if there are n others, the limit
+abbrev pub put_in : ℕ → RepoManifestBytes → Text → OutcomeIn RepoManifestBytes (Unit {0})
+put_in n m bytes =
     if fmap.contains_key m (sha256_text bytes) then Ok (tt {0}, m) else
-    if nat_le 1024 (fmap.len m) then Err LimitReached else Ok (tt {0}, fmap.insert m (sha256_text bytes) bytes)
+    if nat_le n (fmap.len m) then Err LimitReached else Ok (tt {0}, fmap.insert m (sha256_text bytes) bytes)
 
 -- ---- the rows
 

@@ -32,7 +32,7 @@ own_repos_shown rows = record { repos = fmap.from_entries (map repo_entry rows);
 abbrev pub IsInOrder : List Repo → Type 0
 IsInOrder rows = fmap.is_sorted text_cmp (map repo_entry rows) ≡ true
 
--- the rows are in the order of their names, and there are at most 1,024
+-- the rows are in the order of their names, and there are at most as many as the greatest limit
 pub record AreRepos (rows : List Repo) : Type 0 where
   pub order : IsInOrder rows
-  pub few : length rows ≤ 1024
+  pub few : length rows ≤ 65536

@@ -6,9 +6,10 @@ use Rattle.std.specs.List.{All}
 use Rattle.std.specs.List.Sorted.{IsPermutation, IsStrictlySortedBy}
 use Rattle.spec_lib.specs.Texts.{Text, text_cmp, same_text}
 use Rattle.blob_digest.specs.Names.{IsComponent}
-use Rattle.blob_digest.specs.Tenants.{Tenant}
+use Rattle.blob_digest.specs.Tenants.{Tenant, Limits, AreSupported}
 use Rattle.blob_digest.specs.declared.refusal.Refusal.{Refusal}
 use Rattle.blob_digest.specs.declared.refusal.Refusal.TheVariants.{NameInvalid, LimitReached, Memory}
+use Rattle.link_table.specs.declared.tenants.TenantLimits.{TenantLimits}
 use Rattle.link_table.specs.declared.tenants.TenantSettings.{TenantSettings}
 use Rattle.link_table.specs.Linked.{Linked, initial_links}
 
@@ -25,11 +26,12 @@ max_tenants = 256
 abbrev pub max_quota : ℕ
 max_quota = 2 ^ 50
 
--- 1 to 256 tenants, with quotas of at most 2^50 bytes
+-- 1 to 256 tenants, with quotas of at most 2^50 bytes and supported limits
 pub record IsWithinLimits (ts : List Tenant) : Type 0 where
   pub some : 0 < length ts
   pub few : length ts ≤ max_tenants
   pub quotas : All (λ t. t.quota ≤ max_quota) ts
+  pub limits : All (λ t. AreSupported t.limits) ts
 
 -- the error for a list of tenants: `NameInvalid` for a name, else `LimitReached` for a limit, else `Memory`
 abbrev pub RefusesTenants : Refusal → List Tenant → Type 0
@@ -52,9 +54,13 @@ pub record Opens (given : List Tenant) (l : Linked) : Type 0 where
   pub tenants : AreTenants l.tenants
   pub empty : l ≡ initial_links l.tenants
 
--- a tenant's name and limits
+-- the limits of a tenant
+abbrev pub limits_shown : TenantLimits → Limits
+limits_shown l = record { repos = l.repos; manifests = l.manifests; sessions = l.sessions }
+
+-- a tenant's name, quota, share and limits
 abbrev pub tenant_shown : TenantSettings → Tenant
-tenant_shown t = record { name = string_bytes t.name; quota = t.quota; share = t.share }
+tenant_shown t = record { name = string_bytes t.name; quota = t.quota; share = t.share; limits = limits_shown t.limits }
 
 -- the tenants that rows show
 abbrev pub tenants_shown : List TenantSettings → List Tenant

@@ -28,9 +28,9 @@ empty_tenant = record { repos = set.empty_set; links = fmap.empty }
 abbrev pub repo_count : OwnRepos → ℕ
 repo_count s = length (set.items s.repos)
 
--- the tenant with this repository and whether it is new, or `LimitReached` if it has 1,024 others
-abbrev pub appear_on : OwnRepos → Text → OutcomeIn OwnRepos Bool
-appear_on s repo = if not (set.contains s.repos repo) && nat_le 1024 (repo_count s) then Err LimitReached else Ok (not (set.contains s.repos repo), record s { repos = set.insert s.repos repo })
+-- the tenant with this repository and whether it is new, or `LimitReached` if it has n others, its limit
+abbrev pub appear_on : ℕ → OwnRepos → Text → OutcomeIn OwnRepos Bool
+appear_on n s repo = if not (set.contains s.repos repo) && nat_le n (repo_count s) then Err LimitReached else Ok (not (set.contains s.repos repo), record s { repos = set.insert s.repos repo })
 
 -- the repository holds no blob of this digest yet
 abbrev pub is_new_link : OwnRepos → Text → Text → Bool

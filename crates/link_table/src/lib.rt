@@ -20,4 +20,7 @@ mod usage;
 pub use blobs::Blobs;
 pub use links::Links;
 pub use manifests::Manifests;
-pub use tenants::{MAX_QUOTA, MAX_TENANTS, TenantSettings, UNLIMITED_SHARE};
+pub use tenants::{
+    GREATEST_LIMITS, MAX_QUOTA, MAX_TENANTS, TenantLimits, TenantSettings, UNLIMITED_SHARE,
+    USUAL_LIMITS, are_supported,
+};

@@ -9,15 +9,15 @@ ghost use Rattle.blob_digest.specs.declared.refusal.Refusal.TheVariants.{Memory}
 ghost use Rattle.link_table.specs.ManifestTable.{referrer_on, manifests_on, Fulfils};
 ghost use Rattle.link_table.specs.Manifests.{found_bytes, found_manifest};
 ghost use Rattle.link_table.specs.TenantRepos.{empty_tenant};
-ghost use Rattle.link_table.specs.Linked.{is_repo_of_tenant, known_tenant, name_at, used_in, quota_in, blobs_of, repos_of, blobs_in, tenant_repo_count, first_unlinked, has_contents, has_links, has_manifests, link, unlink, passes_share, share_in, put_manifest, drop_manifest, charge, discharge, appear, vanish, IsSizeOf, HasNoLinks};
-ghost use Rattle.link_table.specs.Tenancy.{Opens, AreTenants, RefusesTenants, tenants_shown};
+ghost use Rattle.link_table.specs.Linked.{is_repo_of_tenant, known_tenant, name_at, used_in, quota_in, blobs_of, repos_of, blobs_in, tenant_repo_count, first_unlinked, has_contents, has_links, has_manifests, link, unlink, passes_share, share_in, put_manifest, drop_manifest, charge, discharge, appear, vanish, limits_in, IsSizeOf, HasNoLinks};
+ghost use Rattle.link_table.specs.Tenancy.{Opens, AreTenants, RefusesTenants, limits_shown, tenants_shown};
 
 use crate::blobs::Blobs;
 use crate::holders::{Holders, decrement, digest_count, holders_of, increment, no_holders};
 use crate::manifest_table::ManifestTable;
 use crate::manifests::Manifests;
 use crate::tenant_repos::TenantRepos;
-use crate::tenants::{TenantSettings, in_order, tenant_at};
+use crate::tenants::{TenantLimits, TenantSettings, in_order, tenant_at};
 use crate::usage::{bytes_with, bytes_without};
 use blob_digest::{Digest, Refusal, RepoName};
 use oci_manifest::Manifest;
@@ -35,7 +35,7 @@ use std::sync::Arc;
 ///
 /// Each tenant has its repositories in the order of their names. Each repository has its blobs in one ordered map and
 /// its manifests in another. Finding a repository is logarithmic in the number of tenants and of the tenant's
-/// repositories. Creating or removing one moves those of its tenant after it, at most 1,024. For each digest in its
+/// repositories. Creating or removing one moves those of its tenant after it. For each digest in its
 /// repositories, a tenant has the number of repositories that contain it. Finding that number is logarithmic in the
 /// number of these digests.
 ///
@@ -90,7 +90,8 @@ impl Links {
     ///
     /// - `NameInvalid`: a name is not one component of a repository's name (OCI Distribution Specification 1.1,
     ///   "Pulling manifests"), or occurs twice.
-    /// - `LimitReached`: there is no tenant, there are more than 256, or a quota exceeds 2^50 bytes.
+    /// - `LimitReached`: there is no tenant, there are more than 256, a quota exceeds 2^50 bytes, or a limit exceeds
+    ///   `GREATEST_LIMITS`.
     /// - `Memory`: out of memory.
     pub fn new(alloc: Global, tenants: Vec<TenantSettings>) -> Result<Links, Refusal>
         ensures opened { IfOk result (λ l. Opens (tenants_shown tenants.items) l) }
@@ -167,6 +168,14 @@ impl Links {
         self.tenants[tenant as usize].share
     }
 
+    /// Returns a tenant's limits.
+    pub fn limits(&self, tenant: u16) -> TenantLimits
+        requires { tenant < length self.now.tenants }
+        ensures { limits_shown result ≡ limits_in self.now.tenants tenant }
+    {
+        self.tenants[tenant as usize].limits
+    }
+
     /// Returns a tenant's usage in bytes: the size of each blob in its repositories, counted once, plus its charges.
     ///
     /// # Cost
@@ -217,7 +226,7 @@ impl Links {
     ///
     /// # Errors
     ///
-    /// - `LimitReached`: the tenant has 1,024 repositories, and this is none of them.
+    /// - `LimitReached`: the tenant has as many repositories as its limit, and this is none of them.
     /// - `Memory`: out of memory.
     ///
     /// # Cost
@@ -228,7 +237,8 @@ impl Links {
         requires own { is_repo_of_tenant self.old.tenants tenant repo.now ≡ true }
         ensures { Does (λ b. b) result self.old self.new (appear self.old tenant repo.now) }
     {
-        self.repos[tenant as usize].appear(self.alloc, repo)
+        let limit = self.limits(tenant).repos;
+        self.repos[tenant as usize].appear(self.alloc, repo, limit)
     }
 
     /// Returns whether a tenant's repository exists.
@@ -464,13 +474,13 @@ impl Links {
         self.blobs(repo).nth(i)
     }
 
-    /// Stores a manifest of a repository under its digest, and shares its bytes.
+    /// Stores a manifest of a tenant's repository under its digest, and shares its bytes.
     ///
-    /// A manifest that is already there stays, and is accepted even if the repository has 1,024.
+    /// A manifest that is already there stays, and is accepted even if the repository is full.
     ///
     /// # Errors
     ///
-    /// - `LimitReached`: the repository has 1,024 manifests, and this is none of them.
+    /// - `LimitReached`: the repository has as many manifests as the tenant's limit, and this is none of them.
     /// - `Memory`: out of memory. Nothing changes.
     ///
     /// # Cost
@@ -479,12 +489,16 @@ impl Links {
     /// manifests. Each reference is logarithmic in the number of the repository's references.
     pub fn put_manifest(
         &mut self,
+        tenant: u16,
         repo: &RepoName,
         manifest: Arc<Manifest, Global>,
     ) -> Result<(), Refusal>
-        ensures { Fulfils result self.old self.new (put_manifest self.old repo.now manifest.value) }
+        requires { tenant < length self.old.tenants }
+        ensures { Fulfils result self.old self.new
+            (put_manifest self.old tenant repo.now manifest.value) }
     {
-        self.manifests.put(self.alloc, repo, manifest)
+        let limit = self.limits(tenant).manifests;
+        self.manifests.put(self.alloc, repo, manifest, limit)
     }
 
     /// Removes the manifest of a digest, if the repository has it.

@@ -50,18 +50,19 @@ impl ManifestTable {
         }
     }
 
-    /// Stores the first manifest of a repository. The only error is `Memory`, and then nothing changes.
+    /// Stores the first manifest of a repository. After an error nothing changed.
     fn put_first(
         &mut self,
         alloc: Global,
         repo: &RepoName,
         manifest: Arc<Manifest, Global>,
+        limit: u32,
     ) -> Result<(), Refusal>
         requires { (d : Text) → fmap.get self.old (repo.now, d) ≡ None }
-        ensures { Fulfils result self.old self.new (put_on self.old repo.now manifest.value) }
+        ensures { Fulfils result self.old self.new (put_on limit self.old repo.now manifest.value) }
     {
         let mut group = RepoManifests::new(alloc);
-        match group.put(manifest) {
+        match group.put(manifest, limit) {
             Ok(()) => {
                 self.rows.insert(repo.clone()?, group)?;
                 Ok(())
@@ -70,23 +71,25 @@ impl ManifestTable {
         }
     }
 
-    /// Stores a manifest of a repository under its digest. A manifest that is already there stays.
+    /// Stores a manifest of a repository under its digest. A manifest that is already there stays. `limit` is the maximum
+    /// number of manifests of the repository.
     ///
     /// # Errors
     ///
-    /// - `LimitReached`: the repository has 1,024 manifests, and this is none of them.
+    /// - `LimitReached`: the repository has `limit` manifests or more, and this is none of them.
     /// - `Memory`: out of memory. Nothing changes.
     pub fn put(
         &mut self,
         alloc: Global,
         repo: &RepoName,
         manifest: Arc<Manifest, Global>,
+        limit: u32,
     ) -> Result<(), Refusal>
-        ensures { Fulfils result self.old self.new (put_on self.old repo.now manifest.value) }
+        ensures { Fulfils result self.old self.new (put_on limit self.old repo.now manifest.value) }
     {
         match self.rows.get_mut(repo) {
-            Some(group) => group.put(manifest),
-            None => self.put_first(alloc, repo, manifest),
+            Some(group) => group.put(manifest, limit),
+            None => self.put_first(alloc, repo, manifest, limit),
         }
     }
 

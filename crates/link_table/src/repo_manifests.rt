@@ -16,9 +16,6 @@ use std::collections::{BTreeMap, BTreeSet};
 use std::marker::Model;
 use std::sync::Arc;
 
-/// The maximum number of manifests of a repository.
-const MAX_MANIFESTS: usize = 1024;
-
 /// Pairs of a digest and of a manifest that refers to it.
 ///
 /// `None` is below every manifest, so a search for the first manifest of a digest starts there.
@@ -92,20 +89,21 @@ impl RepoManifests {
         }
     }
 
-    /// Stores a manifest under its digest. A manifest that is already there stays.
+    /// Stores a manifest under its digest. A manifest that is already there stays. `limit` is the maximum number of
+    /// manifests.
     ///
     /// # Errors
     ///
-    /// - `LimitReached`: there are 1,024 manifests, and this is none of them.
+    /// - `LimitReached`: there are `limit` manifests or more, and this is none of them.
     /// - `Memory`: out of memory. Nothing changes.
-    pub fn put(&mut self, manifest: Arc<Manifest, Global>) -> Result<(), Refusal>
-        ensures { Does (λ u. u) result self.old self.new (put_in self.old manifest.value) }
+    pub fn put(&mut self, manifest: Arc<Manifest, Global>, limit: u32) -> Result<(), Refusal>
+        ensures { Does (λ u. u) result self.old self.new (put_in limit self.old manifest.value) }
     {
         let digest = manifest.digest();
         if self.rows.contains_key(&digest) {
             return Ok(());
         }
-        if self.rows.len() >= MAX_MANIFESTS {
+        if self.rows.len() >= limit as usize {
             return Err(Refusal::LimitReached);
         }
         refer(&mut self.referrers, manifest.refs(), &digest)?;

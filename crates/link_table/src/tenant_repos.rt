@@ -16,9 +16,6 @@ use std::collections::BTreeMap;
 use std::collections::btree_map::Iter;
 use std::marker::Model;
 
-/// The maximum number of repositories of a tenant.
-const MAX_REPOS: usize = 1024;
-
 /// The repositories of one tenant, in the order of their names. Contracts see the repositories and their links.
 ///
 /// # Cost
@@ -54,19 +51,21 @@ impl TenantRepos {
         }
     }
 
-    /// Creates a repository if it does not exist, and returns whether it is new.
+    /// Creates a repository if it does not exist, and returns whether it is new. `limit` is the maximum number of
+    /// repositories.
     ///
     /// # Errors
     ///
-    /// - `LimitReached`: the tenant has 1,024 repositories, and this is none of them.
+    /// - `LimitReached`: the tenant has `limit` repositories or more, and this is none of them.
     /// - `Memory`: out of memory.
-    pub fn appear(&mut self, alloc: Global, repo: &RepoName) -> Result<bool, Refusal>
-        ensures { Does (λ b. b) result self.old self.new (appear_on self.old repo.now) }
+    pub fn appear(&mut self, alloc: Global, repo: &RepoName, limit: u32) -> Result<bool, Refusal>
+        requires { limit ≤ 65536 }
+        ensures { Does (λ b. b) result self.old self.new (appear_on limit self.old repo.now) }
     {
         let Err(place) = place_of(self.repos.as_slice(), repo) else {
             return Ok(false);
         };
-        if self.repos.as_slice().len() >= MAX_REPOS {
+        if self.repos.as_slice().len() >= limit as usize {
             return Err(Refusal::LimitReached);
         }
         let row = Repo {
@@ -112,7 +111,7 @@ impl TenantRepos {
         ensures ok { OnOk result (self.new ≡ link_on self.old repo.now digest.now size) }
         ensures err { OnErr result (self.new ≡ self.old) }
         ensures refused { IfErr result (λ e. e ≡ Memory) }
-        ensures few { repo_count self.old ≤ 1024 }
+        ensures few { repo_count self.old ≤ 65536 }
     {
         match place_of(self.repos.as_slice(), repo) {
             Ok(place) => insert_blob(&mut self.repos[place], digest, size),

@@ -5,14 +5,40 @@ ghost use Rattle.std.specs.List.{All, IsAllAdjacentAnswer};
 ghost use Rattle.std.specs.List.Sorted.{IsBinarySearchResult, IsSearchInRange};
 ghost use Rattle.spec_lib.specs.Texts.{same_text};
 ghost use Rattle.blob_digest.specs.Names.{IsComponent};
-ghost use Rattle.link_table.specs.Tenancy.{AreTenants, HasNames, IsNameBelow, IsWithinLimits, RefusesTenants, SameTenants, max_quota, tenant_name_cmp, tenants_shown};
+ghost use Rattle.blob_digest.specs.Tenants.{AreSupported};
+ghost use Rattle.link_table.specs.Tenancy.{AreTenants, HasNames, IsNameBelow, IsWithinLimits, RefusesTenants, SameTenants, limits_shown, max_quota, tenant_name_cmp, tenants_shown};
 
 use blob_digest::{Refusal, is_component};
 
 /// A share that limits nothing: a store has at most 65,536 slots.
 pub const UNLIMITED_SHARE: u32 = u32::MAX;
 
-/// The name of a tenant, and its limits.
+/// The maximum numbers of what a tenant has.
+#[derive(Clone, Copy, Debug, PartialEq, Eq, PartialOrd, Ord, Drop)]
+pub struct TenantLimits {
+    /// The maximum number of the tenant's repositories, at most 65,536.
+    pub repos: u32,
+    /// The maximum number of manifests of each of them, at most 1,048,576.
+    pub manifests: u32,
+    /// The maximum number of the tenant's open sessions, at most 4,096.
+    pub sessions: u32,
+}
+
+/// The limits that a tenant has unless it is given others.
+pub const USUAL_LIMITS: TenantLimits = TenantLimits {
+    repos: 1024,
+    manifests: 1024,
+    sessions: 64,
+};
+
+/// No limit of a tenant is above these.
+pub const GREATEST_LIMITS: TenantLimits = TenantLimits {
+    repos: 65_536,
+    manifests: 1_048_576,
+    sessions: 4096,
+};
+
+/// The name of a tenant, with its quota, its share and its limits.
 #[derive(Debug, PartialEq, Eq, PartialOrd, Ord, Drop)]
 pub struct TenantSettings {
     /// One component of a repository's name.
@@ -21,6 +47,8 @@ pub struct TenantSettings {
     pub quota: u64,
     /// The share of the slots: the maximum number of distinct blobs that the tenant's repositories contain.
     pub share: u32,
+    /// The maximum numbers of what the tenant has.
+    pub limits: TenantLimits,
 }
 
 /// The maximum number of tenants of a table.
@@ -66,14 +94,33 @@ fn are_quotas(tenants: &[TenantSettings]) -> bool
     tenants.iter().all(|t| t.quota <= MAX_QUOTA)
 }
 
-/// Returns whether the number and the quotas of the tenants are within the limits.
+/// Returns whether limits are at most the greatest ones.
+pub fn are_supported(limits: TenantLimits) -> bool
+    ensures { IsTrue result ↔ AreSupported (limits_shown limits) }
+{
+    limits.repos <= GREATEST_LIMITS.repos
+        && limits.manifests <= GREATEST_LIMITS.manifests
+        && limits.sessions <= GREATEST_LIMITS.sessions
+}
+
+/// Returns whether the limits of all tenants are supported.
+fn are_all_supported(tenants: &[TenantSettings]) -> bool
+    ensures { IsTrue result ↔ All (λ t. AreSupported (limits_shown t.limits)) tenants.now }
+{
+    tenants.iter().all(|t| are_supported(t.limits))
+}
+
+/// Returns whether the number, the quotas and the limits of the tenants are within what a table supports.
 fn are_within_limits(tenants: &[TenantSettings]) -> bool
     ensures { IsTrue result ↔ IsWithinLimits (tenants_shown tenants.now) }
 {
     if tenants.is_empty() || tenants.len() > MAX_TENANTS {
         return false;
     }
-    are_quotas(tenants)
+    if !are_quotas(tenants) {
+        return false;
+    }
+    are_all_supported(tenants)
 }
 
 /// Returns the tenants in the order of their names.
@@ -81,7 +128,8 @@ fn are_within_limits(tenants: &[TenantSettings]) -> bool
 /// # Errors
 ///
 /// - `NameInvalid`: a name is not one component of a repository's name, or occurs twice.
-/// - `LimitReached`: there is no tenant, there are more than 256, or a quota exceeds 2^50 bytes.
+/// - `LimitReached`: there is no tenant, there are more than 256, a quota exceeds 2^50 bytes, or a limit exceeds
+///   `GREATEST_LIMITS`.
 pub fn in_order(mut tenants: Vec<TenantSettings>) -> Result<Vec<TenantSettings>, Refusal>
     ensures names { IfOk result (λ ts. HasNames (tenants_shown tenants.items)) }
     ensures limits { IfOk result (λ ts. IsWithinLimits (tenants_shown tenants.items)) }

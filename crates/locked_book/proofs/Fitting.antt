@@ -30,7 +30,7 @@ use Rattle.oci_manifest.specs.Manifests.{max_manifest}
 use Rattle.spec_lib.specs.Outcomes.{refuse}
 use Rattle.spec_lib.specs.Texts.{Text, same_text}
 use Rattle.spec_lib.proofs.Outcomes.{bound_ok, not_refused, some_of_ok}
-use Rattle.store_model.specs.Catalog.{Catalog, CheckedOutWith, Chunks, HandRecord, Session, SessionNumber, Tenant, charged_length, holds, next_number_of, open_sessions, tenant_of}
+use Rattle.store_model.specs.Catalog.{Catalog, CheckedOutWith, Chunks, HandRecord, Session, SessionNumber, Tenant, charged_length, holds, next_number_of, open_sessions, tenant_of, limits_of}
 use Rattle.store_model.specs.Commands as commands
 use Rattle.store_model.specs.Commands.{Outcome}
 use Rattle.store_model.specs.Durable.{Agrees, AreReturnedAsTaken, BlobLinked, BlobStored, BlobUnlinked, Change, ChunkReceived, DurableState, ManifestDeleted, ManifestPut, NumberSet, RepoAdded, RepoRemoved, SessionDropped, SessionOpened, SessionSealed, TakenChunks, change_of, changes_of, chunk_change, command_change, filled_chunk, mount_change, session_key, taken_after_step}
@@ -217,7 +217,7 @@ module _ (C : Catalog) (lawful : WellFormed C) where
       let c = bound_ok (refuse (commands.lacks_room_for C b.0 r) LimitReached) _ (n, X) b.2 in
       let d = bound_ok (refuse (commands.cannot_open C b.0) LimitReached) _ (n, X) c.2 in
       let number : next_number_of C b.0 ≡ n = answer_by d.2 in
-      let room_left = or_parts (nat_le 64 (open_sessions C b.0)) (nat_le (2 ^ 32) (next_number_of C b.0)) (not_refused (commands.cannot_open C b.0) LimitReached d.0 d.1) in
+      let room_left = or_parts (nat_le (limits_of C b.0).sessions (open_sessions C b.0)) (nat_le (2 ^ 32) (next_number_of C b.0)) (not_refused (commands.cannot_open C b.0) LimitReached d.0 d.1) in
       let small = leb-false (2 ^ 32) (next_number_of C b.0) room_left.1 in
       (room kind.SessionOpened r [] n [] short (omega arith) (omega (arith, number, small)) (omega arith), refl)
 

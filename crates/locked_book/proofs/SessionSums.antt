@@ -82,7 +82,7 @@ put_manifest_sums C C' repo bytes digest stepped =
     by t true h = still_sums C C' (ap (λ (D : Catalog). D.sessions) (sym (left_by h))) (ap setting_of (sym (left_by h)))
     by t false h =
         let x = bound_ok (refuse (lacks_room_for C t repo) LimitReached) _ (digest, C') h in
-        let y = bound_ok (refuse (is_full_of_manifests C repo) LimitReached) _ (digest, C') x.2 in
+        let y = bound_ok (refuse (is_full_of_manifests C t repo) LimitReached) _ (digest, C') x.2 in
         still_sums C C' (ap (λ (D : Catalog). D.sessions) (sym (left_by y.2))) (ap setting_of (sym (left_by y.2)))
 
 pub lease_sums : (C C' : Catalog) (crowded : Bool) (repo digest bytes : Text) → lease crowded C repo digest ≡ Ok (bytes, C') → Sums C C' 0 0 0 0 0 0

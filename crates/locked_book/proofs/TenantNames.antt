@@ -19,11 +19,12 @@ use Rattle.locked_book.specs.Counting.{StoreContent}
 use Rattle.locked_book.specs.History.{state_of}
 use Rattle.locked_book.proofs.Counted.{paired}
 use Rattle.locked_book.specs.Logging.{IsHandOf, NamesTenant, name_at}
+use Rattle.blob_digest.specs.Tenants.{no_tenant}
 
 -- the tenant of a repository has the name that the repository's name begins with
 pub known_name : (tenants : List Tenant) (repo : Text) (t : ℕ) → tenant_of tenants repo ≡ Some t → name_at tenants t ≡ tenant_name repo
 known_name tenants repo t known =
-    text_is_same (name_at tenants t) (tenant_name repo) (position-Some (λ x. same_text x.name (tenant_name repo)) tenants t (record { name = []; quota = 0; share = 0 }) known).1
+    text_is_same (name_at tenants t) (tenant_name repo) (position-Some (λ x. same_text x.name (tenant_name repo)) tenants t (no_tenant) known).1
 
 -- so does the key of a session of that repository
 key_name : (tenants : List Tenant) (repo : Text) (t : ℕ) → tenant_of tenants repo ≡ Some t → name_at tenants (option_map_or (λ x. x) (tenant_of tenants repo) 0) ≡ tenant_name repo

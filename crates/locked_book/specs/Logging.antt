@@ -16,12 +16,13 @@ use Rattle.locked_book.specs.declared.call.Call.{Call}
 use Rattle.locked_book.specs.declared.call.Call.TheVariants as call
 use Rattle.locked_book.specs.declared.policy.LogPolicy.{LogPolicy}
 use Rattle.locked_book.specs.declared.policy.LogPolicy.TheVariants as policy
+use Rattle.blob_digest.specs.Tenants.{no_tenant}
 
 -- ---- the records of changes
 
 -- the tenant at a position, or one without a name
 abbrev pub tenant_at : List Tenant → ℕ → Tenant
-tenant_at tenants t = get_or tenants t (record { name = []; quota = 0; share = 0 })
+tenant_at tenants t = get_or tenants t (no_tenant)
 
 -- the name of the tenant at a position
 abbrev pub name_at : List Tenant → ℕ → Text

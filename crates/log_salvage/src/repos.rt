@@ -4,8 +4,8 @@ use blob_digest::Digest;
 use std::alloc::{AllocError, Global};
 use std::collections::{BTreeMap, BTreeSet};
 
-/// The number of manifests that a repository may have.
-const MOST_MANIFESTS: usize = 1024;
+/// The number of manifests that a repository may have, whatever the limit of its tenant is.
+const MOST_MANIFESTS: usize = 1_048_576;
 
 /// A repository.
 #[derive(Drop)]

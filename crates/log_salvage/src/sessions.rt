@@ -4,8 +4,8 @@ use blob_digest::Digest;
 use std::alloc::{AllocError, Global};
 use std::collections::{BTreeMap, BTreeSet};
 
-/// The number of sessions that a tenant may have open.
-const MOST_SESSIONS: usize = 64;
+/// The number of sessions that a tenant may have open, whatever its limit is.
+const MOST_SESSIONS: usize = 4096;
 
 /// An open session.
 #[derive(Drop)]

@@ -93,8 +93,8 @@ impl Book {
     ///
     /// # Errors
     /// - `NameUnknown` if the tenant does not exist.
-    /// - `LimitReached` if the repository is new and the tenant has 1,024.
-    /// - `LimitReached` if the tenant has 64 sessions, or no session number is left.
+    /// - `LimitReached` if the repository is new and the tenant has as many as its limit.
+    /// - `LimitReached` if the tenant has as many sessions as its limit, or no session number is left.
     /// - `Memory` if out of memory.
     ///
     /// # Cost
@@ -105,8 +105,9 @@ impl Book {
         ensures slots { KeepsSlots self.old self.new }
     {
         let tenant = self.links.tenant(repo)?;
+        let limit = self.links.limits(tenant).sessions;
         let is_new = self.links.appear(tenant, repo)?;
-        match self.uploads.start(tenant, repo) {
+        match self.uploads.start(tenant, repo, limit) {
             Ok(number) => Ok(number),
             Err(refusal) => {
                 if is_new {
@@ -242,7 +243,7 @@ impl Book {
     ///
     /// # Errors
     /// - `NameUnknown` if the tenant does not exist.
-    /// - `LimitReached` if the repository is new and the tenant has 1,024.
+    /// - `LimitReached` if the repository is new and the tenant has as many as its limit.
     /// - `LimitReached` if a session is to be opened and the tenant has 64, or no session number is left.
     /// - `Memory` if out of memory.
     ///

@@ -1,5 +1,5 @@
 ghost use Rattle.std.specs.Prelude.{◌≡◌, IfOk};
-ghost use Rattle.link_table.specs.Tenancy.{tenants_shown};
+ghost use Rattle.link_table.specs.Tenancy.{tenant_shown, tenants_shown};
 
 use link_table::TenantSettings;
 use std::alloc::{AllocError, Global};
@@ -11,10 +11,24 @@ pub struct Config {
     pub slots: u32,
     /// The largest size of a blob in bytes: at most 2^40.
     pub max_blob: u64,
-    /// The tenants: 1 to 256 in any order, no name twice, with quotas of at most 2^50 bytes.
+    /// The tenants: 1 to 256 in any order, no name twice, with quotas of at most 2^50 bytes and limits of at most
+    /// `GREATEST_LIMITS`.
     pub tenants: Vec<TenantSettings>,
     /// The first generation of every slot.
     pub first_generation: u32,
+}
+
+/// Copies a tenant. Fails only if out of memory.
+fn copy_of(tenant: &TenantSettings) -> Result<TenantSettings, AllocError>
+    ensures { IfOk result (λ t. tenant_shown t ≡ tenant_shown tenant.now) }
+{
+    let name = tenant.name.clone()?;
+    Ok(TenantSettings {
+        name,
+        quota: tenant.quota,
+        share: tenant.share,
+        limits: tenant.limits,
+    })
 }
 
 /// Copies the tenants. Fails only if out of memory.
@@ -26,12 +40,7 @@ pub(crate) fn copy_tenants(
 {
     let mut copies = Vec::new(alloc);
     for tenant in tenants {
-        let name = tenant.name.clone()?;
-        copies.push(TenantSettings {
-            name,
-            quota: tenant.quota,
-            share: tenant.share,
-        })?;
+        copies.push(copy_of(tenant)?)?;
     }
     Ok(copies)
 }

@@ -32,6 +32,9 @@ mod sweep;
 pub use book::{Book, MAX_BLOB};
 pub use config::Config;
 pub use lease::{Lease, PinsName};
-pub use link_table::{MAX_QUOTA, MAX_TENANTS, TenantSettings, UNLIMITED_SHARE};
+pub use link_table::{
+    GREATEST_LIMITS, MAX_QUOTA, MAX_TENANTS, TenantLimits, TenantSettings, UNLIMITED_SHARE,
+    USUAL_LIMITS,
+};
 pub use slot_table::MAX_SLOTS;
 pub use store_model::{Mount, SlotUse, Swept, Usage};

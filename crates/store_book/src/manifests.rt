@@ -38,7 +38,8 @@ pub(crate) fn check_linked(
 /// Any error removes a new repository again.
 ///
 /// # Errors
-/// - `LimitReached` if the repository is new and the tenant has 1,024, or the repository has 1,024 manifests.
+/// - `LimitReached` if the repository is new and the tenant has as many as its limit, or the repository has as many
+///   manifests as the tenant's limit.
 /// - `Memory` if out of memory.
 pub(crate) fn add_manifest(
     links: &mut Links,
@@ -52,7 +53,7 @@ pub(crate) fn add_manifest(
     ensures { AddsManifest result links.old links.new tenant repo.now manifest.value }
 {
     let is_new = links.appear(tenant, repo)?;
-    match links.put_manifest(repo, manifest) {
+    match links.put_manifest(tenant, repo, manifest) {
         Ok(()) => Ok(()),
         Err(refusal) => {
             if is_new {
@@ -111,8 +112,8 @@ impl Book {
     /// # Errors
     /// - `NameUnknown` if the tenant does not exist.
     /// - `ManifestBlobUnknown` with the first reference that is not linked in the repository.
-    /// - `LimitReached` if the manifest is new, and its repository is new and the tenant has 1,024.
-    /// - `LimitReached` if the manifest is new and the repository has 1,024.
+    /// - `LimitReached` if the manifest is new, and its repository is new and the tenant has as many as its limit.
+    /// - `LimitReached` if the manifest is new and the repository has as many as the tenant's limit.
     /// - `Memory` if out of memory.
     ///
     /// A failed call creates no repository.

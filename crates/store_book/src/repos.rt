@@ -10,7 +10,7 @@ use blob_digest::{Refusal, RepoName};
 impl Book {
     /// Removes a repository that has no link, no manifest and no session.
     ///
-    /// Its name no longer counts for the limit of 1,024. A later `start`, `mount` or `put_manifest` creates the repository again.
+    /// Its name no longer counts for the tenant's limit. A later `start`, `mount` or `put_manifest` creates the repository again.
     ///
     /// # Errors
     /// - `NameUnknown` if the tenant or the repository does not exist.

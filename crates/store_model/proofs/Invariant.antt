@@ -11,5 +11,6 @@ pub mod Repos
 pub mod SessionTenants
 pub mod Sessions
 pub mod Shares
+pub mod TenantLimits
 pub mod Unused
 pub mod Use

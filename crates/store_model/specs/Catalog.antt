@@ -9,7 +9,7 @@ use Rattle.spec_lib.specs.Sets as set
 use Rattle.spec_lib.specs.Texts.{Text, text_cmp, same_text, coded_text}
 pub use Rattle.blob_digest.specs.Names.{tenant_name}
 pub use Rattle.blob_digest.specs.Keys.{Link, SessionNumber, link_cmp, session_number_cmp, coded_link}
-pub use Rattle.blob_digest.specs.Tenants.{Tenant, tenant_of, is_repo_of_tenant, tenant_repo_count, coded_tenant}
+pub use Rattle.blob_digest.specs.Tenants.{Tenant, Limits, no_tenant, tenant_of, is_repo_of_tenant, tenant_repo_count, coded_tenant}
 pub use Rattle.store_model.specs.Sessions.{Chunks, CheckedIn, CheckedOutWith, Session, HandRecord, charged_length, received_length, session_charge, open_count_in, coded_session}
 
 -- ---- the state of a store
@@ -56,6 +56,10 @@ quota_of C t = option_map_or (λ x. x.quota) (slice_get C.tenants t) 0
 -- the number of distinct blobs that a tenant's repositories may contain
 abbrev pub share_of : Catalog → ℕ → ℕ
 share_of C t = option_map_or (λ x. x.share) (slice_get C.tenants t) 0
+
+-- the limits of a tenant
+abbrev pub limits_of : Catalog → ℕ → Limits
+limits_of C t = option_map_or (λ x. x.limits) (slice_get C.tenants t) no_tenant.limits
 
 -- ---- counts and uses
 

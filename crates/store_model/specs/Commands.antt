@@ -15,7 +15,7 @@ use Rattle.oci_manifest.specs.Manifests.{refs_of, max_manifest}
 pub use Rattle.oci_manifest.specs.Manifests.{refers}
 pub use Rattle.store_model.specs.Sessions.{session_in, not_busy, length_after, chunk_length_check_in, after_append_in, content_in, hand_in, after_take_in, put_back_outcome_in, session_of_hand, hand_content, after_cancel_in}
 use Rattle.spec_lib.specs.Texts.{Text, same_text}
-use Rattle.store_model.specs.Catalog.{Catalog, Session, HandRecord, CheckedIn, Resident, tenant_of, is_repo_of, quota_of, share_of, holds, tenant_holds, held_count, used_bytes, received_length, next_number_of, open_sessions, repos_of, manifests_of}
+use Rattle.store_model.specs.Catalog.{Catalog, Session, HandRecord, CheckedIn, Resident, tenant_of, is_repo_of, quota_of, share_of, limits_of, holds, tenant_holds, held_count, used_bytes, received_length, next_number_of, open_sessions, repos_of, manifests_of}
 use Rattle.store_model.specs.declared.mount.Mount.{Mount}
 use Rattle.store_model.specs.declared.mount.Mount.TheVariants as mounting
 
@@ -39,9 +39,9 @@ check_tenant C repo = do
 abbrev pub session : Catalog → ℕ → Text → ℕ → Result Session Refusal
 session C t repo number = session_in (fmap.get C.sessions (t, number)) repo
 
--- whether a repository is new and its tenant already has 1,024
+-- whether a repository is new and its tenant already has as many as its limit
 abbrev pub lacks_room_for : Catalog → ℕ → Text → Bool
-lacks_room_for C t repo = not (set.contains C.repos repo) && nat_le 1024 (repos_of C t)
+lacks_room_for C t repo = not (set.contains C.repos repo) && nat_le (limits_of C t).repos (repos_of C t)
 
 -- the length of a tenant's session after a chunk of n bytes, or the error
 abbrev pub chunk_length_check : Catalog → ℕ → Text → ℕ → Option ByteRange → ℕ → Result ℕ Refusal
@@ -53,9 +53,9 @@ check_quota C t n = refuse (nat_lt (quota_of C t) (used_bytes C t + n)) (Quota (
 
 -- ---- uploads (OCI Distribution Specification 1.1, "Pushing a blob in chunks")
 
--- whether a tenant has 64 sessions or no session number left
+-- whether a tenant has as many sessions as its limit, or no session number left
 abbrev pub cannot_open : Catalog → ℕ → Bool
-cannot_open C t = nat_le 64 (open_sessions C t) || nat_le (2 ^ 32) (next_number_of C t)
+cannot_open C t = nat_le (limits_of C t).sessions (open_sessions C t) || nat_le (2 ^ 32) (next_number_of C t)
 
 -- the catalog with a new session under the tenant's next number, in a repository that then exists
 abbrev pub with_new_session : Catalog → ℕ → Text → Catalog
@@ -247,9 +247,9 @@ check_all_links C repo (digest ∷ digests) = if holds C repo digest then check_
 abbrev pub has_manifest : Catalog → Text → Text → Bool
 has_manifest C repo name = fmap.contains_key C.manifests (repo, name)
 
--- whether a repository has 1,024 manifests
-abbrev pub is_full_of_manifests : Catalog → Text → Bool
-is_full_of_manifests C repo = nat_le 1024 (manifests_of C repo)
+-- whether a repository of a tenant has as many manifests as the tenant's limit
+abbrev pub is_full_of_manifests : Catalog → ℕ → Text → Bool
+is_full_of_manifests C t repo = nat_le (limits_of C t).manifests (manifests_of C repo)
 
 -- the catalog with a manifest under the digest of its bytes, in a repository that then exists
 abbrev pub with_manifest : Catalog → Text → Text → Catalog
@@ -259,7 +259,7 @@ with_manifest C repo bytes = record C { repos = set.insert C.repos repo; manifes
 abbrev pub add_manifest : Catalog → ℕ → Text → Text → Outcome Text
 add_manifest C t repo bytes = do
   _ ← refuse (lacks_room_for C t repo) LimitReached
-  _ ← refuse (is_full_of_manifests C repo) LimitReached
+  _ ← refuse (is_full_of_manifests C t repo) LimitReached
   Ok (sha256_text bytes, with_manifest C repo bytes)
 
 -- stores a manifest whose references the repository contains, unless it is stored already, and returns its digest

@@ -13,6 +13,7 @@ use Rattle.store_model.specs.Commands.{refers, delete}
 use Rattle.spec_lib.specs.Texts.{Text, text_cmp}
 use Rattle.store_model.specs.Catalog.{Link, SessionNumber, Session, Resident, Catalog, tenant_of, quota_of, share_of, link_count, blob_length, used_bytes, held_digests, held_count, session_charges_of, open_sessions, manifests_of, charged_length, Tenant, is_repo_of_tenant, tenant_repo_count, link_cmp}
 use Rattle.store_model.specs.Sessions.{at_home}
+use Rattle.blob_digest.specs.Tenants.{AreSupported, greatest_limits}
 
 -- an open session is well-formed
 pub record IsWellFormedSession (known : List Tenant) (present : set.Set text_cmp) (longest : ℕ) (next : List ℕ) (key : SessionNumber) (s : Session) : Type 0 where
@@ -47,11 +48,12 @@ pub record AreWithinLimits (known : List Tenant) (longest : ℕ) : Type 0 where
   pub names_rise : IsStrictlySortedBy text_cmp (map (λ t. t.name) known)
   pub max_blob : longest ≤ 2 ^ 40
   pub quotas : AllByRecursion (λ t. t.quota ≤ 2 ^ 50) known
+  pub limits : AllByRecursion (λ t. AreSupported t.limits) known
 
--- each repository belongs to a tenant, no tenant has more than 1,024, and no name is longer than 255 bytes
+-- each repository belongs to a tenant, no tenant has more than the greatest limit, and no name is longer than 255 bytes
 pub record AreWellFormedRepositories (known : List Tenant) (present : set.Set text_cmp) : Type 0 where
   pub owned : (r : Text) → set.contains present r ≡ true → IsSome (tenant_of known r)
-  pub few : (t : ℕ) → tenant_repo_count known present t ≤ 1024
+  pub few : (t : ℕ) → tenant_repo_count known present t ≤ greatest_limits.repos
   pub short_names : (r : Text) → set.contains present r ≡ true → length r ≤ 255
 
 -- each tenant has a next session number, from 1 to 2^32
@@ -81,8 +83,8 @@ pub record WellFormed (C : Catalog) : Type 0 where
   pub repositories : AreWellFormedRepositories C.tenants C.repos
   pub numbering : AreWellFormedNumbers C.tenants C.next
   pub limits : AreWithinLimits C.tenants C.max_blob
-  pub few_sessions : (t : ℕ) → open_sessions C t ≤ 64
-  pub few_manifests : (r : Text) → manifests_of C r ≤ 1024
+  pub few_sessions : (t : ℕ) → open_sessions C t ≤ greatest_limits.sessions
+  pub few_manifests : (r : Text) → manifests_of C r ≤ greatest_limits.manifests
 
 -- No tenant's use exceeds its quota.
 abbrev pub KeepsQuotas : Catalog → Type 0

@@ -10,6 +10,7 @@ use Rattle.store_model.specs.Histories.{CommandCall, FinishCall, LeadsTo, PutBac
 use Rattle.store_model.specs.Invariant.{Sound, WellFormed}
 use Rattle.store_model.specs.Runs.{repo_of}
 use Rattle.store_model.specs.Sessions.{HasNoOpenReserve, at_home}
+use Rattle.blob_digest.specs.Tenants.{AreSupported}
 
 -- ---- the catalog of a restarted store
 
@@ -75,9 +76,10 @@ FitsShare D slots max_blob t =
 
 -- A durable state fits these tenants, slots and limit on blobs.
 pub record CanRestore (D : DurableState) (tenants : List Tenant) (slots max_blob : ℕ) : Type 0 where
-  -- the tenants have the same names; only their quotas and shares may differ
+  -- the tenants have the same names; only their quotas, shares and limits may differ
   pub names : map (λ t. t.name) tenants ≡ map (λ t. t.name) D.tenants
   pub quotas : AllByRecursion (λ t. t.quota ≤ 2 ^ 50) tenants
+  pub limits : AllByRecursion (λ t. AreSupported t.limits) tenants
   pub some : (0 < slots) × (slots ≤ 65536)
   -- the linked blobs fit the slots
   pub fit : fmap.len (restored_blobs D) ≤ slots

@@ -285,8 +285,8 @@ module _ (tenants : List SessionsByNumber) (t : ℕ) (s : SessionsByNumber) (at 
   for_all (Ok r) = Ok (r.0, tenants_shown (set tenants t r.1))
   for_all (Err e) = Err e
 
-  start_outcome : (repo : Text) → start_upload (tenants_shown tenants) t repo ≡ for_all (start_here s repo)
-  start_outcome repo = ap (λ b. cond b (Err LimitReached) (Ok (slice_index (tenants_shown tenants).next t, with_new_session (tenants_shown tenants) t repo))) (λ i. nat_le 64 (counted_there tenants t s at i) || nat_le (2 ^ 32) (next_there tenants t s at i)) ∙ by (is_exhausted s)
+  start_outcome : (n : ℕ) (repo : Text) → start_upload n (tenants_shown tenants) t repo ≡ for_all (start_here n s repo)
+  start_outcome n repo = ap (λ b. cond b (Err LimitReached) (Ok (slice_index (tenants_shown tenants).next t, with_new_session (tenants_shown tenants) t repo))) (λ i. nat_le n (counted_there tenants t s at i) || nat_le (2 ^ 32) (next_there tenants t s at i)) ∙ by (is_exhausted n s)
     where
       session : Session
       session = record { repo = repo; chunks = CheckedIn [] }
@@ -302,9 +302,9 @@ module _ (tenants : List SessionsByNumber) (t : ℕ) (s : SessionsByNumber) (at 
           (λ i. Ok (next_there tenants t s at i, after i))
 
   -- to open a session of the tenant's is to open one in the table
-  pub start_does : (repo : Text) (new : SessionsByNumber) (r : Result ℕ Refusal) → Does (λ n. n) r s new (start_here s repo) → Does (λ n. n) r (tenants_shown tenants) (tenants_shown (set tenants t new)) (start_upload (tenants_shown tenants) t repo)
-  start_does repo new (Ok n) is = start_outcome repo ∙ ap for_all is
-  start_does repo new (Err e) is = ((λ other. start_outcome repo ∙ ap for_all (is.0 other)), ap (λ x. tenants_shown (set tenants t x)) is.1 ∙ set_itself)
+  pub start_does : (limit : ℕ) (repo : Text) (new : SessionsByNumber) (r : Result ℕ Refusal) → Does (λ n. n) r s new (start_here limit s repo) → Does (λ n. n) r (tenants_shown tenants) (tenants_shown (set tenants t new)) (start_upload limit (tenants_shown tenants) t repo)
+  start_does limit repo new (Ok n) is = start_outcome limit repo ∙ ap for_all is
+  start_does limit repo new (Err e) is = ((λ other. start_outcome limit repo ∙ ap for_all (is.0 other)), ap (λ x. tenants_shown (set tenants t x)) is.1 ∙ set_itself)
 
 -- a tenant with a next number exists
 pub within_next : (tenants : List SessionsByNumber) (v : Uploaded) (t : ℕ) → tenants_shown tenants ≡ v → t < length v.next → t < length tenants

@@ -65,11 +65,11 @@ above_none n (e ∷ es) all =
 with_chunks_found : (s : SessionsByNumber) (n : ℕ) (x : Session) (c : Chunks) → get s.sessions n ≡ Some x → with_chunks_here s n c ≡ record s { sessions = insert s.sessions n (record x { chunks = c }) }
 with_chunks_found s n x c found = rw found refl
 
-pub start_spent : (s : SessionsByNumber) (repo : Text) → is_exhausted s ≡ true → start_here s repo ≡ Err LimitReached
-start_spent s repo spent = rw spent refl
+pub start_spent : (n : ℕ) (s : SessionsByNumber) (repo : Text) → is_exhausted n s ≡ true → start_here n s repo ≡ Err LimitReached
+start_spent n s repo spent = rw spent refl
 
-pub start_open : (s : SessionsByNumber) (repo : Text) → is_exhausted s ≡ false → start_here s repo ≡ Ok (s.next, record { next = s.next + 1; sessions = insert s.sessions s.next (record { repo = repo; chunks = shown.CheckedIn [] }) })
-start_open s repo open_ = rw open_ refl
+pub start_open : (n : ℕ) (s : SessionsByNumber) (repo : Text) → is_exhausted n s ≡ false → start_here n s repo ≡ Ok (s.next, record { next = s.next + 1; sessions = insert s.sessions s.next (record { repo = repo; chunks = shown.CheckedIn [] }) })
+start_open n s repo open_ = rw open_ refl
 
 -- ---- one row
 
@@ -101,14 +101,14 @@ module _ (next sum_kept : ℕ) (rows : List Upload) (sound : IsSound next sum_ke
   pub repo_count-rows : length (entries (map_of rows)) ≡ length rows
   repo_count-rows = ap length entries-rows ∙ length-map rows entry_of
 
-  pub spent_many : 64 ≤ length rows → is_exhausted (sessions_shown next rows) ≡ true
-  spent_many many =
-      let h : nat_le 64 (length (entries (map_of rows))) ≡ true = le-leb 64 (length (entries (map_of rows))) (omega (arith, repo_count-rows, many)) in
+  pub spent_many : (n : ℕ) → n ≤ length rows → is_exhausted n (sessions_shown next rows) ≡ true
+  spent_many n many =
+      let h : nat_le n (length (entries (map_of rows))) ≡ true = le-leb n (length (entries (map_of rows))) (omega (arith, repo_count-rows, many)) in
       rw h refl
 
-  pub spent_few : length rows < 64 → is_exhausted (sessions_shown next rows) ≡ nat_le (2 ^ 32) next
-  spent_few few =
-      let h : nat_le 64 (length (entries (map_of rows))) ≡ false = lt-leb 64 (length (entries (map_of rows))) (omega (arith, repo_count-rows, few)) in
+  pub spent_few : (n : ℕ) → length rows < n → is_exhausted n (sessions_shown next rows) ≡ nat_le (2 ^ 32) next
+  spent_few n few =
+      let h : nat_le n (length (entries (map_of rows))) ≡ false = lt-leb n (length (entries (map_of rows))) (omega (arith, repo_count-rows, few)) in
       rw h refl
 
   -- the stored sum is the usage of the sessions

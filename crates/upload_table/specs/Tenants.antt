@@ -29,13 +29,13 @@ no_sessions first = record { next = first; sessions = fmap.empty }
 abbrev pub charged_in : SessionsByNumber → ℕ
 charged_in s = sum_by (λ e. charged_length e.1) (fmap.entries s.sessions)
 
--- there are 64 sessions, or all numbers below 2^32 were used
-abbrev pub is_exhausted : SessionsByNumber → Bool
-is_exhausted s = nat_le 64 (length (fmap.entries s.sessions)) || nat_le (2 ^ 32) s.next
+-- there are n sessions, the limit, or all numbers below 2^32 were used
+abbrev pub is_exhausted : ℕ → SessionsByNumber → Bool
+is_exhausted n s = nat_le n (length (fmap.entries s.sessions)) || nat_le (2 ^ 32) s.next
 
--- the tenant with one more session, under the next number, or `LimitReached`
-abbrev pub start_here : SessionsByNumber → Text → OutcomeIn SessionsByNumber ℕ
-start_here s repo = if is_exhausted s then Err LimitReached else Ok (s.next, record { next = s.next + 1; sessions = fmap.insert s.sessions s.next (record { repo = repo; chunks = CheckedIn [] }) })
+-- the tenant, whose limit is n, with one more session, under the next number, or `LimitReached`
+abbrev pub start_here : ℕ → SessionsByNumber → Text → OutcomeIn SessionsByNumber ℕ
+start_here n s repo = if is_exhausted n s then Err LimitReached else Ok (s.next, record { next = s.next + 1; sessions = fmap.insert s.sessions s.next (record { repo = repo; chunks = CheckedIn [] }) })
 
 -- the chunks of the session of a number, if there is one
 abbrev pub chunks_here : SessionsByNumber → ℕ → Option Chunks

@@ -102,9 +102,9 @@ has_sessions u t repo = list_any (is_of_repo t repo) (fmap.entries u.sessions)
 abbrev pub initial_uploads : ℕ → ℕ → Uploaded
 initial_uploads tenants first = record { next = replicate tenants first; sessions = fmap.empty }
 
--- the tenant has 64 sessions, or all numbers below 2^32 were used
-abbrev pub cannot_start : Uploaded → ℕ → Bool
-cannot_start u t = nat_le 64 (open_count_in u.sessions t) || nat_le (2 ^ 32) (slice_index u.next t)
+-- the tenant has n sessions, its limit, or all numbers below 2^32 were used
+abbrev pub cannot_start : ℕ → Uploaded → ℕ → Bool
+cannot_start n u t = nat_le n (open_count_in u.sessions t) || nat_le (2 ^ 32) (slice_index u.next t)
 
 -- the table with one more session, under the tenant's next number
 abbrev pub with_new_session : Uploaded → ℕ → Text → Uploaded
@@ -113,9 +113,9 @@ with_new_session u t repo = record u {
   sessions = fmap.insert u.sessions (t, slice_index u.next t) (record { repo = repo; chunks = CheckedIn [] });
 }
 
--- the number of the new session and the table with it, or `LimitReached`
-abbrev pub start_upload : Uploaded → ℕ → Text → OutcomeIn Uploaded ℕ
-start_upload u t repo = if cannot_start u t then Err LimitReached else Ok (slice_index u.next t, with_new_session u t repo)
+-- the number of the new session and the table with it, or `LimitReached` if the tenant has n, its limit
+abbrev pub start_upload : ℕ → Uploaded → ℕ → Text → OutcomeIn Uploaded ℕ
+start_upload n u t repo = if cannot_start n u t then Err LimitReached else Ok (slice_index u.next t, with_new_session u t repo)
 
 -- the table with these sessions
 abbrev pub with_sessions : Uploaded → Sessions → Uploaded

@@ -16,13 +16,10 @@ use blob_digest::{Refusal, RepoName};
 use std::alloc::Global;
 use std::marker::Model;
 
-/// The maximum number of open sessions of a tenant.
-const MAX_SESSIONS: usize = 64;
-
 /// The exclusive upper bound of session numbers.
 const NUMBER_LIMIT: u64 = 1 << 32;
 
-/// The open sessions of one tenant, at most 64, in the order of their numbers, with the next number and their usage.
+/// The open sessions of one tenant, in the order of their numbers, with the next number and their usage.
 ///
 /// A call looks for a session at the index that its caller expects, and then by binary search. Removing a session moves
 /// those with higher numbers. Contracts see the next number and the sessions by number.
@@ -83,23 +80,28 @@ impl TenantSessions {
         }
     }
 
-    /// Returns whether the tenant cannot open another session.
-    fn is_exhausted(&self) -> bool
-        ensures { result ≡ is_exhausted self.now }
+    /// Returns whether the tenant cannot open another session, given the maximum number of them.
+    fn is_exhausted(&self, limit: u32) -> bool
+        ensures { result ≡ is_exhausted limit self.now }
     {
-        self.rows.as_slice().len() >= MAX_SESSIONS || self.next >= NUMBER_LIMIT
+        self.rows.as_slice().len() >= limit as usize || self.next >= NUMBER_LIMIT
     }
 
     /// Opens a session without chunks for a repository, and returns its number.
     ///
     /// # Errors
     ///
-    /// - `LimitReached`: the tenant has 64 sessions, or the next number is 2^32.
+    /// - `LimitReached`: the tenant has `limit` sessions or more, or the next number is 2^32.
     /// - `Memory`: out of memory.
-    pub(crate) fn start(&mut self, alloc: Global, repo: &RepoName) -> Result<u32, Refusal>
-        ensures { Does (λ n. n) result self.old self.new (start_here self.old repo.now) }
+    pub(crate) fn start(
+        &mut self,
+        alloc: Global,
+        repo: &RepoName,
+        limit: u32,
+    ) -> Result<u32, Refusal>
+        ensures { Does (λ n. n) result self.old self.new (start_here limit self.old repo.now) }
     {
-        if self.is_exhausted() {
+        if self.is_exhausted(limit) {
             return Err(Refusal::LimitReached);
         }
         let number = self.next as u32;

@@ -94,13 +94,14 @@ impl Uploads {
     ///
     /// # Errors
     ///
-    /// - `LimitReached`: the tenant has 64 sessions, or has used all numbers below 2^32.
+    /// - `LimitReached`: the tenant has `limit` sessions or more, or has used all numbers below 2^32.
     /// - `Memory`: out of memory.
-    pub fn start(&mut self, tenant: u16, repo: &RepoName) -> Result<u32, Refusal>
+    pub fn start(&mut self, tenant: u16, repo: &RepoName, limit: u32) -> Result<u32, Refusal>
         requires there { tenant < length self.old.next }
-        ensures { Does (λ n. n) result self.old self.new (start_upload self.old tenant repo.now) }
+        ensures { Does (λ n. n) result self.old self.new
+            (start_upload limit self.old tenant repo.now) }
     {
-        self.tenants[tenant as usize].start(self.alloc, repo)
+        self.tenants[tenant as usize].start(self.alloc, repo, limit)
     }
 
     /// Returns the session of a tenant and a number, with its place. Looks at the expected place first.

@@ -29,9 +29,10 @@ use Rattle.blob_store.specs.OneText.{NeitherLeaseNorSweep, PlayedWithinLimits, S
 use Rattle.blob_store.specs.StoreBackends.{Work, WorkActs}
 use Rattle.blob_store.specs.Workers.{IsInterleaved, IsPlayed, zero_work}
 use Rattle.blob_store.proofs.OneText.Texts.{one_text}
+use Rattle.blob_digest.specs.Tenants.{usual_limits}
 
 abbrev tenants : List Tenant
-tenants = record { name = codes "acme"; quota = 3; share = 4294967295 } ∷ record { name = codes "other"; quota = 9; share = 4294967295 } ∷ []
+tenants = record { name = codes "acme"; quota = 3; share = 4294967295; limits = usual_limits } ∷ record { name = codes "other"; quota = 9; share = 4294967295; limits = usual_limits } ∷ []
 
 abbrev row : ℕ → Text → RowView
 row lane repo = record { lane = lane; verb = verb.Start; repo = repo; key = []; digest = []; range = []; body = [] }

@@ -73,7 +73,7 @@ module _ (f : SessionNumber × Session → ℕ) where
 module _ (C : Catalog) (sound : Sound C) where
   pub few_in_hand : checked_out_count C ≤ 2 ^ 58
   few_in_hand =
-      let all = of_all (λ _. 1) C sound (λ t there. let few : open_sessions C t ≤ 64 = sound.lawful.few_sessions t in omega (arith, few)) in
+      let all = of_all (λ _. 1) C sound (λ t there. let few : open_sessions C t ≤ 4096 = sound.lawful.few_sessions t in omega (arith, few)) in
       let less = sum_by-le-sum_by checked_out_count_of (λ _. 1) (entries C.sessions) (λ e. at_most (are_checked_in e.1.chunks)) in
       omega (arith, all, less)
     where

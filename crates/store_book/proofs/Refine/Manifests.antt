@@ -13,7 +13,7 @@ use Rattle.blob_digest.specs.declared.refusal.Refusal.TheVariants.{LimitReached,
 use Rattle.spec_lib.proofs.Options.{no_value}
 use Rattle.oci_manifest.specs.Manifests.{IsManifest, refs_of, max_manifest}
 use Rattle.link_table.specs.ManifestTable.{manifests_in}
-use Rattle.link_table.specs.Linked.{Linked, known_tenant, appear, cannot_appear, first_unlinked, drop_manifest, put_manifest as put_manifest_on}
+use Rattle.link_table.specs.Linked.{Linked, known_tenant, appear, cannot_appear, first_unlinked, limits_in, drop_manifest, put_manifest as put_manifest_on}
 use Rattle.spec_lib.specs.Texts.{Text}
 use Rattle.store_model.specs.Catalog.{Catalog}
 use Rattle.store_model.specs.Commands.{put_manifest, delete_manifest, check_all_links}
@@ -58,12 +58,16 @@ read_from bytes kept refs name shown fits named agrees = record { named = named;
 
 module _ (l : Linked) (t : ℕ) (repo bytes : Text) where
   -- the manifest is put into a new repository
-  pub appeared_put : (l' : Linked) (b : Bool) → appear l t repo ≡ Ok (b, l') → add_manifest_outcome l t repo bytes ≡ put_manifest_on l' repo bytes
+  pub appeared_put : (l' : Linked) (b : Bool) → appear l t repo ≡ Ok (b, l') → add_manifest_outcome l t repo bytes ≡ put_manifest_on l' t repo bytes
   appeared_put l' b shown = rw shown refl
 
 module _ (L : Layers) (t : ℕ) (repo bytes : Text) (refs : List Text) (name : Text) (book : IsBook L) (known : known_tenant L.links repo ≡ Ok t) (read : IsManifest bytes refs name) where
   abbrev B : Catalog
   B = book_catalog L
+
+  -- the tenant's limit
+  abbrev limit : ℕ
+  limit = (limits_in L.links.tenants t).manifests
 
   abbrev refused_for : Option Text → Result (Unit {0}) Refusal
   refused_for unlinked = option_map_or (λ d. Err (ManifestBlobUnknown d)) unlinked (Ok tt)
@@ -97,28 +101,28 @@ module _ (L : Layers) (t : ℕ) (repo bytes : Text) (refs : List Text) (name : T
       pub put_refused : (e : Refusal) → add_manifest_outcome L.links t repo bytes ≡ Err e → put_manifest B repo bytes ≡ Err e
       put_refused e refused = by_room (cannot_appear L.links t repo) refl
         where
-          by_count : (full : Bool) → cannot_appear L.links t repo ≡ false → nat_le 1024 (manifests_in L.links.manifests repo) ≡ full → put_manifest B repo bytes ≡ Err e
+          by_count : (full : Bool) → cannot_appear L.links t repo ≡ false → nat_le limit (manifests_in L.links.manifests repo) ≡ full → put_manifest B repo bytes ≡ Err e
           by_count true room is = rw (known, fits, read.named, linked_is refs, held, new, room, is) (let h = rw (room, new, is) at refused in let same : LimitReached ≡ e = cc in ap Err same)
           by_count false room is = absurd (let h = rw (room, new, is) at refused in cc)
 
           by_room : (full : Bool) → cannot_appear L.links t repo ≡ full → put_manifest B repo bytes ≡ Err e
           by_room true is = rw (known, fits, read.named, linked_is refs, held, new, is) (let h = rw is at refused in let same : LimitReached ≡ e = cc in ap Err same)
-          by_room false is = by_count (nat_le 1024 (manifests_in L.links.manifests repo)) is refl
+          by_room false is = by_count (nat_le limit (manifests_in L.links.manifests repo)) is refl
 
       -- the new catalog has the repository, and the manifest in it
       abbrev l1 : Linked
       l1 = record L.links { repos = set.insert L.links.repos repo; manifests = insert L.links.manifests (repo, sha256_text bytes) bytes }
 
-      added : (l' : Linked) → add_manifest_outcome L.links t repo bytes ≡ Ok (tt, l') → (cannot_appear L.links t repo ≡ false) × (nat_le 1024 (manifests_in L.links.manifests repo) ≡ false) × (l1 ≡ l')
+      added : (l' : Linked) → add_manifest_outcome L.links t repo bytes ≡ Ok (tt, l') → (cannot_appear L.links t repo ≡ false) × (nat_le limit (manifests_in L.links.manifests repo) ≡ false) × (l1 ≡ l')
       added l' done = by_room (cannot_appear L.links t repo) refl
         where
-          by_count : (full : Bool) → cannot_appear L.links t repo ≡ false → nat_le 1024 (manifests_in L.links.manifests repo) ≡ full → (cannot_appear L.links t repo ≡ false) × (nat_le 1024 (manifests_in L.links.manifests repo) ≡ false) × (l1 ≡ l')
+          by_count : (full : Bool) → cannot_appear L.links t repo ≡ false → nat_le limit (manifests_in L.links.manifests repo) ≡ full → (cannot_appear L.links t repo ≡ false) × (nat_le limit (manifests_in L.links.manifests repo) ≡ false) × (l1 ≡ l')
           by_count true room is = absurd (let h = rw (room, new, is) at done in cc)
           by_count false room is = (room, is, (let h = rw (room, new, is) at done in same_state h))
 
-          by_room : (full : Bool) → cannot_appear L.links t repo ≡ full → (cannot_appear L.links t repo ≡ false) × (nat_le 1024 (manifests_in L.links.manifests repo) ≡ false) × (l1 ≡ l')
+          by_room : (full : Bool) → cannot_appear L.links t repo ≡ full → (cannot_appear L.links t repo ≡ false) × (nat_le limit (manifests_in L.links.manifests repo) ≡ false) × (l1 ≡ l')
           by_room true is = absurd (let h = rw is at done in cc)
-          by_room false is = by_count (nat_le 1024 (manifests_in L.links.manifests repo)) is refl
+          by_room false is = by_count (nat_le limit (manifests_in L.links.manifests repo)) is refl
 
       pub put_ok : (l' : Linked) → add_manifest_outcome L.links t repo bytes ≡ Ok (tt, l') → put_manifest B repo bytes ≡ Ok (name, book_catalog (record L { links = l' }))
       put_ok l' done =

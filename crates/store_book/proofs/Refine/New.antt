@@ -104,7 +104,7 @@ module _ (tenants : List Tenant) (slots first max_blob : ℕ) where
 
   pub IsBook-opening : AreTenants tenants → IsSized slots max_blob → IsBook L
   IsBook-opening are sized = record {
-    sound = subst (λ (D : Catalog). Sound D) (sym catalog-opening) (Sound-opening tenants slots max_blob are.limits.some are.limits.few are.rising sized.blobs (recursion_from_All _ tenants are.limits.quotas) sized.some sized.few);
+    sound = subst (λ (D : Catalog). Sound D) (sym catalog-opening) (Sound-opening tenants slots max_blob are.limits.some are.limits.few are.rising sized.blobs (recursion_from_All _ tenants are.limits.quotas) (recursion_from_All _ tenants are.limits.limits) sized.some sized.few);
     tied = record {
       marks = length-marks (new_slots slots first);
       distinct = λ k m g h at_k at_m same. nothing (none_held slots first k) at_k;

@@ -11,7 +11,7 @@ use Rattle.blob_digest.specs.declared.refusal.Refusal.{Refusal}
 use Rattle.spec_lib.specs.Sets as set
 use Rattle.spec_lib.proofs.Sets.{insert_there, remove-insert}
 use Rattle.slot_table.specs.Slots.{Slot}
-use Rattle.link_table.specs.Linked.{Linked, HasNoLinks, known_tenant, appear, vanish}
+use Rattle.link_table.specs.Linked.{Linked, HasNoLinks, known_tenant, limits_in, appear, vanish}
 use Rattle.upload_table.specs.Uploaded.{Uploaded, start_upload, with_new_session}
 use Rattle.spec_lib.specs.Texts.{Text}
 use Rattle.store_model.specs.Catalog.{Catalog, session_charges_of}
@@ -62,11 +62,15 @@ module _ (L : Layers) (l' : Linked) (t : ℕ) (repo : Text) (b : Bool) where
   abbrev C : Catalog
   C = book_catalog L
 
-  pub start_ok : (u' : Uploaded) (n : ℕ) → known_tenant L.links repo ≡ Ok t → appear L.links t repo ≡ Ok (b, l') → start_upload L.uploads t repo ≡ Ok (n, u') →
+  -- the tenant's limit
+  abbrev IsLimit : ℕ → Type 0
+  IsLimit limit = limit ≡ (limits_in L.links.tenants t).sessions
+
+  pub start_ok : (limit : ℕ) → IsLimit limit → (u' : Uploaded) (n : ℕ) → known_tenant L.links repo ≡ Ok t → appear L.links t repo ≡ Ok (b, l') → start_upload limit L.uploads t repo ≡ Ok (n, u') →
       start C repo ≡ Ok (n, book_catalog (record L { links = l'; uploads = u' }))
-  start_ok u' n known appeared opened =
+  start_ok limit is u' n known appeared opened =
       let a = ok_of_if _ _ _ _ appeared in
-      let s = ok_of_if _ _ _ _ opened in
+      let s = ok_of_if _ _ _ _ (subst (λ k. start_upload k L.uploads t repo ≡ Ok (n, u')) is opened) in
       rw (known, a.0, s.0) (λ i. Ok ((s.1 i).0, book_catalog (record L { links = (a.1 i).1; uploads = (s.1 i).1 })))
 
   pub start_refused_first : (e : Refusal) → known_tenant L.links repo ≡ Ok t → appear L.links t repo ≡ Err e → start C repo ≡ Err e
@@ -74,10 +78,10 @@ module _ (L : Layers) (l' : Linked) (t : ℕ) (repo : Text) (b : Bool) where
       let a = err_of_if _ _ _ _ refused in
       rw (known, a.0) (ap Err a.1)
 
-  pub start_refused : (e : Refusal) → known_tenant L.links repo ≡ Ok t → appear L.links t repo ≡ Ok (b, l') → start_upload L.uploads t repo ≡ Err e → start C repo ≡ Err e
-  start_refused e known appeared refused =
+  pub start_refused : (limit : ℕ) → IsLimit limit → (e : Refusal) → known_tenant L.links repo ≡ Ok t → appear L.links t repo ≡ Ok (b, l') → start_upload limit L.uploads t repo ≡ Err e → start C repo ≡ Err e
+  start_refused limit is e known appeared refused =
       let a = ok_of_if _ _ _ _ appeared in
-      let s = err_of_if _ _ _ _ refused in
+      let s = err_of_if _ _ _ _ (subst (λ k. start_upload k L.uploads t repo ≡ Err e) is refused) in
       rw (known, a.0, s.0) (ap Err s.1)
 
   module _ (book : IsBook L) where
@@ -106,13 +110,13 @@ module _ (L : Layers) (l' : Linked) (t : ℕ) (repo : Text) (b : Bool) where
     }
 
     -- after a session was opened, the layers make a book
-    pub IsBook-start : (u' : Uploaded) (n : ℕ) → length repo ≤ 255 → known_tenant L.links repo ≡ Ok t → appear L.links t repo ≡ Ok (b, l') → start_upload L.uploads t repo ≡ Ok (n, u') → IsBook (record L { links = l'; uploads = u' })
-    IsBook-start u' n short known appeared opened =
+    pub IsBook-start : (limit : ℕ) → IsLimit limit → (u' : Uploaded) (n : ℕ) → length repo ≤ 255 → known_tenant L.links repo ≡ Ok t → appear L.links t repo ≡ Ok (b, l') → start_upload limit L.uploads t repo ≡ Ok (n, u') → IsBook (record L { links = l'; uploads = u' })
+    IsBook-start limit is u' n short known appeared opened =
         let a = ok_of_if _ _ _ _ appeared in
-        let s = ok_of_if _ _ _ _ opened in
+        let s = ok_of_if _ _ _ _ (subst (λ k. start_upload k L.uploads t repo ≡ Ok (n, u')) is opened) in
         let links : l1 ≡ l' = λ i. (a.1 i).1 in
         let uploads : u1 ≡ u' = λ i. (s.1 i).1 in
-        let step : start C repo ≡ Ok (n, C1) = start_ok u' n known appeared opened ∙ (λ i. Ok (n, book_catalog (record L { links = sym links i; uploads = sym uploads i }))) in
+        let step : start C repo ≡ Ok (n, C1) = start_ok limit is u' n known appeared opened ∙ (λ i. Ok (n, book_catalog (record L { links = sym links i; uploads = sym uploads i }))) in
         let sound = Sound-after_start C C1 repo n step short book.sound in
         subst (λ (x : Layers). IsBook x) (λ i. record L { links = links i; uploads = uploads i }) (opened_book sound)
 

@@ -11,6 +11,7 @@ use Rattle.upload_table.specs.Uploaded.{Uploaded}
 use Rattle.store_book.specs.Printing.{Prints}
 use Rattle.store_book.specs.declared.print.Tables.{Tables}
 use Rattle.store_model.specs.BookText.{blob_line, book_line, end_line, manifest_row, repository_line, session_line, tenant_line}
+use Rattle.blob_digest.specs.Tenants.{no_tenant}
 
 -- the number of links that the slots count for a digest
 abbrev pub links_to : List Slot → Text → ℕ
@@ -44,12 +45,12 @@ book_rows l u slots = book_line ++ flat_map (tenant_rows l u slots) (enumerate_f
 
 -- the tenant with this number
 abbrev pub tenant_in : List Tenant → ℕ → Tenant
-tenant_in tenants t = option_map_or (λ x. x) (slice_get tenants t) (record { name = []; quota = 0; share = 0 })
+tenant_in tenants t = option_map_or (λ x. x) (slice_get tenants t) no_tenant
 
--- each tenant has a next session number, and at most 1,024 repositories
+-- each tenant has a next session number, and at most as many repositories as the greatest limit
 pub record CanPrint (l : Linked) (u : Uploaded) : Type 0 where
   pub next : length u.next ≡ length l.tenants
-  pub repos : (t : ℕ) → length (repos_of l t) ≤ 1024
+  pub repos : (t : ℕ) → length (repos_of l t) ≤ 65536
 
 -- ---- the text that a successful call appends
 

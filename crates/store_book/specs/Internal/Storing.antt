@@ -101,7 +101,7 @@ check_held l repo digests = option_map_or (λ digest. Err (ManifestBlobUnknown d
 abbrev pub add_manifest_outcome : Linked → ℕ → Text → Text → OutcomeIn Linked (Unit {0})
 add_manifest_outcome l t repo bytes = do
   shown ← appear l t repo
-  put_manifest shown.1 repo bytes
+  put_manifest shown.1 t repo bytes
 
 -- the manifest is added, and its repository if it is new
 abbrev pub AddsManifest : Result (Unit {0}) Refusal → Linked → Linked → ℕ → Text → Text → Type 0

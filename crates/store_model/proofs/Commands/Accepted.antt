@@ -13,6 +13,7 @@ use Rattle.store_model.specs.Catalog.{Tenant, Session, Catalog, tenant_name, ten
 use Rattle.store_model.specs.Sessions.{session_in, length_after, has_other_length}
 use Rattle.spec_lib.proofs.Texts.{text_is_same}
 use Rattle.spec_lib.proofs.Outcomes.{bound_ok, not_refused}
+use Rattle.blob_digest.specs.Tenants.{no_tenant}
 
 pub left_by : {A : Type 0} {a b : A} {C C' : Catalog} → ◌≡◌ {A = Result (A × Catalog) Refusal} (Ok (a, C)) (Ok (b, C')) → C ≡ C'
 left_by {A} {a} {b} {C} {C'} h = let p : ◌≡◌ {A = A × Catalog} (a, C) (b, C') = cc in λ i. (p i).1
@@ -25,7 +26,7 @@ not_more true n = omega arith
 not_more false n = omega arith
 
 pub tenant_there : (tenants : List Tenant) (repo : Text) (t : ℕ) → tenant_of tenants repo ≡ Some t → t < length tenants
-tenant_there tenants repo t known = let none : Tenant = record { name = []; quota = 0; share = 0 } in (position-Some (λ x. same_text x.name (tenant_name repo)) tenants t none known).0
+tenant_there tenants repo t known = let none : Tenant = no_tenant in (position-Some (λ x. same_text x.name (tenant_name repo)) tenants t none known).0
 
 pub session_found : (o : Option Session) (repo : Text) (s : Session) → session_in o repo ≡ Ok s → (o ≡ Some s) × (s.repo ≡ repo)
 session_found None repo s h = absurd cc

@@ -12,7 +12,7 @@ use Rattle.blob_digest.specs.Digests.{sha256_text}
 use Rattle.spec_lib.specs.Sets as set
 use Rattle.oci_manifest.specs.Manifests.{refs_of, max_manifest}
 use Rattle.spec_lib.specs.Texts.{Text}
-use Rattle.store_model.specs.Catalog.{Catalog, tenant_of, holds, used_bytes, manifests_of}
+use Rattle.store_model.specs.Catalog.{Catalog, tenant_of, holds, used_bytes, manifests_of, limits_of}
 use Rattle.store_model.specs.Commands.{tenant, check_all_links, has_manifest, is_full_of_manifests, add_manifest, put_manifest, manifest, delete_manifest, lacks_room_for}
 use Rattle.spec_lib.specs.Outcomes.{refuse}
 use Rattle.store_model.specs.Invariant.{WellFormed, KeepsQuotas, KeepsShares, FitsSlots, Sound}
@@ -22,6 +22,8 @@ use Rattle.store_model.proofs.Invariant.Repos.{WellFormed-appear, used_bytes-app
 use Rattle.store_model.proofs.Invariant.Manifests.{WellFormed-put_manifest, WellFormed-drop_manifest}
 use Rattle.spec_lib.proofs.Outcomes.{bound_ok, not_refused, some_of_ok}
 use Rattle.store_model.proofs.Commands.Accepted.{left_by}
+use Rattle.blob_digest.specs.Tenants.{greatest_limits}
+use Rattle.store_model.proofs.Invariant.TenantLimits.{limits_supported}
 
 -- each reference is linked if none was missing
 all_hold : (C : Catalog) (repo : Text) (digests : List Text) → check_all_links C repo digests ≡ Ok tt → AllByRecursion (λ d. holds C repo d ≡ true) digests
@@ -47,9 +49,12 @@ module _ (C C' : Catalog) (repo bytes name : Text) (stepped : put_manifest C rep
       get C.manifests key ≡ None → add_manifest C t repo bytes ≡ Ok (name, C') → Put
   by_new t known small refs read linked absent h =
       let a = bound_ok (refuse (lacks_room_for C t repo) LimitReached) _ (name, C') h in
-      let b = bound_ok (refuse (is_full_of_manifests C repo) LimitReached) _ (name, C') a.2 in
+      let b = bound_ok (refuse (is_full_of_manifests C t repo) LimitReached) _ (name, C') a.2 in
       let room = not_refused _ _ _ a.1 in
-      let few : manifests_of C repo < 1024 = leb-false 1024 (manifests_of C repo) (not_refused _ _ _ b.1) in
+      let limit : ℕ = (limits_of C t).manifests in
+      let under : manifests_of C repo < limit = leb-false limit (manifests_of C repo) (not_refused _ _ _ b.1) in
+      let supported : limit ≤ greatest_limits.manifests = (limits_supported C lawful t).manifests in
+      let few : manifests_of C repo < greatest_limits.manifests = omega (arith, under, supported) in
       let with_repo : Catalog = record C { repos = set.insert C.repos repo } in
       let appeared : WellFormed with_repo = WellFormed-appear C t repo lawful known short room in
       let made = WellFormed-put_manifest with_repo appeared repo bytes (now nat_list_cmp_total exact_bytes C.repos repo) small refs read linked absent few in

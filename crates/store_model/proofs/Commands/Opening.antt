@@ -11,6 +11,7 @@ use Rattle.store_model.specs.Invariant.{WellFormed, Sound}
 use Rattle.spec_lib.proofs.Rows.{entries-empty}
 use Rattle.store_model.proofs.Invariant.Shares.{held_count-none}
 use Rattle.spec_lib.proofs.Options.{nothing, no_member}
+use Rattle.blob_digest.specs.Tenants.{AreSupported}
 
 one_each : (tenants : List Tenant) (t : ℕ) → t < length tenants → 0 < get_or (map {B = ℕ} (λ _. 1) tenants) t 0
 one_each [] t lt = absurd (omega arith)
@@ -26,8 +27,8 @@ module _ (tenants : List Tenant) (slots max_blob : ℕ) where
   abbrev C : Catalog
   C = opening tenants slots max_blob
 
-  pub WellFormed-opening : 0 < length tenants → length tenants ≤ 256 → IsStrictlySortedBy text_cmp (map (λ t. t.name) tenants) → max_blob ≤ 2 ^ 40 → AllByRecursion (λ t. t.quota ≤ 2 ^ 50) tenants → WellFormed C
-  WellFormed-opening some few rise small quotas = record {
+  pub WellFormed-opening : 0 < length tenants → length tenants ≤ 256 → IsStrictlySortedBy text_cmp (map (λ t. t.name) tenants) → max_blob ≤ 2 ^ 40 → AllByRecursion (λ t. t.quota ≤ 2 ^ 50) tenants → AllByRecursion (λ t. AreSupported t.limits) tenants → WellFormed C
+  WellFormed-opening some few rise small quotas limits = record {
     content = λ d b h. nothing (get-empty text_cmp d) h;
     links = λ l h. no_member (get-empty link_cmp l) h;
     manifests = λ l bytes h. nothing (get-empty link_cmp l) h;
@@ -47,14 +48,15 @@ module _ (tenants : List Tenant) (slots max_blob : ℕ) where
       names_rise = rise;
       max_blob = small;
       quotas = quotas;
+      limits = limits;
     };
     few_sessions = λ t. rw (entries-empty session_number_cmp Session) (omega arith);
     few_manifests = λ r. rw (entries-empty link_cmp Text) (omega arith);
   }
 
-  pub Sound-opening : 0 < length tenants → length tenants ≤ 256 → IsStrictlySortedBy text_cmp (map (λ t. t.name) tenants) → max_blob ≤ 2 ^ 40 → AllByRecursion (λ t. t.quota ≤ 2 ^ 50) tenants → 0 < slots → slots ≤ 65536 → Sound C
-  Sound-opening some few rise small quotas any at_most = record {
-    lawful = WellFormed-opening some few rise small quotas;
+  pub Sound-opening : 0 < length tenants → length tenants ≤ 256 → IsStrictlySortedBy text_cmp (map (λ t. t.name) tenants) → max_blob ≤ 2 ^ 40 → AllByRecursion (λ t. t.quota ≤ 2 ^ 50) tenants → AllByRecursion (λ t. AreSupported t.limits) tenants → 0 < slots → slots ≤ 65536 → Sound C
+  Sound-opening some few rise small quotas limits any at_most = record {
+    lawful = WellFormed-opening some few rise small quotas limits;
     quotas = λ t there. rw (entries-empty text_cmp Resident, entries-empty session_number_cmp Session) (omega arith);
     shares = λ t there. (let none = held_count-none C t (ap (map {B = Link} (λ (e : Link × Unit {0}). e.0)) (entries-empty link_cmp (Unit {0}))) in omega arith);
     slots = record { some = any; few = at_most; fit = let none : len (empty {X = Resident} {R = text_cmp}) ≡ 0 = len-empty text_cmp Resident in omega arith };

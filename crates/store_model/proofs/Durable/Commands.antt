@@ -139,7 +139,7 @@ module _ (taken : TakenChunks) (D : DurableState) (C : Catalog) (a : Agrees take
 
       by : (t : ℕ) (x : Bool) → has_manifest C r (sha256_text b) ≡ x → Leaves P (if x then Ok (sha256_text b, C) else add_manifest C t r b)
       by t true is = there true is C a
-      by t false is = past P (refuse (lacks_room_for C t r) LimitReached) _ (λ _ _. past P (refuse (is_full_of_manifests C r) LimitReached) _ (λ _ _.
+      by t false is = past P (refuse (lacks_room_for C t r) LimitReached) _ (λ _ _. past P (refuse (is_full_of_manifests C t r) LimitReached) _ (λ _ _.
           there false is (with_manifest C r b) (Agrees-manifests taken (record D { repos = set.insert D.repos r }) (record C { repos = set.insert C.repos r }) (Agrees-add_repo taken D C a r) (λ m. insert m (r, sha256_text b) b))))
 
   -- ---- any command

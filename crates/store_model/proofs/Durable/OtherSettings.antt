@@ -15,6 +15,7 @@ use Rattle.store_model.specs.Invariant.{AreWellFormedNumbers, AreWellFormedRepos
 use Rattle.store_model.specs.Recovery.{CanRestore, StoresRestartWithOtherSettings, restored_blob, restored_blobs, restored_catalog, with_tenants}
 use Rattle.store_model.proofs.Durable.Restored.{agrees as agrees_there, content, kept_blob}
 use Rattle.store_model.proofs.Durable.Uses.{open_less, was_open}
+use Rattle.blob_digest.specs.Tenants.{AreSupported, greatest_limits}
 
 -- ---- tenants with the same names
 
@@ -33,7 +34,7 @@ module _ (ts us : List Tenant) (names : map (λ t. t.name) ts ≡ map (λ t. t.n
   repositories : (present : set.Set text_cmp) → AreWellFormedRepositories us present → AreWellFormedRepositories ts present
   repositories present all = record {
     owned = λ r there. subst (λ o. IsSome o) (sym (same_tenant r)) (all.owned r there);
-    few = λ t. subst (λ n. n ≤ 1024) (sym (λ i. count_by (λ r. same_owner t r i) (set.items present))) (all.few t);
+    few = λ t. subst (λ n. n ≤ greatest_limits.repos) (sym (λ i. count_by (λ r. same_owner t r i) (set.items present))) (all.few t);
     short_names = all.short_names;
   }
 
@@ -44,12 +45,13 @@ module _ (ts us : List Tenant) (names : map (λ t. t.name) ts ≡ map (λ t. t.n
     few = all.few;
   }
 
-  limits : (longest longer : ℕ) → longer ≤ 2 ^ 40 → AllByRecursion (λ t. t.quota ≤ 2 ^ 50) ts → AreWithinLimits us longest → AreWithinLimits ts longer
-  limits longest longer small quotas all = record {
+  limits : (longest longer : ℕ) → longer ≤ 2 ^ 40 → AllByRecursion (λ t. t.quota ≤ 2 ^ 50) ts → AllByRecursion (λ t. AreSupported t.limits) ts → AreWithinLimits us longest → AreWithinLimits ts longer
+  limits longest longer small quotas supported all = record {
     tenants = subst (λ n. (0 < n) × (n ≤ 256)) (sym same_length) all.tenants;
     names_rise = subst (λ ns. IsStrictlySortedBy text_cmp ns) (sym names) all.names_rise;
     max_blob = small;
     quotas = quotas;
+    limits = supported;
   }
 
 -- ---- the restored catalog
@@ -109,7 +111,7 @@ module _ (taken : TakenChunks) (D : DurableState) (C : Catalog) (a : Agrees take
     sessions = session;
     repositories = repositories tenants C.tenants names C.repos lawful.repositories;
     numbering = numbers tenants C.tenants names C.next lawful.numbering;
-    limits = limits tenants C.tenants names C.max_blob max_blob can.limit can.quotas lawful.limits;
+    limits = limits tenants C.tenants names C.max_blob max_blob can.limit can.quotas can.limits lawful.limits;
     few_sessions = λ t. let less = open_less taken D C a t in let few = lawful.few_sessions t in omega arith;
     few_manifests = lawful.few_manifests;
   }

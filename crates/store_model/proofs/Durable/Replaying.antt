@@ -17,7 +17,7 @@ use Rattle.spec_lib.proofs.Maps.{get-insert_at}
 use Rattle.spec_lib.proofs.Options.{some_none, some_same}
 use Rattle.spec_lib.proofs.Outcomes.{bound_ok, not_refused, some_of_ok}
 use Rattle.spec_lib.proofs.Texts.{same_itself}
-use Rattle.store_model.specs.Catalog.{Catalog, CheckedIn, HandRecord, Resident, Session, SessionNumber, charged_length, next_number_of, open_sessions, quota_of, received_length, tenant_holds, tenant_of, used_bytes}
+use Rattle.store_model.specs.Catalog.{Catalog, CheckedIn, HandRecord, Resident, Session, SessionNumber, charged_length, next_number_of, open_sessions, quota_of, received_length, tenant_holds, tenant_of, used_bytes, limits_of}
 use Rattle.store_model.specs.Commands
 use Rattle.store_model.specs.Commands.{check_share, add_manifest, after_append_in, append, cannot_open, check_all_links, check_link, check_no_referrer, check_quota, check_repo, chunk_length_check, close, content_in, delete, finish, has_links, has_manifest, has_manifests, has_same_bytes, has_sessions, has_slot, has_source, is_digest_accepted, is_full_of_manifests, is_in_use, lacks_room_for, manifest, mounted_outcome, not_busy, put_back, put_back_outcome_in, referrer, session, session_in, session_of_hand, start, started_outcome, tenant, with_link, with_manifest, with_new_session, with_stored_blob, without_repo, without_session}
 use Rattle.store_model.specs.Durable.{Agrees, BlobLinked, BlobUnlinked, Change, DurableState, IsReturnedAsTaken, ManifestDeleted, ManifestPut, RepoRemoved, SessionDropped, SessionOpened, SessionSealed, TakenChunks, change_of, chunk_change, command_change, filled_chunk, mount_change, session_key}
@@ -182,12 +182,12 @@ module _ (D : DurableState) (R : Catalog) (b : Agrees empty D R) (sound : Sound 
 
 -- ---- repositories, links and manifests
 
-few : (n m : ℕ) → m ≤ n → nat_le 64 n ≡ false → nat_le 64 m ≡ false
-few n m less is = by (nat_le 64 m) refl
+few : (k n m : ℕ) → m ≤ n → nat_le k n ≡ false → nat_le k m ≡ false
+few k n m less is = by (nat_le k m) refl
   where
-    by : (b : Bool) → nat_le 64 m ≡ b → b ≡ false
+    by : (b : Bool) → nat_le k m ≡ b → b ≡ false
     by false e = refl
-    by true e = absurd (let more = leb-true 64 m e in let small = leb-false 64 n is in omega arith)
+    by true e = absurd (let more = leb-true k m e in let small = leb-false k n is in omega arith)
 
 module _ (taken : TakenChunks) (D : DurableState) (C : Catalog) (a : Agrees taken D C) (slots max_blob retired : ℕ) (residents : FinMap text_cmp Resident) where
   -- the store in which the change is made again
@@ -211,8 +211,8 @@ module _ (taken : TakenChunks) (D : DurableState) (C : Catalog) (a : Agrees take
 
         opens_is : cannot_open target t ≡ false
         opens_is =
-            let both = or_parts (nat_le 64 (open_sessions C t)) (nat_le (2 ^ 32) (next_number_of C t)) opens in
-            rw (few (open_sessions C t) (open_sessions target t) (open_less taken D C a t) both.0, both.1) refl
+            let both = or_parts (nat_le (limits_of C t).sessions (open_sessions C t)) (nat_le (2 ^ 32) (next_number_of C t)) opens in
+            rw (few (limits_of C t).sessions (open_sessions C t) (open_sessions target t) (open_less taken D C a t) both.0, both.1) refl
 
         accepted : start target r ≡ Ok (next_number_of C t, with_new_session target t r)
         accepted = rw (tenant_is, room_is, opens_is) refl
@@ -304,9 +304,9 @@ module _ (taken : TakenChunks) (D : DurableState) (C : Catalog) (a : Agrees take
             added : add_manifest target t r bytes ≡ Ok (sha256_text bytes, with_manifest target r bytes)
             added =
                 let c = bound_ok (refuse (lacks_room_for C t r) LimitReached) _ (x, X) h in
-                let d = bound_ok (refuse (is_full_of_manifests C r) LimitReached) _ (x, X) c.2 in
+                let d = bound_ok (refuse (is_full_of_manifests C t r) LimitReached) _ (x, X) c.2 in
                 let room_is : refuse (lacks_room_for target t r) LimitReached ≡ Ok tt = c.1 in
-                let few_is : refuse (is_full_of_manifests target r) LimitReached ≡ Ok tt = d.1 in
+                let few_is : refuse (is_full_of_manifests target t r) LimitReached ≡ Ok tt = d.1 in
                 rw (room_is, few_is) refl
 
             accepted : Commands.put_manifest target r bytes ≡ Ok (sha256_text bytes, with_manifest target r bytes)

@@ -15,17 +15,18 @@ use Rattle.store_model.specs.BookText.{book_text}
 use Rattle.store_model.specs.Queries.{stat, stat_manifest, usage, slot_use, repo_count, free_slots}
 use Rattle.blob_digest.proofs.KeyOrders.{number_cmp_total, link_cmp_total}
 use Rattle.spec_lib.proofs.Rows.{entries-empty}
+use Rattle.blob_digest.specs.Tenants.{usual_limits}
 
 -- two tenants of 1,000 and 5 bytes, as they are printed before anything is done
 abbrev two_tenants : Catalog
-two_tenants = opening (record { name = codes "acme"; quota = 1000; share = 4294967295 } ∷ record { name = codes "zeta"; quota = 5; share = 4294967295 } ∷ []) 64 1048576
+two_tenants = opening (record { name = codes "acme"; quota = 1000; share = 4294967295; limits = usual_limits } ∷ record { name = codes "zeta"; quota = 5; share = 4294967295; limits = usual_limits } ∷ []) 64 1048576
 
 opening_text : book_text two_tenants ≡ codes "book\ntenant acme used 0 quota 1000 next 1\ntenant zeta used 0 quota 5 next 1\nend\n"
 unfolding digits
 opening_text = simp (get-empty, entries-empty) refl
 
 abbrev acme : List Tenant
-acme = record { name = codes "acme"; quota = 3; share = 4294967295 } ∷ []
+acme = record { name = codes "acme"; quota = 3; share = 4294967295; limits = usual_limits } ∷ []
 
 abbrev one : Text
 one = codes "acme/one"

@@ -14,9 +14,10 @@ use Rattle.store_model.specs.Lanes.{IsPaired, held_hand}
 use Rattle.store_model.proofs.Examples.Digests.{abc, abc_bytes}
 use Rattle.store_model.proofs.Examples.Histories.{closed, first_hand, legal, repo, second_hand, steps, taken_again}
 use Rattle.store_model.proofs.Durable.Histories.{logs_agree}
+use Rattle.blob_digest.specs.Tenants.{usual_limits}
 
 abbrev tenants : List Tenant
-tenants = record { name = codes "acme"; quota = 9; share = 4294967295 } ∷ []
+tenants = record { name = codes "acme"; quota = 9; share = 4294967295; limits = usual_limits } ∷ []
 
 -- three of the six steps change the durable state
 records : changes_of tenants steps ≡ SessionOpened repo (0, 1) ∷ ChunkReceived (0, 1) abc_bytes ∷ SessionSealed (0, 1) abc [] ∷ []

@@ -14,12 +14,13 @@ use Rattle.store_model.specs.Sweep.{is_orphan, IsAfterSweep, IsSweep}
 use Rattle.store_model.specs.declared.swept.Swept.{Swept}
 use Rattle.store_model.proofs.Examples.Digests.{abc, abc_bytes, abc_named}
 use Rattle.store_model.proofs.Examples.Sweeps.{is_only}
+use Rattle.blob_digest.specs.Tenants.{usual_limits}
 
 abbrev pub repo : Text
 repo = codes "acme/one"
 
 abbrev pub empty_store : Catalog
-empty_store = opening (record { name = codes "acme"; quota = 9; share = 4294967295 } ∷ []) 1 10
+empty_store = opening (record { name = codes "acme"; quota = 9; share = 4294967295; limits = usual_limits } ∷ []) 1 10
 
 abbrev opened : Catalog
 opened = with_new_session empty_store 0 repo

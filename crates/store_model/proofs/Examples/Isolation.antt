@@ -22,9 +22,10 @@ use Rattle.store_model.proofs.Noninterference.Runs.{isolated}
 use Rattle.spec_lib.proofs.Maps.{get-insert_other, cases_key}
 use Rattle.spec_lib.proofs.Options.{nothing}
 use Rattle.store_model.proofs.Examples.Digests.{abc, abc_bytes, abc_named, obj, obj_bytes, obj_named}
+use Rattle.blob_digest.specs.Tenants.{usual_limits}
 
 abbrev tenants : List Tenant
-tenants = record { name = codes "acme"; quota = 3; share = 4294967295 } ∷ record { name = codes "other"; quota = 9; share = 4294967295 } ∷ []
+tenants = record { name = codes "acme"; quota = 3; share = 4294967295; limits = usual_limits } ∷ record { name = codes "other"; quota = 9; share = 4294967295; limits = usual_limits } ∷ []
 
 abbrev one : Text
 one = codes "acme/one"

@@ -26,6 +26,7 @@ use Rattle.store_model.specs.Commands.{put_manifest, get_manifest, delete_manife
 use Rattle.store_model.specs.BookText.{manifest_text, manifest_line}
 use Rattle.spec_lib.proofs.Maps.{get-insert_at, remove-insert_new}
 use Rattle.store_model.proofs.Examples.Digests.{abc, abc_bytes, obj, obj_bytes}
+use Rattle.blob_digest.specs.Tenants.{usual_limits}
 
 abbrev one : Text
 one = codes "acme/one"
@@ -35,7 +36,7 @@ fresh = codes "acme/new"
 
 -- a tenant of 1,000 bytes
 abbrev empty_book : Catalog
-empty_book = opening (record { name = codes "acme"; quota = 1000; share = 4294967295 } ∷ []) 64 10
+empty_book = opening (record { name = codes "acme"; quota = 1000; share = 4294967295; limits = usual_limits } ∷ []) 64 10
 
 abbrev one_linked : Catalog
 one_linked = record empty_book {

@@ -8,12 +8,13 @@ use Rattle.blob_digest.proofs.KeyOrders.{link_cmp_total, number_cmp_total}
 use Rattle.spec_lib.specs.Sets as set
 use Rattle.spec_lib.specs.Texts.{Text}
 use Rattle.spec_lib.proofs.Rows.{entries-empty}
-use Rattle.store_model.specs.Catalog.{Catalog, CheckedIn, CheckedOutWith, Session, Tenant, next_number_of, opening, repos_of, tenant_of}
+use Rattle.store_model.specs.Catalog.{Catalog, CheckedIn, CheckedOutWith, Session, Tenant, next_number_of, opening, repos_of, tenant_of, limits_of}
 use Rattle.store_model.specs.Commands.{cannot_open, remove_repo, start, with_new_session, without_repo}
 use Rattle.store_model.specs.Durable.{RepoRemoved, SessionDropped, SessionOpened, changes_of}
 use Rattle.store_model.specs.Histories.{CommandCall}
 use Rattle.store_model.specs.Runs.{Abandon, Done, Number, RemoveRepo, Start}
 use Rattle.store_model.proofs.Examples.Digests.{abc, obj}
+use Rattle.blob_digest.specs.Tenants.{usual_limits}
 
 abbrev one : Text
 one = codes "acme/one"
@@ -22,7 +23,7 @@ abbrev two : Text
 two = codes "acme/two"
 
 abbrev tenants : List Tenant
-tenants = record { name = codes "acme"; quota = 1000; share = 4294967295 } ∷ []
+tenants = record { name = codes "acme"; quota = 1000; share = 4294967295; limits = usual_limits } ∷ []
 
 -- a store with two repositories
 abbrev unused : Catalog
@@ -61,13 +62,13 @@ no_repository = simp (get-insert {X = Unit {0}} nat_list_cmp_total, get-empty) r
 no_tenant : remove_repo unused (codes "other/one") ≡ Err NameUnknown
 no_tenant = refl
 
--- a tenant with 1,024 repositories may use another name after a removal
-module _ (C : Catalog) (t : ℕ) (old new : Text) (known : tenant_of C.tenants new ≡ Some t) where
+-- a tenant with as many repositories as its limit may use another name after a removal
+module _ (C : Catalog) (t : ℕ) (old new : Text) (known : tenant_of C.tenants new ≡ Some t) (usual : limits_of C t ≡ usual_limits) where
   refused_at_the_limit : set.contains C.repos new ≡ false → repos_of C t ≡ 1024 → start C new ≡ Err LimitReached
-  refused_at_the_limit absent full = rw (known, absent, full) refl
+  refused_at_the_limit absent full = rw (known, absent, usual, full) refl
 
   accepted_after_a_removal : set.contains (without_repo C old).repos new ≡ false → repos_of (without_repo C old) t ≡ 1023 → cannot_open C t ≡ false → start (without_repo C old) new ≡ Ok (next_number_of C t, with_new_session (without_repo C old) t new)
-  accepted_after_a_removal absent room opens = rw (known, absent, room, opens) refl
+  accepted_after_a_removal absent room opens = rw (known, absent, opens, usual, room) refl
 
 -- the changes of a repository that comes and goes
 comes_and_goes : changes_of tenants (CommandCall (Start one) (Ok (Number 1)) ∷ CommandCall (Abandon one 1) (Ok (Number 0)) ∷ CommandCall (RemoveRepo one) (Ok Done) ∷ CommandCall (RemoveRepo one) (Err NameUnknown) ∷ []) ≡

@@ -10,9 +10,10 @@ use Rattle.store_model.specs.declared.mount.Mount.TheVariants as mounting
 use Rattle.store_model.specs.Noninterference.{events_of, commands_of, replies, isolated_replies}
 use Rattle.blob_digest.proofs.KeyOrders.{number_cmp_total}
 use Rattle.spec_lib.proofs.Rows.{entries-empty}
+use Rattle.blob_digest.specs.Tenants.{usual_limits}
 
 abbrev two : List Tenant
-two = record { name = codes "acme"; quota = 3; share = 4294967295 } ∷ record { name = codes "other"; quota = 9; share = 4294967295 } ∷ []
+two = record { name = codes "acme"; quota = 3; share = 4294967295; limits = usual_limits } ∷ record { name = codes "other"; quota = 9; share = 4294967295; limits = usual_limits } ∷ []
 
 abbrev empty_book : Catalog
 empty_book = opening two 64 10

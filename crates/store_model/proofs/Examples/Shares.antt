@@ -12,6 +12,7 @@ use Rattle.store_model.specs.Catalog.{Catalog, CheckedIn, Resident, Tenant, held
 use Rattle.store_model.specs.Commands.{check_share, close, with_stored_blob}
 use Rattle.store_model.specs.Sessions.{Session}
 use Rattle.store_model.proofs.Examples.Digests.{abc, abc_bytes, abc_named, obj, obj_bytes, obj_named}
+use Rattle.blob_digest.specs.Tenants.{usual_limits}
 
 module _ (C : Catalog) (t : ℕ) (digest : Text) where
   module _ (new : tenant_holds C t digest ≡ false) where
@@ -27,7 +28,7 @@ module _ (C : Catalog) (t : ℕ) (digest : Text) where
 -- ---- a store of two tenants with a share of one blob each, of which the first has one
 
 abbrev tenants : List Tenant
-tenants = record { name = codes "acme"; quota = 1000; share = 1 } ∷ record { name = codes "other"; quota = 1000; share = 1 } ∷ []
+tenants = record { name = codes "acme"; quota = 1000; share = 1; limits = usual_limits } ∷ record { name = codes "other"; quota = 1000; share = 1; limits = usual_limits } ∷ []
 
 abbrev one : Text
 one = codes "acme/one"

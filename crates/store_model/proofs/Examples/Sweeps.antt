@@ -20,6 +20,7 @@ use Rattle.store_model.proofs.Commands.SweepAnswers.{idle_sweep}
 use Rattle.std.proofs.lemmas.Bool.{false≢true}
 use Rattle.spec_lib.proofs.Options.{nothing}
 use Rattle.store_model.proofs.Examples.Digests.{abc, abc_bytes, abc_named, obj, obj_bytes, obj_named}
+use Rattle.blob_digest.specs.Tenants.{usual_limits}
 
 abbrev one : Text
 one = codes "acme/one"
@@ -32,7 +33,7 @@ abbrev with_blob : Bool → Bool → FinMap text_cmp Resident
 with_blob condemned lent = insert empty abc (record { bytes = abc_bytes; condemned = condemned; lent = lent })
 
 abbrev kept : Catalog
-kept = record (opening (record { name = codes "acme"; quota = 1000; share = 4294967295 } ∷ []) 1 10) {
+kept = record (opening (record { name = codes "acme"; quota = 1000; share = 4294967295; limits = usual_limits } ∷ []) 1 10) {
   repos = set.insert set.empty_set one;
   links = set.insert set.empty_set (one, abc);
   residents = with_blob false false;

@@ -20,9 +20,11 @@ use Rattle.store_model.specs.WholeCommands.{AreWholeCommands, CheckedOutSessions
 use Rattle.store_model.proofs.Commands.Opening.{Sound-opening}
 use Rattle.store_model.proofs.Noninterference.Histories.{alone_in_histories}
 use Rattle.store_model.proofs.WholeCommands.Histories.{histories_are_runs}
+use Rattle.blob_digest.specs.Tenants.{usual_limits}
+use Rattle.blob_digest.proofs.Tenants.{usual_supported}
 
 abbrev tenants : List Tenant
-tenants = record { name = codes "acme"; quota = 3; share = 4294967295 } ∷ record { name = codes "other"; quota = 9; share = 4294967295 } ∷ []
+tenants = record { name = codes "acme"; quota = 3; share = 4294967295; limits = usual_limits } ∷ record { name = codes "other"; quota = 9; share = 4294967295; limits = usual_limits } ∷ []
 
 abbrev one : Text
 one = codes "acme/one"
@@ -209,7 +211,7 @@ whole = (_, _, empty, (refl, refl), refl, (_, _, empty, (refl, refl), refl, (_, 
 
 sound : Sound book
 unfolding IsStrictlySortedBy
-sound = Sound-opening tenants 64 10 (omega arith) (omega arith) ((refl, tt), (tt, tt)) (omega arith) (omega arith, (omega arith, tt)) (omega arith) (omega arith)
+sound = Sound-opening tenants 64 10 (omega arith) (omega arith) ((refl, tt), (tt, tt)) (omega arith) (omega arith, (omega arith, tt)) (usual_supported, (usual_supported, tt)) (omega arith) (omega arith)
 
 is_run : IsRun book commands both_back
 is_run = histories_are_runs tenants 64 10 calm_steps (state both_back 5 6) commands sound (opened backs (state both_back 5 6) back) (tt, (tt, (tt, (tt, (tt, (tt, (tt, tt))))))) whole

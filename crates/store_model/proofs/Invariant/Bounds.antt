@@ -4,7 +4,7 @@ use Prim.Native.Nat.{zero, suc}
 use Rattle.std.specs.Prelude.{slice_get, nat_lt, nat_eq, ◌||◌}
 use Rattle.std.specs.Option.{option_eq, option_map_or}
 use Rattle.std.specs.Cmp.Lexicographic.{nat_list_cmp_total}
-use Rattle.std.specs.List.{count_by, list_any, AllByRecursion}
+use Rattle.std.specs.List.{count_by, list_any}
 use Rattle.std.proofs.lemmas.Bool.{true≢false, false_from_ne_true, lt-ltb}
 use Rattle.std.proofs.lemmas.Bool.Decides.{nat_tests}
 use Rattle.std.proofs.lemmas.List.Sums.{sum_by-cons, count_by-le-length}
@@ -17,13 +17,9 @@ use Rattle.spec_lib.specs.Texts.{Text}
 use Rattle.store_model.specs.Catalog.{Tenant, Resident, Catalog, tenant_of, is_repo_of_tenant, quota_of, tenant_holds, blob_share, used_bytes, link_count}
 use Rattle.store_model.specs.Invariant.{WellFormed, Sound}
 use Rattle.store_model.proofs.Invariant.DistinctUse.{some_member}
+use Rattle.store_model.proofs.Invariant.TenantLimits.{each_at}
 use Rattle.spec_lib.proofs.Lists.{list_any_count, count_by-none}
 use Rattle.store_model.proofs.Commands.Accepted.{tenant_there}
-
-each_at : {A : Type 0} (P : A → Type 0) (xs : List A) (k : ℕ) (x : A) → AllByRecursion P xs → slice_get xs k ≡ Some x → P x
-each_at P [] k x all at = cc
-each_at P (y ∷ xs) zero x all at = let same : y ≡ x = cc in subst P same all.0
-each_at P (y ∷ xs) (suc k) x all at = each_at P xs k x all.1 at
 
 -- no quota is above 2^50
 pub quota_small : (C : Catalog) → WellFormed C → (t : ℕ) → quota_of C t ≤ 2 ^ 50
@@ -76,7 +72,7 @@ none_below : (o : Option ℕ) → option_map_or (λ t. nat_lt t 0) o false ≡ f
 none_below None = refl
 none_below (Some t) = grind (arith, nat_tests)
 
-count_below : (tenants : List Tenant) (xs : List Text) → ((t : ℕ) → count_by (is_repo_of_tenant tenants t) xs ≤ 1024) → (n : ℕ) → count_by (below tenants n) xs ≤ n * 1024
+count_below : (tenants : List Tenant) (xs : List Text) → ((t : ℕ) → count_by (is_repo_of_tenant tenants t) xs ≤ 65536) → (n : ℕ) → count_by (below tenants n) xs ≤ n * 65536
 count_below tenants xs few zero = let none = count_by-none (below tenants 0) (λ r. none_below (tenant_of tenants r)) xs in omega arith
 count_below tenants xs few (suc n) =
     let step = count_by-or (below tenants (suc n)) (below tenants n) (is_repo_of_tenant tenants n) (λ r h. below-suc (tenant_of tenants r) n h) xs in
@@ -84,12 +80,12 @@ count_below tenants xs few (suc n) =
     let one = few n in
     omega arith
 
--- no count is above the number of all repositories, 256 tenants with 1,024 each
-pub count_small : (C : Catalog) → WellFormed C → (d : Text) → link_count C d ≤ 262144
+-- no count is above the number of all repositories, 256 tenants with 65,536 each
+pub count_small : (C : Catalog) → WellFormed C → (d : Text) → link_count C d ≤ 16777216
 count_small C lawful d =
     let T : ℕ = length C.tenants in
     let xs : List Text = set.items C.repos in
-    let within : count_by (below C.tenants T) xs ≤ T * 1024 = count_below C.tenants xs lawful.repositories.few T in
+    let within : count_by (below C.tenants T) xs ≤ T * 65536 = count_below C.tenants xs lawful.repositories.few T in
     let parts : count_by (below C.tenants T) xs + count_by (λ r. not (below C.tenants T r)) xs ≡ length xs = count_by-split (below C.tenants T) xs in
     let none : count_by (λ r. not (below C.tenants T r)) xs ≡ 0 = zero_of (count_by (λ r. not (below C.tenants T r)) xs) (sym (list_any_count (λ r. not (below C.tenants T r)) xs) ∙ no_stranger) in
     let most : link_count C d ≤ length xs = count_by-le-length (λ r. set.contains C.links (r, d)) xs in

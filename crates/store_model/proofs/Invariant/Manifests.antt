@@ -12,6 +12,7 @@ use Rattle.blob_digest.proofs.KeyOrders.{link_cmp_total, exact_link}
 use Rattle.spec_lib.proofs.Texts.{text_is_same}
 use Rattle.spec_lib.proofs.Sums.{sum_new}
 use Rattle.spec_lib.proofs.Maps.{got-insert, got-remove, sum_at}
+use Rattle.blob_digest.specs.Tenants.{greatest_limits}
 
 module _ (C : Catalog) (lawful : WellFormed C) (r bytes : Text) where
   abbrev key : Link
@@ -21,7 +22,7 @@ module _ (C : Catalog) (lawful : WellFormed C) (r bytes : Text) where
   after = record C { manifests = insert C.manifests key bytes }
 
   pub WellFormed-put_manifest : set.contains C.repos r ≡ true → length bytes ≤ max_manifest → (refs : List Text) → refs_of bytes ≡ Some refs → AllByRecursion (λ d. holds C r d ≡ true) refs →
-      get C.manifests key ≡ None → manifests_of C r < 1024 → WellFormed after
+      get C.manifests key ≡ None → manifests_of C r < greatest_limits.manifests → WellFormed after
   WellFormed-put_manifest there small refs read linked absent few = record {
     content = lawful.content;
     links = lawful.links;
@@ -39,7 +40,7 @@ module _ (C : Catalog) (lawful : WellFormed C) (r bytes : Text) where
     few_manifests = λ q.
         let sum : manifests_of after q ≡ cond (same_text r q) 1 0 + manifests_of C q = sum_new link_cmp_total exact_link (λ e. cond (same_text e.0.0 q) 1 0) C.manifests key bytes absent in
         let before = lawful.few_manifests q in
-        elim (same_text r q) as (λ b. same_text r q ≡ b → manifests_of after q ≤ 1024) [
+        elim (same_text r q) as (λ b. same_text r q ≡ b → manifests_of after q ≤ greatest_limits.manifests) [
           | true ↦ λ e. let one : cond {A = ℕ} (same_text r q) 1 0 ≡ 1 = ap (λ b. cond b 1 0) e in let same : manifests_of C r ≡ manifests_of C q = ap (manifests_of C) (text_is_same r q e) in omega arith
           | false ↦ λ e. let none : cond {A = ℕ} (same_text r q) 1 0 ≡ 0 = ap (λ b. cond b 1 0) e in omega arith
         ] refl;

@@ -8,7 +8,7 @@ use Rattle.std.proofs.lemmas.Bool.{cases_eq, leb-false, eq-eqb, ne_eqb, true≢f
 use Rattle.std.proofs.lemmas.Map.Lookups.{exact_bytes}
 use Rattle.spec_lib.specs.Sets as set
 use Rattle.spec_lib.specs.Texts.{Text, text_cmp}
-use Rattle.store_model.specs.Catalog.{Catalog, is_repo_of, tenant_of, repos_of, holds, tenant_holds, blob_share, used_bytes}
+use Rattle.store_model.specs.Catalog.{Catalog, is_repo_of, tenant_of, repos_of, holds, tenant_holds, blob_share, used_bytes, limits_of}
 use Rattle.store_model.specs.Commands.{lacks_room_for}
 use Rattle.store_model.specs.Invariant.{WellFormed}
 use Rattle.spec_lib.proofs.Sets.{insert_there, still, member}
@@ -16,6 +16,8 @@ use Rattle.spec_lib.proofs.Rows.{sum_by-map}
 use Rattle.spec_lib.proofs.Sums.{sum_new}
 use Rattle.spec_lib.proofs.Lists.{list_any_count}
 use Rattle.spec_lib.proofs.Options.{no_value}
+use Rattle.blob_digest.specs.Tenants.{greatest_limits}
+use Rattle.store_model.proofs.Invariant.TenantLimits.{limits_supported}
 
 second : (a b : Bool) → a ≡ false → (not a && b) ≡ false → b ≡ false
 second true b e h = absurd (true≢false e)
@@ -48,13 +50,15 @@ module _ (C : Catalog) (t : ℕ) (r : Text) (lawful : WellFormed C) (known : ten
   abbrev after : Catalog
   after = record C { repos = set.insert C.repos r }
 
-  pub repos-appear : (u : ℕ) → lacks_room_for C t r ≡ false → repos_of after u ≤ 1024
-  repos-appear u room = elim (set.contains C.repos r) as (λ b. set.contains C.repos r ≡ b → repos_of after u ≤ 1024) [
+  pub repos-appear : (u : ℕ) → lacks_room_for C t r ≡ false → repos_of after u ≤ greatest_limits.repos
+  repos-appear u room = elim (set.contains C.repos r) as (λ b. set.contains C.repos r ≡ b → repos_of after u ≤ greatest_limits.repos) [
     | true ↦ λ old. rw (insert_there nat_list_cmp_total exact_bytes C.repos r old) (lawful.repositories.few u)
     | false ↦ λ none.
         let sum : repos_of after u ≡ cond (is_repo_of C u r) 1 0 + repos_of C u = count_new (is_repo_of C u) C.repos r none in
         let before = lawful.repositories.few u in
-        let few : repos_of C t < 1024 = leb-false 1024 (repos_of C t) (second (set.contains C.repos r) (nat_le 1024 (repos_of C t)) none room) in
+        let limit : ℕ = (limits_of C t).repos in
+        let few : repos_of C t < limit = leb-false limit (repos_of C t) (second (set.contains C.repos r) (nat_le limit (repos_of C t)) none room) in
+        let supported : limit ≤ greatest_limits.repos = (limits_supported C lawful t).repos in
         elim (cases_eq u t) [
           | inl e ↦ let same : repos_of C u ≡ repos_of C t = ap (repos_of C) e in let one = at_most_one (is_repo_of C u r) in omega arith
           | inr other ↦ let none : cond {A = ℕ} (is_repo_of C u r) 1 0 ≡ 0 = ap (λ b. cond b 1 0) (is_no_other C t u r known other) in omega arith

@@ -6,12 +6,14 @@ use Rattle.std.proofs.lemmas.Bool.{cases_eq, leb-false, eq-eqb, ne_eqb, or_parts
 use Rattle.std.proofs.lemmas.List.{length-set}
 use Rattle.spec_lib.specs.Sets as set
 use Rattle.spec_lib.specs.Texts.{Text}
-use Rattle.store_model.specs.Catalog.{SessionNumber, CheckedIn, Session, Catalog, is_repo_of, open_sessions, session_charge, used_bytes, next_number_of, charged_length}
+use Rattle.store_model.specs.Catalog.{SessionNumber, CheckedIn, Session, Catalog, is_repo_of, open_sessions, session_charge, used_bytes, next_number_of, charged_length, limits_of}
 use Rattle.store_model.specs.Commands.{cannot_open}
 use Rattle.store_model.specs.Invariant.{WellFormed, WellFormedSession}
 use Rattle.blob_digest.proofs.KeyOrders.{number_cmp_total, exact_number}
 use Rattle.spec_lib.proofs.Sums.{sum_new, sum_split}
 use Rattle.spec_lib.proofs.Maps.{got-insert, got-remove, sum_at}
+use Rattle.blob_digest.specs.Tenants.{greatest_limits}
+use Rattle.store_model.proofs.Invariant.TenantLimits.{limits_supported}
 
 module _ (C : Catalog) (t : ℕ) (r : Text) (lawful : WellFormed C) where
   abbrev new : Session
@@ -45,17 +47,19 @@ module _ (C : Catalog) (t : ℕ) (r : Text) (lawful : WellFormed C) where
 
     next_small : (u : ℕ) → next_number_of after u ≤ 2 ^ 32
     next_small u =
-        let room : next_number_of C t < 2 ^ 32 = leb-false (2 ^ 32) (next_number_of C t) (or_parts (nat_le 64 (open_sessions C t)) (nat_le (2 ^ 32) (next_number_of C t)) opens).1 in
+        let room : next_number_of C t < 2 ^ 32 = leb-false (2 ^ 32) (next_number_of C t) (or_parts (nat_le (limits_of C t).sessions (open_sessions C t)) (nat_le (2 ^ 32) (next_number_of C t)) opens).1 in
         elim (cases_eq u t) [
           | inl e ↦ rw (e, get_or-set_same C.next t (next_number_of C t + 1) 0 in_next) (omega arith)
           | inr other ↦ rw (get_or-set_other C.next t u (next_number_of C t + 1) 0 other) (lawful.numbering.few u)
         ]
 
-    open_few : (u : ℕ) → open_sessions after u ≤ 64
+    open_few : (u : ℕ) → open_sessions after u ≤ greatest_limits.sessions
     open_few u =
         let sum = sum_new number_cmp_total exact_number (λ e. cond (e.0.0 == u) 1 0) C.sessions (t, next_number_of C t) new fresh in
         let before = lawful.few_sessions u in
-        let few : open_sessions C t < 64 = leb-false 64 (open_sessions C t) (or_parts _ _ opens).0 in
+        let limit : ℕ = (limits_of C t).sessions in
+        let few : open_sessions C t < limit = leb-false limit (open_sessions C t) (or_parts (nat_le limit (open_sessions C t)) (nat_le (2 ^ 32) (next_number_of C t)) opens).0 in
+        let supported : limit ≤ greatest_limits.sessions = (limits_supported C lawful t).sessions in
         elim (cases_eq u t) [
           | inl e ↦ let one : cond {A = ℕ} (t == u) 1 0 ≡ 1 = ap (λ b. cond b 1 0) (eq-eqb t u (sym e)) in let same : open_sessions C u ≡ open_sessions C t = ap (open_sessions C) e in omega arith
           | inr other ↦ let none : cond {A = ℕ} (t == u) 1 0 ≡ 0 = ap (λ b. cond b 1 0) (ne_eqb t u (λ e. other (sym e))) in omega arith

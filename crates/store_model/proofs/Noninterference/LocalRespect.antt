@@ -86,7 +86,7 @@ module _ (P : Catalog → Type 0) where
     pub put_leaves : (b : Text) → P C → ((t : ℕ) → tenant_of C.tenants r ≡ Some t → P (with_manifest C r b)) → Leaves P (Commands.put_manifest C r b)
     put_leaves b same new =
         of_tenant _ (λ t k. past (refuse (nat_lt max_manifest (length b)) SizeInvalid) _ (λ _ _. past (ok_or (refs_of b) ManifestInvalid) _ (λ refs _. past (check_all_links C r refs) _ (λ _ _.
-        either (has_manifest C r (sha256_text b)) _ _ (λ _. same) (λ _. past (refuse (lacks_room_for C t r) LimitReached) _ (λ _ _. past (refuse (is_full_of_manifests C r) LimitReached) _ (λ _ _. new t k)))))))
+        either (has_manifest C r (sha256_text b)) _ _ (λ _. same) (λ _. past (refuse (lacks_room_for C t r) LimitReached) _ (λ _ _. past (refuse (is_full_of_manifests C t r) LimitReached) _ (λ _ _. new t k)))))))
 
     pub delete_manifest_leaves : (m : Text) → P (record C { manifests = remove C.manifests (r, m) }) → Leaves P (Commands.delete_manifest C r m)
     delete_manifest_leaves m new = of_tenant _ (λ t k. past (ok_or (get C.manifests (r, m)) ManifestUnknown) _ (λ _ _. new))

@@ -13,7 +13,7 @@ use Rattle.std.proofs.lemmas.Map.Lookups.{exact_bytes}
 use Rattle.blob_digest.specs.declared.range.ByteRange.{ByteRange}
 use Rattle.spec_lib.specs.Sets as set
 use Rattle.spec_lib.specs.Texts.{Text, text_cmp, same_text}
-use Rattle.store_model.specs.Catalog.{Link, SessionNumber, Session, Resident, Catalog, tenant_of, is_repo_of_tenant, is_repo_of, quota_of, share_of, holds, tenant_holds, held_digests, session_charge, session_charges_of, blob_share, used_bytes, open_sessions, repos_of, manifests_of, received_length, Tenant, link_cmp, session_number_cmp}
+use Rattle.store_model.specs.Catalog.{Link, SessionNumber, Session, Resident, Catalog, tenant_of, is_repo_of_tenant, is_repo_of, quota_of, share_of, holds, tenant_holds, held_digests, session_charge, session_charges_of, blob_share, used_bytes, open_sessions, repos_of, manifests_of, received_length, Tenant, link_cmp, session_number_cmp, limits_of}
 use Rattle.store_model.specs.Sessions.{at_home}
 use Rattle.spec_lib.specs.Outcomes.{◌>>=◌, refuse}
 use Rattle.store_model.specs.Commands.{check_share, content_in, session, session_in, not_busy, chunk_length_check, length_after, has_links, has_manifests, has_sessions, is_in_use, lacks_room_for, referrer, refers}
@@ -156,8 +156,11 @@ module _ (t : ℕ) (C D : Catalog) (alike : Alike t C D) where
       count_agree nat_list_cmp_total exact_bytes (is_repo_of C t) (is_repo_of C t) C.repos D.repos alike.repos (λ r off. off)
       ∙ ap (λ ts. repos_of (record D { tenants = ts }) t) alike.tenants
 
+  pub limits_same : limits_of C t ≡ limits_of D t
+  limits_same = ap (λ ts. limits_of (record D { tenants = ts }) t) alike.tenants
+
   pub room_same : (r : Text) → is_repo_of C t r ≡ true → lacks_room_for C t r ≡ lacks_room_for D t r
-  room_same r own = λ i. not (is_some (alike.repos r own i)) && nat_le 1024 (repos_same i)
+  room_same r own = λ i. not (is_some (alike.repos r own i)) && nat_le (limits_same i).repos (repos_same i)
 
   pub open_same : open_sessions C t ≡ open_sessions D t
   open_same = sum_agree number_cmp_total exact_number (λ n. n.0 == t) (λ e. cond (e.0.0 == t) 1 0) C.sessions D.sessions alike.sessions (λ e off. ap (λ b. cond b 1 0) off)

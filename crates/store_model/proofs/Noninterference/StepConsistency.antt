@@ -29,7 +29,7 @@ use Rattle.spec_lib.proofs.Texts.{same_itself}
 use Rattle.spec_lib.proofs.Options.{option_eq_some}
 use Rattle.spec_lib.proofs.Outcomes.{bound_ok}
 use Rattle.spec_lib.proofs.Agreement.{AgreeOn, agree_insert, agree_remove}
-use Rattle.store_model.proofs.Noninterference.SameFor.{Alike, visible, with_repos, with_links, with_manifests, with_sessions, Consistent, of_same, holds_same, own_holds_same, tenant_holds_same, room_same, open_same, session_found, session_same, check_same, whole_same, quota_same, share_check_same, in_use_same, manifests_same, referrer_same, used_same}
+use Rattle.store_model.proofs.Noninterference.SameFor.{Alike, visible, with_repos, with_links, with_manifests, with_sessions, Consistent, of_same, holds_same, own_holds_same, tenant_holds_same, room_same, open_same, session_found, session_same, check_same, whole_same, quota_same, share_check_same, in_use_same, manifests_same, referrer_same, used_same, limits_same}
 
 -- Two outcomes agree: equal results with equivalent catalogs, equal errors, or `StoreFull` with other tenants present.
 abbrev pub Matches : {A : Type 0} → ℕ → Outcome A → Outcome A → Type 0
@@ -162,7 +162,7 @@ module _ (content : Text → Text) (t : ℕ) (C D : Catalog) (alike : Alike t C 
   own_start = with_tenant _ _ (
       same_check t (refuse (lacks_room_for C t r) LimitReached) (refuse (lacks_room_for D t r) LimitReached) (ap (λ b. refuse b LimitReached) (room_same t C D alike r own)) _ _ (λ _ _.
       same_check t (refuse (cannot_open C t) LimitReached) (refuse (cannot_open D t) LimitReached)
-      (λ i. refuse (nat_le 64 (open_same t C D alike i) || nat_le (2 ^ 32) (alike.next i)) LimitReached) _ _ (λ _ _.
+      (λ i. refuse (nat_le (limits_same t C D alike i).sessions (open_same t C D alike i) || nat_le (2 ^ 32) (alike.next i)) LimitReached) _ _ (λ _ _.
       (alike.next, new_alike))))
 
   -- the values that are read of a tenant
@@ -229,7 +229,7 @@ module _ (content : Text → Text) (t : ℕ) (C D : Catalog) (alike : Alike t C 
       same_if t (contains_key C.manifests (r, sha256_text b)) (contains_key D.manifests (r, sha256_text b)) (ap is_some (found_same (sha256_text b))) _ _ _ _
       (λ _. (refl, alike))
       (λ _. same_check t (refuse (lacks_room_for C t r) LimitReached) (refuse (lacks_room_for D t r) LimitReached) (ap (λ b. refuse b LimitReached) (room_same t C D alike r own)) _ _ (λ _ _.
-      same_check t (refuse (is_full_of_manifests C r) LimitReached) (refuse (is_full_of_manifests D r) LimitReached) (λ i. refuse (nat_le 1024 (manifests_same t C D alike r own i)) LimitReached) _ _ (λ _ _. (
+      same_check t (refuse (is_full_of_manifests C t r) LimitReached) (refuse (is_full_of_manifests D t r) LimitReached) (λ i. refuse (nat_le (limits_same t C D alike i).manifests (manifests_same t C D alike r own i)) LimitReached) _ _ (λ _ _. (
         refl,
         with_manifests t _ _ (with_repos t (visible C) (visible D) alike _ _ (agree_insert nat_list_cmp_total exact_bytes (is_repo_of C t) C.repos D.repos r tt alike.repos)) _ _ (agree_insert link_cmp_total exact_link (λ l. is_repo_of C t l.0) C.manifests D.manifests (r, sha256_text b) b alike.manifests),
       ))))))))

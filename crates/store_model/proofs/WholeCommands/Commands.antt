@@ -13,7 +13,7 @@ use Rattle.oci_manifest.specs.Manifests.{max_manifest, refs_of}
 use Rattle.spec_lib.specs.Outcomes.{◌>>=◌, refuse}
 use Rattle.spec_lib.specs.Texts.{Text, same_text}
 use Rattle.spec_lib.proofs.Outcomes.{bound_ok}
-use Rattle.store_model.specs.Catalog.{Catalog, CheckedIn, SessionNumber, holds, Session, next_number_of, quota_of, received_length, used_bytes}
+use Rattle.store_model.specs.Catalog.{Catalog, CheckedIn, SessionNumber, holds, Session, next_number_of, quota_of, received_length, used_bytes, limits_of}
 use Rattle.store_model.specs.Commands
 use Rattle.store_model.specs.Commands.{Outcome, check_all_links, cannot_open, chunk_length_check, has_manifest, has_slot, has_source, is_digest_accepted, is_full_of_manifests, lacks_room_for, check_link, linked_blob, with_new_session, not_busy, referrer, session, session_in, with_stored_blob, tenant, check_no_referrer, content_in, with_leased, with_link, with_manifest, check_quota, check_repo, check_share, has_links, has_manifests, is_in_use}
 use Rattle.store_model.specs.Invariant.{WellFormed}
@@ -161,7 +161,7 @@ module _ (hands : CheckedOutSessions) where
     start_same : (r : Text) → SameAtHome hands (Commands.start C r) (Commands.start D r)
     start_same r = same (tenant C r) _ _ (λ t _. same (refuse (lacks_room_for C t r) LimitReached) _ _ (λ _ _.
         line (refuse (cannot_open C t) LimitReached) (refuse (cannot_open D t) LimitReached)
-        (alike _ _ (ap (λ n. refuse (nat_le 64 n || nat_le (2 ^ 32) (next_number_of C t)) LimitReached) (open_home hands C m at_home t))) _ _ (λ _ _.
+        (alike _ _ (ap (λ n. refuse (nat_le (limits_of C t).sessions n || nat_le (2 ^ 32) (next_number_of C t)) LimitReached) (open_home hands C m at_home t))) _ _ (λ _ _.
         (insert m (t, next_number_of C t) (record { repo = r; chunks = CheckedIn [] }), refl, new_home t r))))
 
     append_same : (r : Text) (n : ℕ) (g : Option ByteRange) (b : Text) → SameAtHome hands (Commands.append C r n g b) (Commands.append D r n g b)
@@ -225,7 +225,7 @@ module _ (hands : CheckedOutSessions) where
     put_same r b = same (tenant C r) _ _ (λ t _. same (refuse (nat_lt max_manifest (length b)) SizeInvalid) _ _ (λ _ _. same (ok_or (refs_of b) ManifestInvalid) _ _ (λ refs _.
         line (check_all_links C r refs) (check_all_links D r refs) (alike _ _ (linked_same r refs)) _ _ (λ _ _. same_if (has_manifest C r (sha256_text b)) _ _ _ _
         (λ _. (m, refl, at_home))
-        (λ _. same (refuse (lacks_room_for C t r) LimitReached) _ _ (λ _ _. same (refuse (is_full_of_manifests C r) LimitReached) _ _ (λ _ _. (m, refl, at_home))))))))
+        (λ _. same (refuse (lacks_room_for C t r) LimitReached) _ _ (λ _ _. same (refuse (is_full_of_manifests C t r) LimitReached) _ _ (λ _ _. (m, refl, at_home))))))))
 
     delete_manifest_same : (r name : Text) → SameAtHome hands (Commands.delete_manifest C r name) (Commands.delete_manifest D r name)
     delete_manifest_same r name = same (tenant C r) _ _ (λ _ _. same (ok_or (get C.manifests (r, name)) ManifestUnknown) _ _ (λ _ _. (m, refl, at_home)))

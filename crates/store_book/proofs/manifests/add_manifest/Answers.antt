@@ -1,11 +1,15 @@
-use Rattle.std.proofs.Common.{ap, ◌∙◌}
+use Rattle.std.proofs.Common.{ap, arith, length, ◌∙◌}
 use Rattle.spec_lib.specs.Sets as set
 use Rattle.link_table.specs.Linked.{Linked, vanish}
-use Rattle.link_table.proofs.Accepted.{appear-contains}
+use Rattle.link_table.proofs.Accepted.{appear-contains, appear-tenants}
 use Rattle.store_book.proofs.Refine.Manifests.{appeared_put}
 use Rattle.store_book.proofs.Refine.Start.{undone, unneeded}
 use Rattle.store_book.proofs.manifests.add_manifest.Goals as goal
 use Rattle.store_book.proofs.manifests.add_manifest.Goals.{then-is_new, else-is_new}
+
+pub put_manifest-requires : goal.put_manifest-requires
+put_manifest-requires c =
+    omega (arith, c.requires.there, ap length (appear-tenants c.args.links.now c.appear.new.self c.args.tenant c.args.repo.now c.in_ok-is_new.is_new c.in_ok-is_new.ensures))
 
 pub vanish-requires-clause-there : goal.vanish-requires-clause-there
 vanish-requires-clause-there c =

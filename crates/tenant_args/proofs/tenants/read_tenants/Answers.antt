@@ -3,7 +3,7 @@ use Rattle.std.specs.Borrow.{Bor}
 use Rattle.std.proofs.lemmas.List.{length-map}
 use Rattle.std.proofs.lemmas.Result.{err_from_is_err_and}
 use Rattle.spec_lib.specs.Texts.{Text}
-use Rattle.blob_digest.specs.Tenants.{Tenant}
+use Rattle.blob_digest.specs.Tenants.{AreSupported, Tenant}
 use Rattle.blob_digest.specs.Names.{IsComponent}
 use Rattle.link_table.specs.Tenancy.{tenant_shown, tenants_shown, max_quota}
 use Rattle.tenant_args.proofs.TenantLists.{all_more, bad_word, once_more, one_spelled, words_more, words_round}
@@ -39,5 +39,6 @@ loop-word-preserved c =
       count = omega (arith, count, inv.count);
       components = rw added.4 (all_more (λ (t : Tenant). IsComponent t.name) old added.0 inv.components added.1.component);
       quotas = rw added.4 (all_more (λ (t : Tenant). t.quota ≤ max_quota) old added.0 inv.quotas added.1.small);
+      limits = rw added.4 (all_more (λ (t : Tenant). AreSupported t.limits) old added.0 inv.limits added.1.limits.supported);
       apart = rw added.4 (once_more old added.0 inv.apart added.2);
     }

@@ -2,6 +2,7 @@ use Rattle.std.proofs.Common.{◌≡◌, ◌≤◌, count_by, length, map, take}
 use Rattle.std.specs.List.{All}
 use Rattle.spec_lib.specs.Texts.{Text, same_text}
 use Rattle.blob_digest.specs.Names.{IsComponent}
+use Rattle.blob_digest.specs.Tenants.{AreSupported}
 use Rattle.link_table.specs.Tenancy.{tenants_shown, max_quota, max_tenants}
 use Rattle.tenant_args.specs.Tenants.{SpellTenants}
 use Rattle.tenant_args.proofs.tenants.read_tenants.Given as goal
@@ -14,5 +15,6 @@ invariant-loop-word l = record {
   count : length l.tenants.items ≡ l.word-index;
   components : All (λ t. IsComponent t.name) (tenants_shown l.tenants.items);
   quotas : All (λ t. t.quota ≤ max_quota) (tenants_shown l.tenants.items);
+  limits : All (λ t. AreSupported t.limits) (tenants_shown l.tenants.items);
   apart : (name : Text) → count_by (λ t. same_text t.name name) (tenants_shown l.tenants.items) ≤ 1;
 }

@@ -9,5 +9,5 @@ returns-in-Some c =
     let rows = c.self.inside.rows in
     let r = c.args.repo.now in
     let m = c.in-Some.group.now in
-    rw (← c.self.view_is) (put_there rows r (c.get_mut.follows.lender c.put.new.self) m c.put.new.self c.args.manifest.value c.put.result (group_of rows r m c.in-Some.ensures.value)
+    rw (← c.self.view_is) (put_there rows r c.args.limit (c.get_mut.follows.lender c.put.new.self) m c.put.new.self c.args.manifest.value c.put.result (group_of rows r m c.in-Some.ensures.value)
     (written rows r (c.get_mut.follows.lender c.put.new.self) m c.put.new.self c.in-Some.ensures.value (c.get_mut.follows.holds c.put.new.self).3) c.put.ensures)

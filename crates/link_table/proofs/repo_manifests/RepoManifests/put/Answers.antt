@@ -8,14 +8,14 @@ use Rattle.link_table.proofs.ManifestRows.{put_there, put_full, put_new, contain
 use Rattle.link_table.proofs.repo_manifests.RepoManifests.put.Goals as goal
 
 pub returns-then-contains_key : goal.returns-then-contains_key
-returns-then-contains_key c = rw (← c.self.view_is) (put_there (stored_manifests c.self.inside.rows) c.args.manifest.value (sym (contains-stored_manifests c.self.inside.rows (sha256_text c.args.manifest.value)) ∙ (rw (c.digest-digest.ensures, c.deref.ensures) at (sym c.contains_key.ensures ∙ c.if-contains_key.true))))
+returns-then-contains_key c = rw (← c.self.view_is) (put_there c.args.limit (stored_manifests c.self.inside.rows) c.args.manifest.value (sym (contains-stored_manifests c.self.inside.rows (sha256_text c.args.manifest.value)) ∙ (rw (c.digest-digest.ensures, c.deref.ensures) at (sym c.contains_key.ensures ∙ c.if-contains_key.true))))
 
-pub returns-then-len-ge-MAX_MANIFESTS : goal.returns-then-len-ge-MAX_MANIFESTS
-returns-then-len-ge-MAX_MANIFESTS c =
+pub returns-then-len-limit : goal.returns-then-len-limit
+returns-then-len-limit c =
     let d : c.digest-digest.result ≡ sha256_text c.args.manifest.value = c.digest-digest.ensures ∙ ap sha256_text c.deref.ensures in
     let none : contains_key (stored_manifests c.self.inside.rows) (sha256_text c.args.manifest.value) ≡ false = ap (contains_key (stored_manifests c.self.inside.rows)) (sym d) ∙ sym (contains-stored_manifests c.self.inside.rows c.digest-digest.result) ∙ sym c.contains_key.ensures ∙ c.if-contains_key.false in
-    let many : 1024 ≤ len (stored_manifests c.self.inside.rows) = omega (arith, len-stored_manifests c.self.inside.rows c.len.ensures.ordered, c.len.ensures.len, c.if-len-ge-MAX_MANIFESTS.true) in
-    (λ _. rw (← c.self.view_is) (put_full (stored_manifests c.self.inside.rows) c.args.manifest.value none many), refl)
+    let many : c.args.limit ≤ len (stored_manifests c.self.inside.rows) = omega (arith, len-stored_manifests c.self.inside.rows c.len.ensures.ordered, c.len.ensures.len, c.if-len-limit.true) in
+    (λ _. rw (← c.self.view_is) (put_full c.args.limit (stored_manifests c.self.inside.rows) c.args.manifest.value none many), refl)
 
 pub refer-requires : goal.refer-requires
 refer-requires c =
@@ -38,9 +38,9 @@ returns-in-Ok c =
     let rows = c.self.inside.rows in
     let d : c.digest-digest.result ≡ sha256_text c.args.manifest.value = c.digest-digest.ensures ∙ ap sha256_text c.deref.ensures in
     let none : contains_key (stored_manifests rows) (sha256_text c.args.manifest.value) ≡ false = ap (contains_key (stored_manifests rows)) (sym d) ∙ sym (contains-stored_manifests rows c.digest-digest.result) ∙ sym c.contains_key.ensures ∙ c.if-contains_key.false in
-    let few : len (stored_manifests rows) < 1024 = omega (arith, len-stored_manifests rows c.len.ensures.ordered, c.len.ensures.len, c.if-len-ge-MAX_MANIFESTS.false) in
+    let few : len (stored_manifests rows) < c.args.limit = omega (arith, len-stored_manifests rows c.len.ensures.ordered, c.len.ensures.len, c.if-len-limit.false) in
     let put = stored_manifests-insert rows c.insert.new.self c.digest-digest.result c.args.manifest c.in-Ok.ensures.updates.0 in
-    rw (← c.self.view_is) (put_new (stored_manifests rows) c.args.manifest.value none few ∙ (λ i. Ok (tt {0}, insert (stored_manifests rows) (sym d i) c.args.manifest.value)) ∙ (λ i. Ok (tt {0}, sym put i)))
+    rw (← c.self.view_is) (put_new c.args.limit (stored_manifests rows) c.args.manifest.value none few ∙ (λ i. Ok (tt {0}, insert (stored_manifests rows) (sym d i) c.args.manifest.value)) ∙ (λ i. Ok (tt {0}, sym put i)))
 
 pub invariant_of-self-in-Err : goal.invariant_of-self-in-Err
 invariant_of-self-in-Err c d o =
