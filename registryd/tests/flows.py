@@ -8,8 +8,8 @@ from server import Client, INDEX, MANIFEST, manifest_of, serving, sha256, sha512
 
 PATCH = {"Content-Type": "application/octet-stream"}
 
-# The greatest number of repositories of a tenant.
-MOST_NAMES = 1024
+# The greatest number of repositories of a tenant here.
+MOST_NAMES = 20
 
 
 class Flows:
@@ -218,7 +218,7 @@ def main():
         return flows.wrong == 0
     if len(sys.argv) > 1:
         sys.exit(not play(sys.argv[1]))
-    with serving("--slots", "64") as server:
+    with serving("--slots", "64", "--repositories", str(MOST_NAMES)) as server:
         good = play(server.address)
         ended = server.end()
     sys.exit(not good or ended != 0)

@@ -4,7 +4,8 @@ import collections, contextlib, json, os, re, sys, threading, time
 import server
 
 # The numbers of a tenant's uploads that stay open for a later request, and of those that end with their request.
-LASTING, PASSING = 60, 4
+PASSING = 4
+LASTING = server.UPLOADS - PASSING
 
 STUB = os.path.join(os.path.dirname(os.path.abspath(__file__)), "stub_store.py")
 

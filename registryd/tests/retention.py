@@ -223,15 +223,15 @@ def blobs_are_known_after_a_restart():
 
 
 def a_repository_takes_more_pushes_of_one_tag_than_it_has_manifests():
-    """Each push of a tag leaves a manifest, of which a repository takes 1,024."""
-    with serving(*KEEP, "--call-s", "20") as server:
+    """Each push of a tag leaves a manifest, of which a repository takes 100 here."""
+    with serving(*KEEP, "--call-s", "20", "--repository-manifests", "100") as server:
         client = server.client()
         def push(number):
             content = index(annotations={"n": str(number)})
             return client.ask("PUT", "/v2/acme/one/manifests/latest", content).status
-        statuses = {push(number) for number in range(1024)}
+        statuses = {push(number) for number in range(100)}
         assert statuses <= {201}, statuses
-        assert until(lambda: {push(1024 + number) for number in range(10)} == {201})
+        assert until(lambda: {push(100 + number) for number in range(10)} == {201})
         assert until(lambda: len(untagged(client)[0]) < 50), len(untagged(client)[0])
 
 

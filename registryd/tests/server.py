@@ -72,6 +72,10 @@ class Client:
             return self.ask_once(method, path, body, headers)
 
 
+# The maximum number of a tenant's open uploads, if a test gives none: it is soon reached.
+UPLOADS = 64
+
+
 class Server:
     """A registryd and its blobd. Each tenant may take all slots, unless a test is about shares."""
 
@@ -80,6 +84,8 @@ class Server:
         if "WITH_FOLDER" in os.environ:
             self.folder = tempfile.TemporaryDirectory()
             words = ("--data", self.folder.name, *words)
+        if "--uploads" not in words:
+            words = ("--uploads", str(UPLOADS), *words)
         command = [REGISTRYD, "--listen", "127.0.0.1:0", "--blobd", BLOBD, *words, *tenants]
         # SIGXFSZ stays ignored, as in Python, so that a test can limit the length of a file that a program writes.
         self.process = subprocess.Popen(command, stderr=self.log, restore_signals=False, **options)

@@ -131,6 +131,33 @@ def a_database_that_cannot_be_written():
             assert pulled(client, "acme/one", "v1") == (image, MANIFEST) and pulled(client, "acme/one", "v2") == 404
 
 
+def lower_limits():
+    """Starts with other limits of a tenant: each pair of folder and limit that fits serves, and another one is named."""
+    index = b'{"schemaVersion":2,"manifests":[],"annotations":{"n":"%d"}}'
+    with folder() as path:
+        def put(client, repo, number):
+            return client.ask("PUT", f"/v2/acme/{repo}/manifests/{sha256(index % number)}", index % number).status
+        words = ("--data", path, "--repositories", "2", "--repository-manifests", "2", "--uploads", "8")
+        with serving(*words) as server:
+            client = server.client()
+            assert [put(client, *key) for key in (("a", 1), ("a", 2), ("a", 3), ("b", 1), ("c", 1))] == [201, 201, 403, 201, 403]
+            assert [client.ask("POST", "/v2/acme/a/blobs/uploads/").status for _ in range(5)] == [202] * 4 + [429]
+            by_signal(server)
+        with serving("--data", path, "--repositories", "3", "--repository-manifests", "3", "--uploads", "9") as server:
+            client = server.client()
+            assert [put(client, *key) for key in (("a", 3), ("a", 4), ("c", 1), ("d", 1))] == [201, 403, 201, 403]
+            assert [client.ask("POST", "/v2/acme/a/blobs/uploads/").status for _ in range(2)] == [202, 429]
+            by_signal(server)
+        for option, number in (("--repositories", 2), ("--repository-manifests", 2)):
+            check(ended("--data", path, option, str(number)), 10, "the log needs other settings", "acme")
+        with serving("--data", path, "--repositories", "3", "--repository-manifests", "3") as server:
+            assert server.client().ask("GET", f"/v2/acme/c/manifests/{sha256(index % 1)}").status == 200
+            by_signal(server)
+        for option, number in (("--repositories", 0), ("--repositories", 65537), ("--repository-manifests", 1048577), ("--uploads", 4),
+                               ("--uploads", 4097), ("--uploads", "x")):
+            check(ended("--data", path, option, str(number)), 2, option, str(number))
+
+
 def other_settings():
     with folder() as path:
         with serving("--data", path, "--slots", "8") as server:
@@ -286,7 +313,7 @@ def main():
     play("statuses", [
         a_folder_that_cannot_be_used, a_folder_that_another_process_has, a_database_that_another_process_has,
         a_folder_is_released_after_a_kill, a_damaged_log, a_damaged_database, a_log_that_cannot_be_written,
-        a_database_that_cannot_be_written, other_settings, each_program_ends_after_the_other_is_killed, options_of_a_folder_need_one,
+        a_database_that_cannot_be_written, other_settings, lower_limits, each_program_ends_after_the_other_is_killed, options_of_a_folder_need_one,
         a_disk_that_is_almost_full_takes_no_content, a_disk_never_gets_full,
         a_manifest_that_the_store_keeps_is_shown_again, a_manifest_whose_delete_is_late_has_no_tag,
         the_number_of_an_upload_that_is_undone_is_recorded])

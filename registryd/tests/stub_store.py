@@ -31,8 +31,8 @@ def reply(status=0, first=0, second=0, digest="", body=b""):
 
 
 def share_of(limits):
-    """Returns the share in the limits of a tenant, which are `QUOTA` or `QUOTA,BLOBS`."""
-    return int(limits.partition(",")[2] or UNLIMITED)
+    """Returns the share in the limits of a tenant: `QUOTA`, `QUOTA,BLOBS`, or more numbers after these."""
+    return int((limits.split(",") + [UNLIMITED])[1])
 
 
 class Stub:

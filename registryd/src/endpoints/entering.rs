@@ -11,9 +11,15 @@ impl Registry {
     pub(crate) fn check_limit<T>(&self, repo: &str, answer: Result<T, Refusal>, own: Limit) -> Result<T, Fault> {
         match answer {
             Ok(answer) => Ok(answer),
-            Err(Refusal { reason: Reason::LimitReached, .. }) => Err(Fault::limit(self.repositories.reached(repo, own), repo)),
+            Err(Refusal { reason: Reason::LimitReached, .. }) => Err(self.reached_limit(repo, own)),
             Err(refusal) => Err(refusal.into()),
         }
+    }
+
+    /// Returns the fault of a call on a repository that has reached a limit: that of repositories, or `own`.
+    pub(crate) fn reached_limit(&self, repo: &str, own: Limit) -> Fault {
+        let limit = self.repositories.reached(repo, self.limits.repositories, own);
+        Fault::limit(limit, self.limits.most(limit), repo)
     }
 
     /// Begins a call that may create a repository. If no tenant can have it, the store refuses the call.

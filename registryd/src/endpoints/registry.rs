@@ -10,6 +10,7 @@ use crate::http::in_flight::Memory;
 use crate::metadata::bounds::Bounds;
 use crate::metadata::cached::CachedContents;
 use crate::metadata::immutable_tags::ImmutableTags;
+use crate::metadata::limits::Limits;
 use crate::metadata::loose_blobs::LooseBlobs;
 use crate::metadata::manifests::Manifests;
 use crate::metadata::names::tenant_of;
@@ -67,6 +68,8 @@ pub(crate) struct Registry {
     pub(crate) slots: u32,
     /// The maximum length of a blob, in bytes.
     pub(crate) max_blob: u64,
+    /// The limits of each tenant in the store.
+    pub(crate) limits: Limits,
     /// The bounds on the manifests and tags of each tenant, as far as they are given.
     pub(crate) bounds: Bounds,
     /// The condition on which a client's delete of a manifest is made.

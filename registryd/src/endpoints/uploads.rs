@@ -119,10 +119,9 @@ fn find<'c>(call: &'c Call, name: &str) -> Result<UploadInUse<'c>, Fault> {
 
 /// Fails if no upload of the tenant can stay open, before one is opened. The store checks the name of the repository.
 fn check_room(call: &Call) -> Result<(), Fault> {
-    let Registry { uploads, repositories, .. } = &*call.registry;
-    match !is_repository(&call.repo) || uploads.have_room(tenant_of(&call.repo)) {
+    match !is_repository(&call.repo) || call.registry.uploads.have_room(tenant_of(&call.repo)) {
         true => Ok(()),
-        false => Err(Fault::limit(repositories.reached(&call.repo, Limit::LastingUploads), &call.repo)),
+        false => Err(call.registry.reached_limit(&call.repo, Limit::LastingUploads)),
     }
 }
 
@@ -133,7 +132,7 @@ async fn opened_response(call: &Call, session: u32) -> HandlerResult {
     let name = uploads.add(&call.repo, session);
     let checked = match uploads.keep_open(&name) {
         true => call.check_disk(),
-        false => Err(Fault::limit(Limit::LastingUploads, &call.repo)),
+        false => Err(Fault::limit(Limit::LastingUploads, call.registry.limits.lasting_uploads(), &call.repo)),
     };
     if let Err(fault) = checked {
         if call.registry.abandon_session(&call.repo, session).await?.is_ok() {

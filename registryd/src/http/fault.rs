@@ -2,7 +2,7 @@
 //! Codes").
 use crate::database::writer::WriteFailure;
 use crate::metadata::bounds::Excess;
-use crate::metadata::limits::{Limit, MAX_LASTING, MAX_MANIFESTS, MAX_REPOSITORIES, MAX_UPLOADS};
+use crate::metadata::limits::Limit;
 use crate::metadata::names::tenant_of;
 use crate::store::client::StoreUnavailable;
 use crate::store::frames::{Reason, Refusal};
@@ -191,15 +191,14 @@ impl Fault {
         Fault::new(StatusCode::FORBIDDEN, "DENIED", format!("{user} does not have the right to {right} in {repo}"))
     }
 
-    /// A call on a repository has reached a limit. The status is 403 because clients do not show the message of a 507. For uploads it
+    /// A call on a repository has reached a limit, whose number is given. The status is 403 because clients do not show the message of a 507. For uploads it
     /// is 429, since they end without anybody's doing, and clients wait.
-    pub(crate) fn limit(limit: Limit, repo: &str) -> Fault {
+    pub(crate) fn limit(limit: Limit, most: usize, repo: &str) -> Fault {
         let tenant = tenant_of(repo);
-        let (code, name, most) = match limit {
-            Limit::Uploads => ("TOOMANYREQUESTS", "uploads", MAX_UPLOADS),
-            Limit::LastingUploads => ("TOOMANYREQUESTS", "uploads", MAX_LASTING),
-            Limit::Repositories => ("DENIED", "repositories", MAX_REPOSITORIES),
-            Limit::Manifests => ("DENIED", "manifests", MAX_MANIFESTS),
+        let (code, name) = match limit {
+            Limit::Uploads | Limit::LastingUploads => ("TOOMANYREQUESTS", "uploads"),
+            Limit::Repositories => ("DENIED", "repositories"),
+            Limit::Manifests => ("DENIED", "manifests"),
         };
         let message = match limit {
             Limit::Uploads | Limit::LastingUploads => {

@@ -3,7 +3,6 @@
 use crate::database::change::Change;
 use crate::database::writer::Writer;
 use crate::http::fault::Fault;
-use crate::metadata::limits::MAX_LASTING;
 use crate::metadata::names::tenant_of;
 use crate::metadata::upload_names::Secret;
 use crate::operation::locks::guard_of;
@@ -59,6 +58,8 @@ impl UploadTimeouts {
 pub(crate) struct OpenUploads {
     secret: Secret,
     writer: Option<Arc<Writer>>,
+    /// The maximum number of a tenant's uploads that stay open.
+    most_lasting: usize,
     by_name: Mutex<HashMap<Uuid, Upload>>,
 }
 
@@ -112,9 +113,9 @@ impl Upload {
 }
 
 impl OpenUploads {
-    /// Makes a table whose names are made with a secret.
-    pub(crate) fn new(secret: Secret, writer: Option<Arc<Writer>>) -> OpenUploads {
-        OpenUploads { secret, writer, by_name: Mutex::default() }
+    /// Makes a table whose names are made with a secret. Each tenant may have `most_lasting` uploads that stay open.
+    pub(crate) fn new(secret: Secret, writer: Option<Arc<Writer>>, most_lasting: usize) -> OpenUploads {
+        OpenUploads { secret, writer, most_lasting, by_name: Mutex::default() }
     }
 
     /// Adds an upload that was opened, and returns its name. It does not count as one that stays open.
@@ -139,7 +140,7 @@ impl OpenUploads {
     /// Lets an upload stay open for a later request, unless its tenant has the maximum number of them. Returns whether it stays.
     pub(crate) fn keep_open(&self, name: &Uuid) -> bool {
         let mut uploads = guard_of(self.by_name.lock());
-        let has_room = uploads.get(name).map_or(false, |upload| has_room(&uploads, tenant_of(&upload.repo)));
+        let has_room = uploads.get(name).map_or(false, |upload| self.has_room(&uploads, tenant_of(&upload.repo)));
         match uploads.get_mut(name).filter(|_| has_room) {
             Some(upload) => {
                 upload.is_lasting = true;
@@ -151,7 +152,7 @@ impl OpenUploads {
 
     /// Returns whether a tenant has less than the maximum number of uploads that stay open.
     pub(crate) fn have_room(&self, tenant: &str) -> bool {
-        has_room(&*guard_of(self.by_name.lock()), tenant)
+        self.has_room(&*guard_of(self.by_name.lock()), tenant)
     }
 
     /// Begins to use an upload of a repository.
@@ -210,11 +211,11 @@ impl OpenUploads {
     pub(crate) fn put_back(&self, name: Uuid, upload: Upload) {
         guard_of(self.by_name.lock()).insert(name, Upload { used: Instant::now(), ..upload });
     }
-}
 
-/// Returns whether a tenant has less than the maximum number of uploads that stay open. The store bounds the number of all uploads.
-fn has_room(uploads: &HashMap<Uuid, Upload>, tenant: &str) -> bool {
-    uploads.values().filter(|upload| upload.is_lasting && tenant_of(&upload.repo) == tenant).count() < MAX_LASTING
+    /// Returns whether a tenant has less than the maximum number of uploads that stay open. The store bounds the number of all uploads.
+    fn has_room(&self, uploads: &HashMap<Uuid, Upload>, tenant: &str) -> bool {
+        uploads.values().filter(|upload| upload.is_lasting && tenant_of(&upload.repo) == tenant).count() < self.most_lasting
+    }
 }
 
 impl<'u> UploadInUse<'u> {
@@ -273,8 +274,10 @@ impl Drop for UploadInUse<'_> {
 mod tests {
     use super::*;
 
+    const MAX_LASTING: usize = 60;
+
     fn uploads() -> OpenUploads {
-        OpenUploads::new(Secret([7; 32]), None)
+        OpenUploads::new(Secret([7; 32]), None, MAX_LASTING)
     }
 
     const NOW: UploadTimeouts = UploadTimeouts { begun: Duration::ZERO, empty: Duration::ZERO };
@@ -385,7 +388,7 @@ mod tests {
     #[test]
     fn an_upload_of_before_a_restart_has_its_name_and_length() {
         let name = uploads().add("acme/web", 7);
-        let (begun, other) = (uploads(), OpenUploads::new(Secret([8; 32]), None));
+        let (begun, other) = (uploads(), OpenUploads::new(Secret([8; 32]), None, MAX_LASTING));
         assert_eq!(begun.add_known("acme/web", 7, 10), name);
         assert_eq!(begun.enter("acme/web", name).unwrap().add().length(), Some(10));
         let hour = Duration::from_secs(3600);

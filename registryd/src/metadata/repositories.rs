@@ -1,7 +1,7 @@
 //! The repositories of the store, and the requests in progress that may create or remove one.
 use crate::database::change::Change;
 use crate::database::writer::{WriteFailure, Writer};
-use crate::metadata::limits::{Limit, MAX_REPOSITORIES};
+use crate::metadata::limits::Limit;
 use crate::metadata::names::tenant_of;
 use crate::operation::locks::guard_of;
 use std::collections::{HashMap, HashSet};
@@ -158,10 +158,10 @@ impl Repositories {
     }
 
     /// Returns the limit that a call on a repository has reached. This is `Repositories` if the repository is new and its
-    /// tenant has the maximum number, and `own` otherwise.
-    pub(crate) fn reached(&self, repo: &str, own: Limit) -> Limit {
+    /// tenant has `most`, the maximum number, and `own` otherwise.
+    pub(crate) fn reached(&self, repo: &str, most: usize, own: Limit) -> Limit {
         match guard_of(self.table.lock()).by_tenant.get(tenant_of(repo)) {
-            Some(repos) if repos.len() >= MAX_REPOSITORIES && !repos.contains_key(repo) => Limit::Repositories,
+            Some(repos) if repos.len() >= most && !repos.contains_key(repo) => Limit::Repositories,
             _ => own,
         }
     }
@@ -223,15 +223,15 @@ mod tests {
     #[test]
     fn a_limit_is_the_call_s_own_unless_its_repository_is_one_too_many() {
         let repositories = Repositories::default();
-        for number in 0..MAX_REPOSITORIES {
-            assert_eq!(repositories.reached("acme/new", Limit::Uploads), Limit::Uploads);
+        for number in 0..3 {
+            assert_eq!(repositories.reached("acme/new", 3, Limit::Uploads), Limit::Uploads);
             repositories.add(&format!("acme/r{number}"));
             repositories.add("acme/r0");
         }
-        assert_eq!(repositories.reached("acme/new", Limit::Uploads), Limit::Repositories);
-        assert_eq!(repositories.reached("acme/new", Limit::Manifests), Limit::Repositories);
-        assert_eq!(repositories.reached("acme/r1", Limit::Manifests), Limit::Manifests);
-        assert_eq!(repositories.reached("other/new", Limit::Uploads), Limit::Uploads);
+        assert_eq!(repositories.reached("acme/new", 3, Limit::Uploads), Limit::Repositories);
+        assert_eq!(repositories.reached("acme/new", 3, Limit::Manifests), Limit::Repositories);
+        assert_eq!(repositories.reached("acme/r1", 3, Limit::Manifests), Limit::Manifests);
+        assert_eq!(repositories.reached("other/new", 3, Limit::Uploads), Limit::Uploads);
     }
 
     #[test]

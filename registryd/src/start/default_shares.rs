@@ -1,9 +1,11 @@
 //! The shares of the tenants for which the command line has none: each gets an equal part of the slots.
 use crate::database::writer::Writer;
 use crate::folder::files;
+use crate::metadata::limits::Limits;
 use crate::operation::exit::{Failure, OTHER_SETTINGS};
 use crate::start::options::Options;
 use crate::start::tenants::Tenant;
+use crate::store::calls::UNLIMITED;
 use crate::store::client::{Setup, Store};
 use std::collections::HashSet;
 use std::sync::Arc;
@@ -15,13 +17,14 @@ pub(super) fn default_share(slots: u32, tenants: usize) -> Option<u64> {
     (tenants > 1).then(|| (u64::from(slots) / tenants as u64).max(1))
 }
 
-/// Returns the arguments for the store: those of the command line, each with a share. The default is not for the tenants of
-/// `exempt`.
-fn arguments(tenants: &[Tenant], default: Option<u64>, exempt: &HashSet<String>) -> Vec<String> {
+/// Returns the arguments for the store: those of the command line, each with a share and the limits. The default share is not for the
+/// tenants of `exempt`.
+fn arguments(tenants: &[Tenant], default: Option<u64>, exempt: &HashSet<String>, limits: Limits) -> Vec<String> {
     let share_of = |tenant: &Tenant| tenant.share.or_else(|| default.filter(|_| !exempt.contains(&tenant.name)));
-    let argument = |tenant: &Tenant| match share_of(tenant) {
-        Some(share) => format!("{}={},{share}", tenant.name, tenant.quota),
-        None => format!("{}={}", tenant.name, tenant.quota),
+    let Limits { repositories, manifests, uploads } = limits;
+    let argument = |tenant: &Tenant| {
+        let share = share_of(tenant).unwrap_or(UNLIMITED);
+        format!("{}={},{share},{repositories},{manifests},{uploads}", tenant.name, tenant.quota)
     };
     tenants.iter().map(argument).collect()
 }
@@ -51,20 +54,26 @@ async fn start_with(options: &Options, writer: &Option<Arc<Writer>>, tenants: &[
 pub(super) async fn start_store(options: &Options, writer: Option<Arc<Writer>>) -> Result<(Store, Child), Failure> {
     let tenants = options.tenants();
     let default = default_share(options.slots, tenants.len());
-    let shared = arguments(&tenants, default, &HashSet::new());
-    let failure = match start_with(options, &writer, &shared).await {
-        Err(failure) if failure.status == OTHER_SETTINGS && shared != options.tenants => failure,
+    let with_exempt = |exempt: &HashSet<String>| arguments(&tenants, default, exempt, options.limits());
+    let failure = match start_with(options, &writer, &with_exempt(&HashSet::new())).await {
+        Err(failure) if failure.status == OTHER_SETTINGS && has_defaults(&tenants, default) => failure,
         started => return started,
     };
     tracing::warn!("looking for tenants that have more blobs than the default share: the start takes longer");
-    let (store, child) = start_with(options, &writer, &options.tenants).await?;
+    let all = tenants.iter().map(|tenant| tenant.name.clone()).collect();
+    let (store, child) = start_with(options, &writer, &with_exempt(&all)).await?;
     let exempt = larger_tenants(&store, &tenants, default).await;
     store.end(child).await?;
     let exempt = exempt.ok_or_else(|| Failure::new("the store did not reply while the registry started"))?;
     if exempt.is_empty() {
         return Err(failure);
     }
-    start_with(options, &writer, &arguments(&tenants, default, &exempt)).await
+    start_with(options, &writer, &with_exempt(&exempt)).await
+}
+
+/// Returns whether a tenant has the default share.
+fn has_defaults(tenants: &[Tenant], default: Option<u64>) -> bool {
+    default.is_some() && tenants.iter().any(|tenant| tenant.share.is_none())
 }
 
 /// Returns the tenants that have more blobs than the default share. Returns `None` if the store does not reply.
@@ -103,7 +112,13 @@ mod tests {
     fn a_share_that_is_given_stays() {
         let tenants = [tenant("a", Some(9)), tenant("b", None), tenant("c", None)];
         let exempt = HashSet::from(["c".to_string(), "a".to_string()]);
-        assert_eq!(arguments(&tenants, Some(4), &exempt), ["a=7,9", "b=7,4", "c=7"]);
-        assert_eq!(arguments(&tenants[1..2], None, &HashSet::new()), ["b=7"]);
+        let limits = Limits { repositories: 1, manifests: 2, uploads: 3 };
+        let given = ["a=7,9,1,2,3", "b=7,4,1,2,3", "c=7,4294967295,1,2,3"];
+        assert_eq!(arguments(&tenants, Some(4), &exempt, limits), given);
+        assert_eq!(arguments(&tenants[1..2], None, &HashSet::new(), limits), ["b=7,4294967295,1,2,3"]);
+        assert_eq!(
+            [has_defaults(&tenants, Some(4)), has_defaults(&tenants, None), has_defaults(&tenants[..1], Some(4))],
+            [true, false, false]
+        );
     }
 }

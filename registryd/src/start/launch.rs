@@ -17,6 +17,7 @@ use crate::http::in_flight::Memory;
 use crate::metadata::bounds::Bounds;
 use crate::metadata::cached::CachedContents;
 use crate::metadata::clock;
+use crate::metadata::limits::Limits;
 use crate::metadata::loose_blobs::LooseBlobs;
 use crate::metadata::manifest_table::ManifestTable;
 use crate::metadata::manifests::Manifests;
@@ -118,9 +119,14 @@ struct Tables {
 
 impl Tables {
     /// Makes the tables of this process with what was recovered, and starts the thread of the database.
-    fn new(recovered: Option<Recovered>, writer: &Option<Arc<Writer>>, queue: &Option<Arc<Queue>>) -> Result<Tables, Failure> {
+    fn new(
+        recovered: Option<Recovered>,
+        writer: &Option<Arc<Writer>>,
+        queue: &Option<Arc<Queue>>,
+        limits: Limits,
+    ) -> Result<Tables, Failure> {
         let secret = recovered.as_ref().map_or_else(Secret::random, |recovered| Ok(recovered.secret))?;
-        let uploads = OpenUploads::new(secret, writer.clone());
+        let uploads = OpenUploads::new(secret, writer.clone(), limits.lasting_uploads());
         let repositories = Repositories::recorded_by(writer.clone());
         let (recovered, writer) = match (recovered, writer) {
             (Some(recovered), Some(writer)) => (recovered, writer),
@@ -184,7 +190,7 @@ pub(crate) async fn start(options: &Options, files: Files, address: SocketAddr) 
     let (store, child) = default_shares::start_store(options, writer.clone()).await?;
     let (child, recovered) = recover(&store, child, opened).await?;
     let Tables { uploads, repositories, manifests, loose_blobs, robots, pulls_since, cached, database } =
-        Tables::new(recovered, &writer, &queue)?;
+        Tables::new(recovered, &writer, &queue, options.limits())?;
     let is_tls = options.tls_cert.is_some();
     let recorder =
         |(file, queue): (Arc<ReceiversFile>, &Arc<Queue>)| Recorder::new(file, queue.clone(), address, is_tls, writer.clone());
@@ -210,6 +216,7 @@ pub(crate) async fn start(options: &Options, files: Files, address: SocketAddr) 
         tenants: options.tenant_names(),
         slots: options.slots,
         max_blob: options.max_blob,
+        limits: options.limits(),
         bounds: options.bounds(),
         asked_removal: options.asked_removal(),
         immutable_tags,

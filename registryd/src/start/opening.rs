@@ -31,6 +31,8 @@ pub(super) struct Opened {
     pub(super) is_full: bool,
     /// Whether pulls of tags are counted from now on.
     pub(super) counts_pulls: bool,
+    /// The maximum number of a tenant's open uploads.
+    pub(super) most_uploads: usize,
     on_loss: OnLoss,
     /// The length of the log if the store may cut it because the operator accepts what that loses.
     cuttable: Option<u64>,
@@ -166,5 +168,6 @@ pub(super) fn open(options: &Options, folder: PathBuf, room: &DiskRoom) -> Resul
     }
     room.tend();
     let cuttable = options.accept_loss_after.and_then(|_| files::log_length(&folder));
-    Ok(Opened { folder, database, is_synced, is_full, counts_pulls: options.retention.is_some(), on_loss, cuttable })
+    let (counts_pulls, most_uploads) = (options.retention.is_some(), options.limits().uploads);
+    Ok(Opened { folder, database, is_synced, is_full, counts_pulls, most_uploads, on_loss, cuttable })
 }

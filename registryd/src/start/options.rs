@@ -3,6 +3,7 @@ use crate::control::commands::Command;
 use crate::endpoints::registry::MetricsAccess;
 use crate::folder::scrub::DEFAULT_PACE;
 use crate::metadata::bounds::Bounds;
+use crate::metadata::limits::Limits;
 use crate::metadata::names::check_prefix;
 use crate::metadata::open_uploads::UploadTimeouts;
 use crate::metadata::repository::Removal;
@@ -86,6 +87,15 @@ pub(crate) struct Options {
     /// Limit the length of a blob
     #[arg(long, value_name = "BYTES", default_value_t = 1 << 32)]
     pub(super) max_blob: u64,
+    /// Limit the number of each tenant's repositories
+    #[arg(long, value_name = "N", default_value_t = 65536, value_parser = clap::value_parser!(u32).range(1..=65536))]
+    pub(super) repositories: u32,
+    /// Limit the number of each repository's manifests
+    #[arg(long, value_name = "N", default_value_t = 65536, value_parser = clap::value_parser!(u32).range(1..=1 << 20))]
+    pub(super) repository_manifests: u32,
+    /// Limit the number of each tenant's open uploads
+    #[arg(long, value_name = "N", default_value_t = 1024, value_parser = clap::value_parser!(u32).range(5..=4096))]
+    pub(super) uploads: u32,
     /// Limit manifest bytes [default: a tenth of the quota]
     #[arg(long, value_name = "BYTES")]
     pub(super) manifest_bytes: Option<u64>,
@@ -322,6 +332,12 @@ impl Options {
     pub(super) fn patience(&self) -> UploadTimeouts {
         let (begun, empty) = (Duration::from_secs(self.session_s), Duration::from_secs(self.empty_session_s));
         UploadTimeouts { begun, empty }
+    }
+
+    /// Returns the limits of each tenant in the store.
+    pub(super) fn limits(&self) -> Limits {
+        let Options { repositories, repository_manifests, uploads, .. } = *self;
+        Limits { repositories: repositories as usize, manifests: repository_manifests as usize, uploads: uploads as usize }
     }
 
     /// Returns the bounds on the manifests and tags of each tenant, as far as they are given.

@@ -12,7 +12,6 @@ use crate::folder::log_end::LogEnd;
 use crate::folder::unsynced;
 use crate::metadata::clock::now;
 use crate::metadata::document::Facts;
-use crate::metadata::limits::MAX_UPLOADS;
 use crate::metadata::manifest_table::ManifestTable;
 use crate::metadata::names::tenant_of;
 use crate::metadata::upload_names::Secret;
@@ -76,7 +75,7 @@ struct Findings {
 /// the disk.
 pub(super) async fn recover(store: &Store, opened: Opened) -> Result<Recovered, Failure> {
     let on_loss = opened.on_loss();
-    let Opened { folder, mut database, is_synced, is_full, counts_pulls, .. } = opened;
+    let Opened { folder, mut database, is_synced, is_full, counts_pulls, most_uploads, .. } = opened;
     let (database, mut rows) = blocking(move || {
         let rows = database.read()?;
         Ok((database, rows))
@@ -97,7 +96,7 @@ pub(super) async fn recover(store: &Store, opened: Opened) -> Result<Recovered, 
         rows.add_probes(store);
     }
     for (tenant, repos) in by_tenant(store, &rows.repositories) {
-        find_uploads(store, tenant, &repos, &rows, is_full, &mut findings).await.map_err(unavailable)?;
+        find_uploads(store, tenant, &repos, &rows, (is_full, most_uploads), &mut findings).await.map_err(unavailable)?;
     }
     if findings.have_numbers_returned {
         on_loss.meet(&Loss::Uploads)?;
@@ -266,13 +265,13 @@ fn by_tenant<'r>(store: &Store, repos: &'r [String]) -> BTreeMap<&'r str, Vec<&'
 
 /// Finds the open uploads of a tenant: those of the database, and those that were opened after its last transaction. The
 /// numbers of these are greater than the recorded one and less than the tenant's next one. They are left to a later start if the disk
-/// is full, because the next number is found by opening an upload.
+/// is full, because the next number is found by opening an upload. A tenant has at most `most` open ones.
 async fn find_uploads(
     store: &Store,
     tenant: &str,
     repos: &[&str],
     rows: &Rows,
-    is_full: bool,
+    (is_full, most): (bool, usize),
     findings: &mut Findings,
 ) -> Result<(), StoreUnavailable> {
     let known: Vec<&UploadRow> = rows.uploads.iter().filter(|row| tenant_of(&row.repo) == tenant).collect();
@@ -300,7 +299,7 @@ async fn find_uploads(
     let known: HashSet<u32> = known.iter().map(|row| row.number).collect();
     let end = next.unwrap_or_else(|| recorded.saturating_add(MOST_SEARCHED));
     let (mut at, mut last, mut step) = (recorded.saturating_add(1), recorded, SEARCHED.0);
-    while at < end && open < MAX_UPLOADS {
+    while at < end && open < most {
         let stop = at.saturating_add(step).min(end);
         let numbers: Vec<u32> = (at..stop).filter(|number| !known.contains(number)).collect();
         for upload in search(store, repos, &numbers).await? {
@@ -312,7 +311,7 @@ async fn find_uploads(
         at = stop;
         step = (2 * step).min(SEARCHED.1);
     }
-    if next.is_none() && open < MAX_UPLOADS {
+    if next.is_none() && open < most {
         tracing::warn!(tenant, "the store opens no upload: open ones may be unknown until the next start");
         return Ok(());
     }

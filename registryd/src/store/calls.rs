@@ -51,8 +51,8 @@ pub(crate) struct SlotUse {
     pub(crate) share: Option<u64>,
 }
 
-/// The share in a reply for a tenant whose number of blobs is not limited.
-const UNLIMITED: u64 = u32::MAX as u64;
+/// The share in an argument or a reply for a tenant whose number of blobs is not limited.
+pub(crate) const UNLIMITED: u64 = u32::MAX as u64;
 
 /// The numbers of slots that a sweep freed, and that it did not free because of readers.
 pub(crate) struct SweepResult {
