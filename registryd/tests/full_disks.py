@@ -227,7 +227,7 @@ def a_database_of_an_earlier_version_waits_for_room(name):
         before = kept_folders.content_of(at.folder)
         for _ in range(2):
             at.fill()
-            check(ended(*at.words()), 8, "registry.db: not a database of this version of registryd")
+            check(ended(*at.words()), 8, "registry.db: it has version", "no room was left", "make room, and start again")
             after = kept_folders.content_of(at.folder)
             assert {file: after[file] for file in before} == before, [file for file in before if after[file] != before[file]]
         at.has_room()

@@ -11,12 +11,13 @@ import server
 from documented import Shell, blocks
 from kept_folders import STATES, check_served, check_uploads, content_of, database_version, fill, make, serving_folder, unpack, versions
 from playing import play, until
-from restarts import by_signal, folder, pulled, pushed
+from restarts import by_signal, database, folder, pulled, pushed
 from server import TOP, sha256
 from statuses import check, ended
 
 PAGE = f"{os.path.dirname(TOP)}/docs/UPGRADES.md"
-REFUSED = "not a database of this version of registryd"
+# How a version refuses the database of a later one: up to 0.1.0, and from 0.2.0 on.
+REFUSALS = ("not a database of this version of registryd", "and this registryd reads versions up to")
 TWO_LOGS = "the folder has another log, of numbered files"
 
 # The one file of the log of the first versions.
@@ -161,6 +162,29 @@ def a_folder_of_this_version_is_served():
         assert database_version(path) == this_version(), database_version(path)
 
 
+def set_version(path, version):
+    with database(path) as rows:
+        rows.execute(f"PRAGMA user_version = {version}")
+
+
+def a_database_of_a_later_version_is_refused():
+    """Nothing is changed."""
+    with folder() as path:
+        facts, version = fill(path), this_version()
+        with serving_folder(path) as started:
+            by_signal(started)
+        set_version(path, version + 1)
+        before = content_of(path)
+        check(ended("--data", path), 8, f"{path}/registry.db: it has version {version + 1}, and this registryd reads versions up to {version}",
+              "start the later version, or restore a backup")
+        assert content_of(path) == before
+        set_version(path, version)
+        with serving_folder(path) as started:
+            check_served(started.client(), facts)
+            check_uploads(started.client(), facts)
+            by_signal(started)
+
+
 def each_version_has_a_folder():
     """Each release, and each version of the database."""
     releases = re.findall(r"^## (\d+\.\d+\.\d+)", read(f"{os.path.dirname(TOP)}/CHANGELOG.md"), re.MULTILINE)
@@ -175,7 +199,8 @@ def each_version_has_a_folder():
 
 
 def tests():
-    found = [a_folder_of_this_version_is_served, each_version_has_a_folder, (the_copy_from_before_goes_back, versions()[-1])]
+    found = [a_folder_of_this_version_is_served, a_database_of_a_later_version_is_refused, each_version_has_a_folder,
+             (the_copy_from_before_goes_back, versions()[-1])]
     for name in versions():
         found += [(a_folder_is_served, name, state) for state in STATES]
         found += [(test, name) for test in (a_first_start_is_killed, a_start_that_fails_has_completed_the_database)]
@@ -209,7 +234,9 @@ def an_earlier_program_refuses_a_folder(state, *earlier):
             with serving_folder(path) as started:
                 by_signal(started)
         before = content_of(path)
-        check(ended("--data", path, programs=earlier), 8, "registry.db", REFUSED)
+        refused = ended("--data", path, programs=earlier)
+        check(refused, 8, "registry.db")
+        assert any(text in refused[1] for text in REFUSALS), refused
         after = content_of(path)
         assert log_files(after) == log_files(before), (list(before), list(after))
         added = set(after) - set(before)
