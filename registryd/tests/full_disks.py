@@ -1,14 +1,15 @@
 #!/usr/bin/env python3
 """Tests a registry whose disk is full: it reads, deletes as far as there is room, refuses the rest with 507, starts, and goes on by itself
 when there is room again. It ends with status 3 if it may not mount a disk."""
-import contextlib, os, random, signal, sqlite3, subprocess, sys, tempfile, threading, time
+import contextlib, os, random, shutil, signal, sqlite3, subprocess, sys, tempfile, threading, time
 
-import robots
+import kept_folders, robots
 from crash.paths import log_of
 from limits import CHEAP, basic, users
 from playing import play, until
 from restarts import PATCH, by_kill_of_both, by_signal, opened, pulled, push, pushed, tags_of
 from server import MANIFEST, serving, sha256
+from statuses import check, ended
 from tag_rules import command
 from views import status_of
 
@@ -218,6 +219,24 @@ def a_start_on_a_full_disk(way):
             by_signal(server)
 
 
+def a_database_of_an_earlier_version_waits_for_room(name):
+    """A start on a full disk does not complete it, and changes nothing."""
+    with disk() as at, tempfile.TemporaryDirectory() as top:
+        facts = kept_folders.unpack(name, top)
+        shutil.copytree(f"{top}/ended", at.folder)
+        before = kept_folders.content_of(at.folder)
+        for _ in range(2):
+            at.fill()
+            check(ended(*at.words()), 8, "registry.db: it has version", "no room was left", "make room, and start again")
+            after = kept_folders.content_of(at.folder)
+            assert {file: after[file] for file in before} == before, [file for file in before if after[file] != before[file]]
+        at.has_room()
+        with serving(*at.words()) as server:
+            kept_folders.check_served(server.client(), facts)
+            kept_folders.check_uploads(server.client(), facts)
+            by_signal(server)
+
+
 def a_signal_gives_back_the_room_of_what_was_deleted():
     """The last file of the log is closed first, since it has the deletes. The reserve has room for what is kept."""
     with disk(96) as at, serving(*at.words()) as server:
@@ -344,7 +363,8 @@ def main():
     tests = [
         its_own_uploads_never_fill_the_disk, another_program_fills_the_disk, (a_start_on_a_full_disk, by_signal),
         (a_start_on_a_full_disk, by_kill_of_both), a_signal_gives_back_the_room_of_what_was_deleted,
-        a_rewriting_that_has_no_room_does_not_begin, changes_wait_while_the_disk_fills, a_robot_is_revoked_on_a_full_disk]
+        a_rewriting_that_has_no_room_does_not_begin, changes_wait_while_the_disk_fills, a_robot_is_revoked_on_a_full_disk,
+        *((a_database_of_an_earlier_version_waits_for_room, name) for name in kept_folders.versions())]
     play("full_disks", tests)
 
 

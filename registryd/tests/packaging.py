@@ -56,6 +56,22 @@ def each_commit_has_a_greater_version():
             before = version
 
 
+def a_release_has_a_greater_version():
+    """Than all commits before it, and each commit after it has a greater one."""
+    with repository() as made:
+        before = "0"
+        for number, release in enumerate(("0.1.0", "0.2.0", "0.10.0", "1.0.0")):
+            with open(f"{made.top}/registryd/Cargo.toml") as file:
+                text = re.sub(r'^version = ".*"$', f'version = "{release}"', file.read(), count=1, flags=re.MULTILINE)
+            with open(f"{made.top}/registryd/Cargo.toml", "w") as file:
+                file.write(text)
+            for change in ("release", "after"):
+                made.commit(f"{number} {change}")
+                version = made.version()
+                assert version.startswith(f"{release}+") and run("dpkg", "--compare-versions", version, "gt", before).returncode == 0, (version, before)
+                before = version
+
+
 def a_change_that_is_not_committed_is_marked():
     with repository() as made:
         made.commit("1")
@@ -90,7 +106,7 @@ def each_link_of_the_documents_leads_to_a_file():
     with tempfile.TemporaryDirectory() as folder:
         assert run(f"{os.path.dirname(TOP)}/package/pages", folder).returncode == 0
         pages = [name for name in os.listdir(folder) if name.endswith(".md")]
-        assert {"OPERATIONS.md", "USERS.md", "STORAGE.md", "SERVING.md", "BACKUP.md", "LOG.md", "PROTOCOL.md", "SCRIPT.md",
+        assert {"OPERATIONS.md", "USERS.md", "STORAGE.md", "SERVING.md", "BACKUP.md", "UPGRADES.md", "LOG.md", "PROTOCOL.md", "SCRIPT.md",
                 "SEMANTICS.md", "THEOREMS.md"} <= set(pages), pages
         for page in pages:
             with open(f"{folder}/{page}") as file:
@@ -104,7 +120,7 @@ def each_link_of_the_documents_leads_to_a_file():
 
 
 def main():
-    play("packaging", [each_commit_has_a_greater_version, a_change_that_is_not_committed_is_marked, commits_that_cannot_be_counted_count_as_none,
+    play("packaging", [each_commit_has_a_greater_version, a_release_has_a_greater_version, a_change_that_is_not_committed_is_marked, commits_that_cannot_be_counted_count_as_none,
                        each_link_of_the_documents_leads_to_a_file])
 
 

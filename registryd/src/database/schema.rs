@@ -1,6 +1,7 @@
 //! The tables of the database, its version, and how it is set up.
 use crate::metadata::clock;
 use rusqlite::{Connection, TransactionBehavior};
+use std::fmt;
 use std::time::Duration;
 
 /// The time that the program before has to release the database.
@@ -77,6 +78,29 @@ const TIMES: &str = "
     )
 ";
 
+/// What is wrong with a database.
+#[derive(Debug, PartialEq, Eq)]
+pub(super) enum Fault {
+    /// It has this earlier version, and was not completed.
+    Earlier(i64),
+    /// It has this later version.
+    Later(i64),
+    /// It is not one of this program, or it is damaged. The text says which.
+    Damaged(String),
+}
+
+impl fmt::Display for Fault {
+    fn fmt(&self, text: &mut fmt::Formatter) -> fmt::Result {
+        match self {
+            Fault::Earlier(version) => {
+                write!(text, "it has version {version}, and no room was left to complete it to version {VERSION}")
+            }
+            Fault::Later(version) => write!(text, "it has version {version}, and this registryd reads versions up to {VERSION}"),
+            Fault::Damaged(why) => text.write_str(why),
+        }
+    }
+}
+
 /// Sets how the database writes and checks. Other programs can read it meanwhile, for a backup. The store's lock on the folder
 /// keeps a second registry from writing it.
 pub(super) fn set_up(connection: &Connection) -> rusqlite::Result<()> {
@@ -93,7 +117,7 @@ pub(super) fn set_up_without_room(connection: &Connection) -> rusqlite::Result<(
 }
 
 /// Checks the database, or makes its tables if it is empty, or adds to those of an earlier version. Returns what is wrong, if anything is.
-pub(super) fn check_or_make(connection: &mut Connection) -> rusqlite::Result<Option<String>> {
+pub(super) fn check_or_make(connection: &mut Connection) -> rusqlite::Result<Option<Fault>> {
     let transaction = connection.transaction_with_behavior(TransactionBehavior::Exclusive)?;
     let number = |query: &str| transaction.query_row(query, [], |row| row.get::<_, i64>(0));
     let found = (number("PRAGMA application_id")?, number("PRAGMA user_version")?);
@@ -117,11 +141,14 @@ pub(super) fn check_or_make(connection: &mut Connection) -> rusqlite::Result<Opt
 }
 
 /// Returns what is wrong with a database, if anything is.
-pub(super) fn check(connection: &Connection) -> rusqlite::Result<Option<String>> {
+pub(super) fn check(connection: &Connection) -> rusqlite::Result<Option<Fault>> {
     let number = |query: &str| connection.query_row(query, [], |row| row.get::<_, i64>(0));
-    if (number("PRAGMA application_id")?, number("PRAGMA user_version")?) != (APPLICATION, VERSION) {
-        return Ok(Some("not a database of this version of registryd".to_string()));
+    match (number("PRAGMA application_id")?, number("PRAGMA user_version")?) {
+        (APPLICATION, VERSION) => {}
+        (APPLICATION, version) if (1..VERSION).contains(&version) => return Ok(Some(Fault::Earlier(version))),
+        (APPLICATION, version) if version > VERSION => return Ok(Some(Fault::Later(version))),
+        _ => return Ok(Some(Fault::Damaged("not a database of registryd".to_string()))),
     }
     let checked: String = connection.query_row("PRAGMA quick_check(1)", [], |row| row.get(0))?;
-    Ok((checked != "ok").then(|| format!("damaged: {checked}")))
+    Ok((checked != "ok").then(|| Fault::Damaged(format!("damaged: {checked}"))))
 }

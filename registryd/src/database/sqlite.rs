@@ -4,6 +4,7 @@ use crate::database::change::Change;
 use crate::database::event_rows::{NewEvents, Reported};
 use crate::database::marks::Marks;
 use crate::database::rows::{Rows, UploadRow};
+use crate::database::schema::Fault;
 use crate::database::statements::UploadChanges;
 use crate::database::witness::Witness;
 use crate::database::{event_rows, marks, rows, schema, statements};
@@ -22,14 +23,18 @@ pub(crate) const FILE_NAME: &str = "registry.db";
 const FLAGS: OpenFlags = OpenFlags::SQLITE_OPEN_READ_WRITE.union(OpenFlags::SQLITE_OPEN_NO_MUTEX);
 
 /// The reason why a database cannot be opened.
-#[derive(Debug)]
+#[derive(Clone, Copy, Debug, PartialEq, Eq)]
 pub(crate) enum Problem {
     /// The file cannot be opened, read or written.
     Unusable,
     /// Another process has it.
     Taken,
-    /// It is damaged, or not a database of this version.
+    /// It is damaged, or not a database of this program.
     Damaged,
+    /// It has an earlier version, and the disk has no room to complete it.
+    Earlier,
+    /// A later version of this program has completed it.
+    Later,
 }
 
 /// A failure to open the database.
@@ -48,6 +53,15 @@ impl fmt::Display for OpenError {
 impl OpenError {
     fn new(problem: Problem, path: &Path, why: impl fmt::Display) -> OpenError {
         OpenError { problem, text: format!("cannot open the database: {}: {why}", path.display()) }
+    }
+
+    fn of_fault(path: &Path, fault: &Fault) -> OpenError {
+        let problem = match fault {
+            Fault::Earlier(_) => Problem::Earlier,
+            Fault::Later(_) => Problem::Later,
+            Fault::Damaged(_) => Problem::Damaged,
+        };
+        OpenError::new(problem, path, fault)
     }
 
     fn of_sqlite(path: &Path, error: rusqlite::Error) -> OpenError {
@@ -110,7 +124,7 @@ impl Database {
         let mut connection = Connection::open_with_flags(&path, FLAGS).map_err(of_sqlite)?;
         schema::set_up(&connection).map_err(of_sqlite)?;
         if let Some(fault) = schema::check_or_make(&mut connection).map_err(of_sqlite)? {
-            return Err(OpenError::new(Problem::Damaged, &path, fault));
+            return Err(OpenError::of_fault(&path, &fault));
         }
         let marks = marks::read(&connection).map_err(of_sqlite)?;
         if !is_synced {
@@ -138,7 +152,7 @@ impl Database {
         let connection = Connection::open_with_flags(&path, FLAGS).map_err(of_sqlite)?;
         schema::set_up_without_room(&connection).map_err(of_sqlite)?;
         if let Some(fault) = schema::check(&connection).map_err(of_sqlite)? {
-            return Err(OpenError::new(Problem::Damaged, &path, fault));
+            return Err(OpenError::of_fault(&path, &fault));
         }
         let marks = marks::read(&connection).map_err(of_sqlite)?;
         Ok(Database { connection, path, is_synced, is_unwritten: true, marks, witness, witnessed })
@@ -472,13 +486,27 @@ mod tests {
         let other = Connection::open(&path).unwrap();
         other.execute_batch("CREATE TABLE other (name TEXT)").unwrap();
         drop(other);
-        assert!(problem().unwrap().contains("not a database of this version"));
+        assert!(problem().unwrap().contains("not a database of registryd"));
         std::fs::remove_file(&path).unwrap();
         drop(folder.open());
         let newer = Connection::open(&path).unwrap();
         newer.execute_batch(&format!("PRAGMA user_version = {}", VERSION + 1)).unwrap();
         drop(newer);
-        assert!(problem().unwrap().contains("not a database of this version"));
+        assert!(problem().unwrap().contains(&format!("it has version {}", VERSION + 1)));
+    }
+
+    #[test]
+    fn a_database_of_an_earlier_version_needs_room() {
+        let folder = TestFolder::new();
+        let path = folder.0.join(FILE_NAME);
+        let older = Connection::open(&path).unwrap();
+        older.execute_batch(TABLES).unwrap();
+        older.execute_batch(&format!("PRAGMA application_id = {APPLICATION}; PRAGMA user_version = 1")).unwrap();
+        drop(older);
+        let error = Database::open_without_room(&folder.0, true).err().unwrap();
+        assert_eq!(error.problem, Problem::Earlier);
+        assert!(error.to_string().contains("it has version 1"));
+        assert!(Database::open(&folder.0, true).is_ok());
     }
 
     #[test]

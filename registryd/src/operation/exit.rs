@@ -132,6 +132,8 @@ impl From<OpenError> for Failure {
             Problem::Unusable => (UNUSABLE, "see to its rights and its disk"),
             Problem::Taken => (TAKEN, "another process has it: end that one"),
             Problem::Damaged => (DAMAGED, "restore a backup"),
+            Problem::Earlier => (DAMAGED, "make room, and start again"),
+            Problem::Later => (DAMAGED, "start the later version, or restore a backup"),
         };
         Failure { status, text: format!("{error}: {advice}") }
     }
