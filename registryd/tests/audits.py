@@ -124,7 +124,7 @@ def robots_have_lines_and_names():
 
 def no_line_is_lost_by_a_rotation():
     with audited() as (server, path):
-        image = pushed(server.client(), "acme/app", "v1")
+        pushed(server.client(), "acme/app", "v1")
         stop = threading.Event()
         def work(_):
             client, count = server.client(), 0

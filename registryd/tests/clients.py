@@ -2,7 +2,7 @@
 """A client with a local store makes an image from files, pushes it, and pulls it by tag and by digest, while the collector
 sweeps. The files pulled have to equal those pushed. After the image is deleted, the store has to be empty.
 clients.py podman|buildah|docker|ctr, as root. The status is 3 if the client's daemon cannot be started."""
-import json, os, random, subprocess, sys, tempfile, time
+import json, os, random, shutil, subprocess, sys, tempfile, time
 
 from images import image, same_blobs
 from server import serving
@@ -127,6 +127,21 @@ class Docker:
 
     def end(self):
         end_daemon(self.daemon)
+
+
+def docker_with_a_file(folder, test):
+    """Returns a Docker with a file to push. If it cannot be started here, prints that the test leaves it out, and returns None."""
+    if not shutil.which("dockerd") or os.geteuid() != 0:
+        print(f"{test}: left out: docker")
+        return None
+    os.mkdir(f"{folder}/files")
+    with open(f"{folder}/files/file", "w") as file:
+        file.write("content")
+    try:
+        return Docker(folder)
+    except SystemExit:
+        print(f"{test}: left out: docker (it can't be started here)")
+        return None
 
 
 class Ctr:

@@ -1,7 +1,7 @@
 #!/usr/bin/env python3
 """Tests docs/kubernetes.yaml and docs/compose.yaml: their parts fit together and the image of package/image, and a registry with their
 words serves their probes and the user, and ends within their time. No cluster runs here."""
-import contextlib, os, re, signal, tempfile, time, urllib.parse
+import os, re, signal, tempfile, time
 
 import yaml
 

@@ -7,7 +7,7 @@ from images import image, skopeo
 from limits import users
 from playing import until
 from referrers import descriptor, index
-from restarts import by_kill_of_both, by_signal, folder, push, pushed
+from restarts import by_kill_of_both, by_signal, folder, push
 from retention import KEEP, is_there
 from rights import write
 from server import INDEX, MANIFEST, manifest_of, serving, sha256

@@ -1,5 +1,5 @@
 """Folders of `--data` that the programs of a version left, as archives in `folders/`, and the facts that each has to serve."""
-import json, os, sqlite3, tarfile
+import json, os, tarfile
 
 from referrers import artifact, descriptor, index
 from restarts import CONFIG, PATCH, by_kill_of_both, by_signal, opened, push, push_manifest

@@ -6,7 +6,7 @@ import base64, contextlib, json, os, random, resource, select, shutil, signal, s
 import server as servers
 from hardships import MIB, PATCH, head_of, played
 from playing import STUB, every_upload, serving_stub
-from server import REGISTRYD, serving, sha256, sha512
+from server import REGISTRYD, serving, sha256
 
 STAT = "17"
 # By `htpasswd -nbB -C 12`, of the password `secret`: about 0.2 s of work.

@@ -1,9 +1,9 @@
 #!/usr/bin/env python3
 """Tests tokens of issuers that are found by their discovery document (`--oidc`): keys of each type, rights by claims, tokens that are refused,
 keys that rotate, issuers that are down, slow or lie, crowds, reloads, and skopeo, podman and docker without a stored secret."""
-import concurrent.futures, contextlib, hashlib, hmac, json, os, re, shutil, sys, tempfile, time
+import concurrent.futures, contextlib, hashlib, hmac, json, os, re, sys, tempfile, time
 
-from clients import Docker, run
+from clients import docker_with_a_file, run
 from documented import blocks
 from hardships import PATCH, played
 from images import image, same_blobs, skopeo
@@ -15,7 +15,7 @@ from receivers import Receiver
 from rights import fails, has_podman, podman, put_image, write
 from server import Client, serving
 from statuses import check, ended
-from tokens import bearer, make_key, openssl, serving_tokens, token, claims, entry
+from tokens import bearer, openssl, serving_tokens, token, claims, entry
 
 ALLOW = "allow ci read,write acme/app repository=org/app ref=refs/heads/main"
 
@@ -437,17 +437,9 @@ def clients_push_without_a_secret():
 
 
 def docker_logs_in():
-    if not shutil.which("dockerd") or os.geteuid() != 0:
-        print("oidc: left out: docker")
-        return
     with issuing() as issuer, serving_oidc(issuer) as (server, _), tempfile.TemporaryDirectory() as top:
-        os.mkdir(f"{top}/files")
-        with open(f"{top}/files/file", "w") as file:
-            file.write("content")
-        try:
-            docker = Docker(top)
-        except SystemExit:
-            print("oidc: left out: docker (it can't be started here)")
+        docker = docker_with_a_file(top, "oidc")
+        if docker is None:
             return
         try:
             own = f"{server.address}/acme/app:v1"

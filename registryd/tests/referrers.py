@@ -117,7 +117,7 @@ def unknown_and_invalid_names(server):
     client = server.client()
     for repo in ("acme/none", "acme/kinds", "nobody/none"):
         assert page(client, f"/v2/{repo}/referrers/{sha256(b'none')}") == ([], None)
-    for path, code in ((f"acme/kinds/referrers/sha256:0", "DIGEST_INVALID"), ("acme/kinds/referrers/x", "DIGEST_INVALID"),
+    for path, code in (("acme/kinds/referrers/sha256:0", "DIGEST_INVALID"), ("acme/kinds/referrers/x", "DIGEST_INVALID"),
                        (f"acme/Kinds/referrers/{sha256(b'')}", "NAME_INVALID"), (f"acme/kinds/referrers/{sha256(b'')}?n=x", "UNSUPPORTED")):
         answer = client.ask("GET", f"/v2/{path}")
         assert (answer.status, answer.code()) == (400, code), (path, answer.status, answer.body)

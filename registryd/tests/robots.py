@@ -1,9 +1,9 @@
 #!/usr/bin/env python3
 """Tests accounts of machines (`registryd robot`): their secrets, rights and ends, that one is refused as soon as it is revoked, restarts and
 kills, names of users, and skopeo and docker."""
-import concurrent.futures, contextlib, json, os, re, shlex, shutil, sys, tempfile, time
+import concurrent.futures, contextlib, json, os, re, shlex, sys, tempfile, time
 
-from clients import Docker, run
+from clients import docker_with_a_file, run
 from documented import blocks
 from hardships import played
 from images import image, same_blobs, skopeo
@@ -237,17 +237,9 @@ def clients_log_in():
 
 
 def docker_logs_in():
-    if not shutil.which("dockerd") or os.geteuid() != 0:
-        print("robots: left out: docker")
-        return
     with serving_robots() as (server, control), tempfile.TemporaryDirectory() as top:
-        os.mkdir(f"{top}/files")
-        with open(f"{top}/files/file", "w") as file:
-            file.write("content")
-        try:
-            docker = Docker(top)
-        except SystemExit:
-            print("robots: left out: docker (it can't be started here)")
+        docker = docker_with_a_file(top, "robots")
+        if docker is None:
             return
         try:
             secret, own = add(control, "ci", "read,write:acme"), f"{server.address}/acme/app:v1"

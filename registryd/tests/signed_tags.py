@@ -557,7 +557,7 @@ def daemons_say_why(kind, names):
             daemon.push(at)
             text = "tag v1 must be signed: sha256:" if kind is Docker else "v1: not found"
             fails_with(text, lambda: daemon.pull(at))
-            tags = json.loads(client.ask("GET", f"/status?tenant=acme").body)["repositories"][0]["tags"]
+            tags = json.loads(client.ask("GET", "/status?tenant=acme").body)["repositories"][0]["tags"]
             content = get(client, tags[0]["digest"]).body
             sign(client, keys, content, kind=json.loads(content)["mediaType"])
             daemon.forget()

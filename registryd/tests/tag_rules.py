@@ -73,7 +73,7 @@ def a_dry_run_says_what_goes_and_why():
             assert latest["held_by_tag"] is latest["held_by_manifest"] is None and not latest["manifest_goes"], latest
             assert abs(time.time() - OLD - latest["pushed"]) < 60, latest
             status, out, err = command(f"{path}/control", "retention", "--dry-run", "--rules", rules)
-            assert status == 0 and not err and out.startswith(f"acme/app:all sha256:") and "4 of 6 tags would go\n" in out, (out, err)
+            assert status == 0 and not err and out.startswith("acme/app:all sha256:") and "4 of 6 tags would go\n" in out, (out, err)
             assert f"acme/app:v1 {sha256(contents[0])}\n    line 1 (acme/app v* last=1): 1 or more" in out and "the tag dev names it" in out, out
             # Pulls are not counted: a rule about them keeps all.
             write(rules, "* * pulled=1s")

@@ -1,10 +1,10 @@
 #!/usr/bin/env python3
 """Tests bearer tokens that openssl signs: good ones of each type of key, bad ones, what tokens allow, keys that are read again, and
 skopeo, podman and docker with a small token server that gives everybody a token to read what is public."""
-import base64, contextlib, hashlib, hmac, http.server, json, os, shutil, subprocess, sys, tempfile, threading, time
+import base64, contextlib, hashlib, hmac, http.server, json, os, subprocess, sys, tempfile, threading, time
 import urllib.parse
 
-from clients import Docker, run
+from clients import docker_with_a_file, run
 from hardships import PATCH, played
 from images import image, same_blobs, skopeo
 from limits import CHEAP, basic, users
@@ -342,17 +342,9 @@ def clients_get_tokens():
 
 
 def docker_gets_tokens():
-    if not shutil.which("dockerd") or os.geteuid() != 0:
-        print("tokens: left out: docker")
-        return
     with serving_with_issuer() as (server, _), tempfile.TemporaryDirectory() as top:
-        os.mkdir(f"{top}/files")
-        with open(f"{top}/files/file", "w") as file:
-            file.write("content")
-        try:
-            docker = Docker(top)
-        except SystemExit:
-            print("tokens: left out: docker (it can't be started here)")
+        docker = docker_with_a_file(top, "tokens")
+        if docker is None:
             return
         try:
             public, own = f"{server.address}/acme/public:v1", f"{server.address}/acme/app:v1"
