@@ -20,9 +20,12 @@ from server import Client, free_port  # noqa: E402
 NEEDED = ["libc6", "libcrypt1", "libgcc-s1", "libsqlite3-0", "passwd"]
 SIZES = [1000, 30_000]
 
+# The programs with which podman runs the image.
+RUNTIMES = ("crun", "runc")
 
-def run(*words, status=0, **options):
-    done = subprocess.run(words, stdout=subprocess.PIPE, stderr=subprocess.STDOUT, text=True, timeout=120, **options)
+
+def run(*words, status=0, timeout=120, **options):
+    done = subprocess.run(words, stdout=subprocess.PIPE, stderr=subprocess.STDOUT, text=True, timeout=timeout, **options)
     assert done.returncode == status, f"{' '.join(words)}: {done.returncode}: {done.stdout[-2000:]}"
     return done.stdout
 
@@ -132,8 +135,18 @@ def settings(root):
     return named["OPTIONS"].split() + named["TENANTS"].split()
 
 
+def service_command(root):
+    """Returns the user of the service, its command with its settings on a free port, and the address."""
+    with open(f"{root}/usr/lib/systemd/system/registryd.service", encoding="utf-8") as file:
+        command = shlex.split(re.search(r"^ExecStart=(.*)$", file.read(), re.M).group(1))
+    assert command[-2:] == ["$OPTIONS", "$TENANTS"], command
+    address = f"127.0.0.1:{free_port()}"
+    words = [address if word == "127.0.0.1:5000" else word for word in settings(root)]
+    return "registryd:registryd", [*command[:-2], *words], address
+
+
 def check_package(package, root, folder):
-    count = make_root(root)
+    """Installs the package into a root that has what it depends on, uses the registry there, upgrades, removes and purges it."""
     dpkg = ["dpkg", f"--root={root}", "--force-not-root", "--log=/dev/null"]
     run(*dpkg, "--install", package)
     assert "Status: install ok installed" in run(*dpkg, "--status", "registryd")
@@ -141,14 +154,10 @@ def check_package(package, root, folder):
     assert entry.endswith(":/var/lib/registryd:/usr/sbin/nologin"), entry
     home = os.stat(f"{root}/var/lib/registryd")
     assert (home.st_mode & 0o777, home.st_uid) == (0o700, int(entry.split(":")[2]))
-    with open(f"{root}/usr/lib/systemd/system/registryd.service", encoding="utf-8") as file:
-        command = shlex.split(re.search(r"^ExecStart=(.*)$", file.read(), re.M).group(1))
-    assert command[-2:] == ["$OPTIONS", "$TENANTS"] and os.path.islink(f"{root}/etc/systemd/system/multi-user.target.wants/registryd.service")
+    assert os.path.islink(f"{root}/etc/systemd/system/multi-user.target.wants/registryd.service")
 
     def start():
-        address = f"127.0.0.1:{free_port()}"
-        words = [address if word == "127.0.0.1:5000" else word for word in settings(root)]
-        return Running(root, "registryd:registryd", [*command[:-2], *words], address)
+        return Running(root, *service_command(root))
     log = use_twice(start, folder)
     is_proved = os.path.exists(f"{root}/usr/share/registryd/blobd.proved")
     assert ("the store's program was proved" in log) == is_proved and ("NOT VERIFIED" in log) != is_proved, log
@@ -171,7 +180,6 @@ def check_package(package, root, folder):
     run(*dpkg, "--purge", "registryd")
     assert not os.path.exists(f"{root}/var/lib/registryd")
     run("chroot", root, "getent", "passwd", "registryd", status=2)
-    return count
 
 
 def check_image(image, root, folder):
@@ -193,34 +201,69 @@ def check_image(image, root, folder):
     assert done.returncode == 2 and "give --htpasswd, --oidc, --token-key or --let-anybody-in" in done.stderr, done.stderr
 
 
-def run_in_podman(image, folder):
-    """Runs the image as a container. Returns why it cannot be run here, if so."""
+class NoContainer(Exception):
+    """Podman cannot start a container on this machine."""
+
+
+class Container:
+    """A registry in a container of podman, with its volume. It ends with this test."""
+
+    def __init__(self, podman, words, address):
+        self.log = tempfile.TemporaryFile()
+        self.process = subprocess.Popen([*podman, "run", "--rm", "--network", "host", *words], stdout=self.log, stderr=self.log)
+        self.address = address
+        end = time.time() + 60
+        while not serves(address):
+            # Podman's own failures have these statuses (podman-run(1), "Exit Status").
+            if self.process.poll() in (125, 126, 127):
+                raise NoContainer(self.logged().strip().rsplit("\n", 1)[-1])
+            assert self.process.poll() is None and time.time() < end, self.logged()
+            time.sleep(0.1)
+
+    def logged(self):
+        self.log.seek(0)
+        return self.log.read().decode()
+
+    def end(self):
+        """Ends the registry by SIGTERM, which podman passes on, and returns its status."""
+        self.process.terminate()
+        return self.process.wait(timeout=60)
+
+
+def cgroups_of(runtime):
+    """Returns the words in front of podman and its option with which a runtime has the control groups that it can use here."""
+    if runtime != "crun":
+        return [], []
+    # crun uses no machine that has both versions of control groups: it sees the second alone, in a namespace of its own.
+    alone = 'umount --recursive /sys/fs/cgroup && mount -t cgroup2 none /sys/fs/cgroup && exec "$@"'
+    has_both = os.path.isdir("/sys/fs/cgroup/unified")
+    return ["unshare", "--mount", "bash", "-c", alone, "bash"] if has_both else [], ["--cgroups", "disabled"]
+
+
+def run_in_podman(image, runtime, folder):
+    """Runs the image in containers of a runtime, one after the other with one volume. Returns why that cannot be done here, if so."""
+    if not shutil.which("podman") or not shutil.which(runtime):
+        return f"no podman or no {runtime}"
     places = ["--root", f"{folder}/storage", "--runroot", f"{folder}/run", "--storage-driver", "vfs"]
-    podman = ["podman", *places, "--cgroup-manager", "cgroupfs", "--events-backend", "none"]
-    if not shutil.which("podman"):
-        return "no podman"
+    prefix, cgroups = cgroups_of(runtime)
+    podman = [*prefix, "podman", "--runtime", runtime, *places, "--cgroup-manager", "cgroupfs", "--events-backend", "none"]
     # Podman makes a name of the path, and a name has no capital letters.
     kind, place, version = image.split(":", 2)
     made = run(*podman, "pull", "--quiet", f"{kind}:{os.path.basename(place)}:{version}", cwd=os.path.dirname(place)).strip()
-    address = f"127.0.0.1:{free_port()}"
-    # Podman's own limits need CAP_SYS_RESOURCE.
-    limits = ["--ulimit", "nofile=4096:4096", "--ulimit", "nproc=4096:4096"]
-    command = [*podman, "run", "--detach", "--network", "host", "--cgroups", "disabled", *limits, "--entrypoint", "/usr/bin/registryd", made,
-               "--data", "/data", "--listen", address, "acme=1000000"]
-    done = subprocess.run(command, stdout=subprocess.PIPE, stderr=subprocess.PIPE, text=True, timeout=60)
-    if done.returncode != 0:
-        run(*podman, "rm", "--all", "--force")
-        return done.stderr.strip().rsplit("\n", 1)[-1]
-    container = done.stdout.strip()
+    # Podman's own limits need CAP_SYS_RESOURCE. The rest is how kubernetes.yaml restricts the container.
+    limits = ["--ulimit", "nofile=4096:4096", "--ulimit", "nproc=4096:4096", "--read-only", "--cap-drop", "all",
+              "--security-opt", "no-new-privileges"]
+
+    def start():
+        address = f"127.0.0.1:{free_port()}"
+        command = ["--entrypoint", "/usr/bin/registryd", made, "--data", "/data", "--listen", address, "acme=1000000"]
+        return Container(podman, [*cgroups, *limits, "--volume", "registry:/data", *command], address)
     try:
-        end = time.time() + 20
-        while not serves(address):
-            assert time.time() < end, run(*podman, "logs", container)
-            time.sleep(0.1)
-        run(*podman, "stop", container)
-        assert run(*podman, "inspect", "--format", "{{.State.ExitCode}}", container).strip() == "0"
+        use_twice(start, folder)
+    except NoContainer as error:
+        return str(error)
     finally:
-        run(*podman, "rm", "--force", container)
+        subprocess.run([*podman, "rm", "--all", "--force"], stdout=subprocess.DEVNULL, stderr=subprocess.DEVNULL)
 
 
 def main():
@@ -229,13 +272,14 @@ def main():
     # A process of podman may still clean up.
     with tempfile.TemporaryDirectory(ignore_cleanup_errors=True) as folder:
         os.chmod(folder, 0o755)
-        for name in ("package", "image", "podman"):
+        for name in ("package", "image", *RUNTIMES):
             os.mkdir(f"{folder}/{name}")
-        count = check_package(package, f"{folder}/root", f"{folder}/package")
+        count = make_root(f"{folder}/root")
+        check_package(package, f"{folder}/root", f"{folder}/package")
         check_image(image, f"{folder}/rootfs", f"{folder}/image")
-        why = run_in_podman(image, f"{folder}/podman")
-    if why:
-        print(f"package: left out: a container of the image: {why}")
+        whys = {runtime: run_in_podman(image, runtime, f"{folder}/{runtime}") for runtime in RUNTIMES}
+    for runtime, why in whys.items():
+        print(f"package: left out: a container of {runtime}: {why}" if why else f"package: the image used in containers of {runtime}")
     print(f"package: installed with {count} packages, used, removed and purged; the image used: {time.time() - begun:.0f} s")
 
 
