@@ -46,14 +46,14 @@ class Gate:
     def pass_on(self, line):
         with contextlib.suppress(OSError), line, socket.socket(socket.AF_UNIX) as other:
             request = whole(line)
-            if self.kill(request, "before"):
+            if self.kill(request, "before", b""):
                 return
             other.connect(self.target)
             other.sendall(request)
             reply = b""
             while part := other.recv(1 << 16):
                 reply += part
-            if not self.kill(request, "after"):
+            if not self.kill(request, "after", reply):
                 line.sendall(reply)
 
     def close(self):
@@ -235,11 +235,13 @@ class Direct(threading.Thread):
 def killed_move(pair, folder, tenant, step, when):
     """Starts a move that is killed at a step. Returns the balancer."""
     balancer, earlier, lock = FakeBalancer(folder, tenant), [], threading.Lock()
-    def kill(request, now):
+    def kill(request, now, reply):
         with lock:
             word = label(request, earlier)
             earlier.append(word)
-            is_it = (word, now) == (step, when)
+            # It closes when no request of a client is open.
+            is_made = (word, now) != ("close", "after") or b'"stage":"closed"' in reply
+            is_it = (word, now) == (step, when) and is_made
         if is_it:
             process.kill()
         return is_it
@@ -426,6 +428,8 @@ def routes_are_checked_first():
         words = balancer.words()
         words[words.index("--haproxy") + 1] = f"{folder}/none"
         assert "cannot command HAProxy" in both.fails("acme", *words)
+        balancer.tenant, balancer.route = "acme", "two"
+        assert "HAProxy sends acme to two already" in both.fails("acme", "--replace", *balancer.words())
         assert (both.stage("one"), both.stage("two")) == (None, None)
 
 

@@ -96,7 +96,7 @@ impl Balancer {
     }
 
     /// Returns the server that has the tenant.
-    async fn route(&self) -> Result<String, String> {
+    pub(super) async fn route(&self) -> Result<String, String> {
         let reply = self.ask(&format!("show map {}", self.map)).await?;
         route_of(&reply, &self.tenant)
             .ok_or_else(|| format!("HAProxy has no route of {}: give it a line in {}", self.tenant, self.routes.display()))

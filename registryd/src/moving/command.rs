@@ -55,6 +55,9 @@ pub(crate) async fn run(options: &MoveCommand) -> Result<(), String> {
     if let Some(side) = options.keep {
         return give_up(options, &mut source, &mut target, balancer.as_ref(), side).await;
     }
+    if let Some(balancer) = &balancer {
+        check_route(balancer, options, &source).await?;
+    }
     let stage = begin(options, &mut source, &mut target).await?;
     let copier = Arc::new(Copier::new(source, target));
     let mut moving = Move { options: options.clone(), copier, balancer, held: None };
@@ -96,6 +99,16 @@ async fn give_up(
             }
             print(&format!("clients write {tenant} at {to} from now on, with what was copied"));
         }
+    }
+    Ok(())
+}
+
+/// Fails if clients reach the target although the source has not given the tenant away: they would lose what they wrote there.
+async fn check_route(balancer: &Balancer, options: &MoveCommand, source: &Peer) -> Result<(), String> {
+    let MoveCommand { tenant, from, server, .. } = options;
+    let route = balancer.route().await?;
+    if server.as_ref() == Some(&route) && source.state().await?.stage != Some(Stage::Left) {
+        return Err(format!("HAProxy sends {tenant} to {route} already, and {from} has not given it away"));
     }
     Ok(())
 }
