@@ -391,6 +391,18 @@ def a_target_that_cannot_have_it():
         assert tags(both.two.client()) == {"v0", "v1", "v2"}
 
 
+def a_target_whose_disk_is_full():
+    with pair(two_words=("--min-free", str(10**15))) as both:
+        assert push(both.one.client(), "acme", "v1") == 201
+        error = both.fails()
+        assert "the disk of the registry is almost full" in error and "as before" in error, error
+        assert push(both.one.client(), "acme", "v2") == 201 and both.stage("one") is None
+        both.more["two"] = ()
+        both.restart("two")
+        both.move()
+        assert pulls(both.two.client(), "acme", "v2")
+
+
 def other_content_is_not_overwritten():
     with pair() as both:
         assert push(both.one.client(), "acme", "v1") == 201 and push(both.two.client(), "acme", "own") == 201
@@ -511,5 +523,5 @@ def users_and_robots():
 
 if __name__ == "__main__":
     play("moves", [kills_at_each_step, restarts_while_nobody_may_write, a_command_that_was_replaced_writes_nothing, a_target_that_cannot_have_it,
-                   other_content_is_not_overwritten, a_move_is_given_up, routes_are_checked_first, open_uploads_are_waited_for,
-                   open_uploads_are_cut, pushes_that_are_in_progress_go_on, users_and_robots])
+                   a_target_whose_disk_is_full, other_content_is_not_overwritten, a_move_is_given_up, routes_are_checked_first,
+                   open_uploads_are_waited_for, open_uploads_are_cut, pushes_that_are_in_progress_go_on, users_and_robots])

@@ -14,6 +14,9 @@ TENANTS = {"one": ("acme=4000000000,65536", "other=1000000000,65536"), "two": ("
 DOCKER = "application/vnd.docker.distribution.manifest.v2+json"
 EXAMPLES = "/usr/share/doc/registryd/examples"
 
+# Each client has one open, and so has each worker of the command.
+UPLOADS = ("--uploads", "1024")
+
 # The time for which writes may wait. The goal is 2 s. Other tests may run at the same time.
 MOST_SECONDS = 10
 
@@ -97,12 +100,12 @@ class Probe(threading.Thread):
             self.longest = max(self.longest, time.time() - begun)
             ended = self.client.ask("DELETE", opened["Location"]).status if opened.status == 202 else None
             if (opened.status, ended) != (202, 204):
-                self.wrong.append((opened.status, ended))
+                self.wrong.append((opened.status, opened.body, ended))
 
-    def stop(self):
+    def stop(self, printed):
         self.is_stopped.set()
         self.join(60)
-        assert not self.wrong, f"writes failed: {self.wrong[:5]}"
+        assert not self.wrong, f"writes failed: {self.wrong[:5]}: {printed}"
         return self.longest
 
 
@@ -194,13 +197,13 @@ def play(options, folder, shell, command, balancer, one, two):
     kinds, many = push_unusual(balancer.client()), push_many(balancer.client(), options.tags)
     before = referrers(balancer.client(), kinds)
     pulls = [SlowPull(balancer.address, repo) for repo in ("other/slow", "acme/slow")]
-    pushers = [Raw(balancer.address, f"acme/raw{number}", pause=options.clients / 50) for number in range(options.clients)]
+    pushers = [Raw(balancer.address, f"acme/raw{number}", pause=options.clients / 25) for number in range(options.clients)]
     pushers.append(Skopeo(balancer.address, "acme/skopeo", pause=0.3))
     still, probe = Raw(balancer.address, "other/raw", pause=0.5), Probe(balancer.address, "acme/probe")
     for pusher in pushers:
         pusher.wait_for(1, 300)
     printed = shell.type(command)
-    longest = probe.stop()
+    longest = probe.stop(printed)
     for pusher in pushers:
         pusher.wait_for(1, 300)
     pushed = [pusher.stop() for pusher in pushers]
@@ -235,7 +238,7 @@ def main():
     with tempfile.TemporaryDirectory(ignore_cleanup_errors=True) as folder:
         os.makedirs(f"{folder}/srv")
         def words(name):
-            return ("--data", f"{folder}/srv/{name}", "--control", f"{folder}/srv/{name}/control", "--lines", "16", "--sweep-ms", "50")
+            return ("--data", f"{folder}/srv/{name}", "--control", f"{folder}/srv/{name}/control", "--lines", "16", "--sweep-ms", "50", *UPLOADS)
         with serving(*words("one"), tenants=TENANTS["one"]) as one, serving(*words("two"), tenants=TENANTS["two"]) as two:
             replaced = {EXAMPLES: f"{os.path.dirname(TOP)}/docs", "registryd move": f"{REGISTRYD} move"}
             shell = Shell(folder, {"127.0.0.1:5001": one.address, "127.0.0.1:5002": two.address, **replaced})

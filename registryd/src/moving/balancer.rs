@@ -1,12 +1,18 @@
 //! HAProxy with docs/haproxy.cfg: the file of its routes, and its commands at run time.
+use std::collections::HashSet;
 use std::io::{self, Read, Write};
 use std::os::unix::net::UnixStream;
 use std::path::{Path, PathBuf};
-use std::time::Duration;
+use std::time::{Duration, Instant};
 use tokio::task::spawn_blocking;
+use tokio::time::sleep;
 
 /// The end of a route whose writes wait.
 const HOLD: &str = "/hold";
+
+/// The time for which requests that passed before a hold are waited for, and the pause between two looks.
+const PASSING: Duration = Duration::from_millis(700);
+const LOOK: Duration = Duration::from_millis(10);
 
 /// The time limit of a command.
 const LIMIT: Duration = Duration::from_secs(5);
@@ -21,6 +27,13 @@ pub(super) struct Balancer {
     tenant: String,
     /// The server that gets the tenant.
     server: String,
+}
+
+/// Returns the names of the streams to a server in the reply of `show sess`.
+fn streams(reply: &str, server: &str) -> HashSet<String> {
+    let backend = format!("be={server}");
+    let own = reply.lines().filter(|line| line.split_whitespace().any(|word| word == backend));
+    own.filter_map(|line| line.split_whitespace().next()).map(str::to_string).collect()
 }
 
 /// Returns the lines of the routes with the server of a tenant replaced.
@@ -111,10 +124,17 @@ impl Balancer {
         }
     }
 
-    /// Lets the tenant's writes wait, but for those that continue an open upload.
+    /// Lets the tenant's writes wait, but for those that continue an open upload. Then waits for the requests to the server that has it which
+    /// passed before, for a short time: they may be slow pulls.
     pub(super) async fn hold(&self) -> Result<(), String> {
         let server = self.route().await?;
-        self.set(&format!("{server}{HOLD}")).await
+        self.set(&format!("{server}{HOLD}")).await?;
+        let begun = Instant::now();
+        let passed = streams(&self.ask("show sess").await?, &server);
+        while begun.elapsed() < PASSING && !streams(&self.ask("show sess").await?, &server).is_disjoint(&passed) {
+            sleep(LOOK).await;
+        }
+        Ok(())
     }
 
     /// Lets the tenant's writes go on to the server that has it.
@@ -141,6 +161,14 @@ mod tests {
         let text = "# routes\nacme one\nother one\n\nacme-2  one\n";
         assert_eq!(with_route(text, "acme", "two"), "# routes\nother one\n\nacme-2  one\nacme two\n");
         assert_eq!(with_route("", "acme", "two"), "acme two\n");
+    }
+
+    #[test]
+    fn a_reply_has_the_streams_of_a_server() {
+        let reply = "0x1: proto=tcpv4 src=127.0.0.1:1 fe=registry be=one srv=one ts=00 age=0s\n0x2: proto=unix_stream fe=GLOBAL be=<NONE>\n\
+                     0x3: proto=tcpv4 fe=registry be=two srv=two\n0x4: proto=tcpv4 fe=registry be=one srv=<none>\n\n";
+        assert_eq!(streams(reply, "one"), ["0x1:", "0x4:"].map(str::to_string).into());
+        assert!(streams(reply, "three").is_empty() && streams("", "one").is_empty());
     }
 
     #[test]

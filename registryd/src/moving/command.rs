@@ -17,15 +17,12 @@ use std::time::{Duration, Instant};
 use tokio::signal::ctrl_c;
 use tokio::time::sleep;
 
-/// The work that a round may leave, and the maximum number of rounds before writes wait.
-const FEW: usize = 200;
+/// The time of a round that is short, so that the rest is little, and the maximum number of rounds before writes wait.
+const SHORT: Duration = Duration::from_secs(1);
 const MOST_ROUNDS: usize = 20;
 
 /// The least time of the copy: pushes that began before it are mostly complete then.
 const LEAST_COPY: Duration = Duration::from_secs(5);
-
-/// The time that requests have to reach the source which passed the balancer before writes wait there.
-const ARRIVAL: Duration = Duration::from_millis(300);
 
 /// The time for which writes wait for open requests and uploads, the least and the greatest pause until the next attempt, and the pause
 /// between two looks.
@@ -182,18 +179,20 @@ impl Move {
         Ok(())
     }
 
-    /// Copies in rounds while clients write, until little is left.
+    /// Copies in rounds while clients write, until little is left, or as much as in the round before.
     async fn copy_most(&self, begun: Instant) -> Result<Tally, String> {
-        let mut tally = Tally::default();
+        let (mut tally, mut last) = (Tally::default(), usize::MAX);
         for _ in 0..MOST_ROUNDS {
+            let round = Instant::now();
             let done = self.copier.round().await?;
             tally.add(done);
-            if done.sum() <= FEW {
+            if round.elapsed() <= SHORT || done.sum() > last / 2 {
                 match LEAST_COPY.checked_sub(begun.elapsed()) {
                     Some(rest) => sleep(rest).await,
                     None => break,
                 }
             }
+            last = done.sum();
         }
         Ok(tally)
     }
@@ -230,17 +229,16 @@ impl Move {
 
     /// Lets writes wait, and closes the source. Returns its state if requests or uploads stay open for too long.
     async fn try_close(&mut self, cuts: bool) -> Result<Option<State>, String> {
-        let held = Instant::now();
-        self.held = Some(held);
+        self.held = Some(Instant::now());
         if let Some(balancer) = &self.balancer {
             balancer.hold().await?;
-            sleep(ARRIVAL).await;
         }
+        let begun = Instant::now();
         loop {
             let state = self.copier.source.close(cuts).await?;
             match state.stage {
                 Some(Stage::Closed | Stage::Left) => return Ok(None),
-                _ if held.elapsed() >= HOLD => return Ok(Some(state)),
+                _ if begun.elapsed() >= HOLD => return Ok(Some(state)),
                 _ => sleep(LOOK).await,
             }
         }

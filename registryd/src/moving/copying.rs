@@ -10,12 +10,13 @@ use hyper::header::{HeaderMap, LOCATION};
 use hyper::{Method, StatusCode};
 use sha2::{Digest, Sha256};
 use std::collections::{HashSet, VecDeque};
+use std::future::Future;
 use std::sync::{Arc, Mutex};
 use std::time::Duration;
 use tokio::task::JoinSet;
 use tokio::time::sleep;
 
-/// The number of manifests that are copied at once.
+/// The number of manifests that are copied or deleted at once.
 const WORKERS: usize = 8;
 
 /// The number of times that a blob is sent, and the pause between two.
@@ -68,8 +69,8 @@ struct Superfluous {
 
 /// Copies from one registry to another.
 pub(super) struct Copier {
-    pub(super) source: Peer,
-    pub(super) target: Peer,
+    pub(super) source: Arc<Peer>,
+    pub(super) target: Arc<Peer>,
     /// The blobs that the target has, by repository and digest.
     known: Mutex<HashSet<(String, String)>>,
 }
@@ -121,28 +122,64 @@ fn location(headers: &HeaderMap) -> Result<String, String> {
     }
 }
 
-/// Deletes manifests, those that an index protects after the index. Returns their number.
-pub(super) async fn delete_all(peer: &Peer, mut paths: Vec<String>) -> Result<usize, String> {
+/// Does something with each item, several at once. Ends at the first failure.
+pub(super) async fn each<T, R>(items: Vec<T>, make: impl Fn(T) -> R + Clone + Send + 'static) -> Result<(), String>
+where
+    T: Send + 'static,
+    R: Future<Output = Result<(), String>> + Send + 'static,
+{
+    let waiting = Arc::new(Mutex::new(VecDeque::from(items)));
+    let mut workers = JoinSet::new();
+    for _ in 0..WORKERS {
+        let (waiting, make) = (waiting.clone(), make.clone());
+        workers.spawn(async move {
+            loop {
+                let next = guard_of(waiting.lock()).pop_front();
+                match next {
+                    Some(item) => {
+                        let made = make(item);
+                        made.await?;
+                    }
+                    None => return Ok::<_, String>(()),
+                }
+            }
+        });
+    }
+    while let Some(ended) = workers.join_next().await {
+        ended.map_err(|error| error.to_string())??;
+    }
+    Ok(())
+}
+
+/// Deletes what has these paths, those that an index protects after the index. Returns their number.
+pub(super) async fn delete_all(peer: &Arc<Peer>, mut paths: Vec<String>) -> Result<usize, String> {
     let count = paths.len();
     while !paths.is_empty() {
-        let (mut left, mut why) = (Vec::new(), String::new());
-        for path in &paths {
-            if let Err(error) = peer.ask(&Method::DELETE, path, None).await {
-                left.push(path.clone());
-                why = error;
+        let before = paths.len();
+        let left: Arc<Mutex<Vec<(String, String)>>> = Arc::default();
+        let (peer, failed) = (peer.clone(), left.clone());
+        let delete = move |path: String| {
+            let (peer, failed) = (peer.clone(), failed.clone());
+            async move {
+                if let Err(why) = peer.ask(&Method::DELETE, &path, None).await {
+                    guard_of(failed.lock()).push((path, why));
+                }
+                Ok(())
             }
+        };
+        each(paths, delete).await?;
+        let left = std::mem::take(&mut *guard_of(left.lock()));
+        if left.len() == before {
+            return Err(left.into_iter().map(|(_, why)| why).next().unwrap_or_default());
         }
-        if left.len() == paths.len() {
-            return Err(why);
-        }
-        paths = left;
+        paths = left.into_iter().map(|(path, _)| path).collect();
     }
     Ok(count)
 }
 
 impl Copier {
     pub(super) fn new(source: Peer, target: Peer) -> Copier {
-        Copier { source, target, known: Mutex::default() }
+        Copier { source: Arc::new(source), target: Arc::new(target), known: Mutex::default() }
     }
 
     /// Copies what the source has now. What is deleted meanwhile is left to the next round.
@@ -188,25 +225,19 @@ impl Copier {
 
     /// Does jobs, several at once.
     async fn work(self: &Arc<Self>, jobs: Vec<Job>) -> Result<Tally, String> {
-        let waiting = Arc::new(Mutex::new(VecDeque::from(jobs)));
-        let mut workers = JoinSet::new();
-        for _ in 0..WORKERS {
-            let (copier, waiting) = (self.clone(), waiting.clone());
-            workers.spawn(async move {
+        let all: Arc<Mutex<Tally>> = Arc::default();
+        let (copier, sum) = (self.clone(), all.clone());
+        let make = move |job: Job| {
+            let (copier, sum) = (copier.clone(), sum.clone());
+            async move {
                 let mut tally = Tally::default();
-                loop {
-                    let next = guard_of(waiting.lock()).pop_front();
-                    match next {
-                        Some(job) => copier.make(job, &mut tally).await?,
-                        None => return Ok::<_, String>(tally),
-                    }
-                }
-            });
-        }
-        let mut tally = Tally::default();
-        while let Some(ended) = workers.join_next().await {
-            tally.add(ended.map_err(|error| error.to_string())??);
-        }
+                copier.make(job, &mut tally).await?;
+                guard_of(sum.lock()).add(tally);
+                Ok(())
+            }
+        };
+        each(jobs, make).await?;
+        let tally = *guard_of(all.lock());
         Ok(tally)
     }
 
