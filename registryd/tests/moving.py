@@ -75,7 +75,7 @@ class SlowPull(threading.Thread):
         while part := self.line.recv(1 << 16):
             self.got += part
             if not self.is_hurried.is_set():
-                time.sleep(0.1)
+                time.sleep(0.3)
 
     def check(self):
         """Checks that it was not at its end before, and lets it get the rest."""
