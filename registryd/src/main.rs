@@ -10,6 +10,7 @@ mod folder;
 mod http;
 mod metadata;
 mod mirror;
+mod moving;
 mod operation;
 mod signatures;
 mod start;

@@ -1,15 +1,17 @@
 #!/usr/bin/env python3
-"""Tests two registries with folders behind HAProxy with docs/haproxy.cfg: each tenant always reaches the same one of them, and a request that
-names no tenant one that is there. After
-one is killed, its tenants get 503, and after its restart they have their content; the tenants of the other one notice nothing."""
-import contextlib, os, subprocess, tempfile
+"""Tests two registries with folders behind HAProxy with docs/haproxy.cfg, each of which names its own tenants alone. A tenant reaches the one
+of its route, a tenant without a route none, and a request that names no tenant one that is there. After one is killed, its tenants get 503,
+and after its restart they have their content; the tenants of the other one notice nothing."""
+import contextlib, json, os, shutil, subprocess, tempfile
 
 from documented import Shell
 from playing import until
 from server import Client, TOP, free_port, sha256
 
 PATCH = {"Content-Type": "application/octet-stream"}
-TENANTS = [f"tenant{n}" for n in range(8)]
+
+# The registry of each tenant.
+ROUTES = {f"tenant{n}": "one" if n % 3 else "two" for n in range(8)}
 
 
 class Registry:
@@ -20,7 +22,7 @@ class Registry:
         self.begin()
 
     def begin(self):
-        quotas = " ".join(f"{tenant}=1000000" for tenant in TENANTS)
+        quotas = " ".join(f"{tenant}=1000000" for tenant, name in ROUTES.items() if name == self.name)
         self.started = self.shell.start(f"registryd/run --data /srv/{self.name} {quotas}", self.address)
         self.started.wait()
 
@@ -33,12 +35,15 @@ class Registry:
 def balancer(folder, one, two):
     """Runs HAProxy over two registries, and gives its address."""
     address = f"127.0.0.1:{free_port()}"
-    with open(f"{os.path.dirname(TOP)}/docs/haproxy.cfg") as example:
+    docs = f"{os.path.dirname(TOP)}/docs"
+    with open(f"{docs}/haproxy.cfg") as example:
         text = example.read()
     for old, new in (("127.0.0.1:5001", one.address), ("127.0.0.1:5002", two.address), ("*:5000", address)):
         assert text.count(old) in (1, 2), old
         text = text.replace(old, new)
-    for name, content in (("haproxy.cfg", text), ("moving.list", ""), ("routes.map", "")):
+    shutil.copy(f"{docs}/hold.lua", folder)
+    routes = "".join(f"{tenant} {name}\n" for tenant, name in {**ROUTES, "misrouted": "three"}.items())
+    for name, content in (("haproxy.cfg", text), ("routes.map", routes)):
         with open(f"{folder}/{name}", "w") as file:
             file.write(content)
     process = subprocess.Popen(["haproxy", "-db", "-q", "-f", f"{folder}/haproxy.cfg"])
@@ -53,32 +58,45 @@ def balancer(folder, one, two):
         process.wait()
 
 
+def check_refused(address, tenant):
+    """Checks that the balancer says that a tenant has no registry."""
+    for method, path in (("GET", "manifests/v1"), ("POST", "blobs/uploads/"), ("GET", "tags/list")):
+        answer = Client(address).ask(method, f"/v2/{tenant}/a/{path}")
+        assert (answer.status, answer.code()) == (404, "NAME_UNKNOWN"), (tenant, method, answer.status)
+        assert b"the balancer has no route for this tenant" in answer.body, answer.body
+
+
 def play(one, two, address):
     client, digest = Client(address), sha256(b"abc")
     def statuses(path):
-        return [client.ask("GET", f"/v2/{tenant}/a/{path}").status for tenant in TENANTS]
-    for tenant in TENANTS:
+        return {tenant: client.ask("GET", f"/v2/{tenant}/a/{path}").status for tenant in ROUTES}
+    for tenant in ROUTES:
         assert client.ask("POST", f"/v2/{tenant}/a/blobs/uploads/?digest={digest}", b"abc", PATCH).status == 201
         index = b'{"schemaVersion":2,"manifests":[]}'
         assert client.ask("PUT", f"/v2/{tenant}/a/manifests/v1", index).status == 201
-    at = client.ask("POST", f"/v2/{TENANTS[0]}/b/blobs/uploads/")["Location"]
+    at = client.ask("POST", "/v2/tenant0/b/blobs/uploads/")["Location"]
     assert client.ask("PUT", f"{at}?digest={digest}", b"abc", PATCH).status == 201
-    direct = [Client(server.address) for server in (one, two)]
-    placed = [[server.ask("HEAD", f"/v2/{tenant}/a/blobs/{digest}").status for server in direct] for tenant in TENANTS]
-    assert all(sorted(both) == [200, 404] for both in placed), placed
-    assert len({tuple(both) for both in placed}) == 2, f"one registry has all: {placed}"
+    for server in (one, two):
+        direct = Client(server.address)
+        placed = {tenant: direct.ask("HEAD", f"/v2/{tenant}/a/blobs/{digest}").status for tenant in ROUTES}
+        assert placed == {tenant: 200 if name == server.name else 404 for tenant, name in ROUTES.items()}, placed
+    for tenant in ("unrouted", "misrouted", "tenant", "tenant00"):
+        check_refused(address, tenant)
+    listed = json.loads(client.ask("GET", "/v2/_catalog").body)["repositories"]
+    assert listed == sorted(f"{tenant}/a" for tenant, name in ROUTES.items() if name == "one"), listed
     for dead in (one, two):
         dead.kill()
         # A connection that was open is not counted.
         assert until(lambda: Client(address).ask("GET", "/v2/").status == 200), "no registry answers although one is there"
         assert [Client(address).ask("GET", "/v2/").status for _ in range(10)] == [200] * 10
+        assert until(lambda: Client(address).ask("GET", "/v2/_catalog").status == 200), "no registry lists its tenants"
         dead.begin()
-        assert until(lambda: all(Client(address).ask("GET", f"/v2/{tenant}/a/manifests/v1").status == 200 for tenant in TENANTS))
+        assert until(lambda: set(statuses("manifests/v1").values()) == {200})
     one.kill()
-    assert statuses("manifests/v1") == [503 if both[0] == 200 else 200 for both in placed], statuses("manifests/v1")
+    found = statuses("manifests/v1")
+    assert found == {tenant: 503 if name == "one" else 200 for tenant, name in ROUTES.items()}, found
     one.begin()
-    assert set(statuses("manifests/v1") + statuses(f"blobs/{digest}")) == {200}
-    return sum(both[0] == 200 for both in placed)
+    assert set([*statuses("manifests/v1").values(), *statuses(f"blobs/{digest}").values()]) == {200}
 
 
 def main():
@@ -87,11 +105,11 @@ def main():
         one, two = Registry(shell, "one"), Registry(shell, "two")
         try:
             with balancer(folder, one, two) as address:
-                killed = play(one, two, address)
+                play(one, two, address)
         finally:
             one.kill()
             two.kill()
-    print(f"balanced: {len(TENANTS)} tenants over two registries, each on exactly one; {killed} were there after a SIGKILL and a restart")
+    print(f"balanced: {len(ROUTES)} tenants over two registries, each where its route says, also after SIGKILLs and restarts; others nowhere")
 
 
 if __name__ == "__main__":

@@ -2,7 +2,7 @@
 //! account of a machine has a secret instead of a password, and rights of its own; or a token whose claims have rights by a file. A file has
 //! the rights of users with a password; without it, such a user may use the repositories of the tenant that has the user's name.
 use crate::auth::oidc::{Account, Oidc, TokenFault};
-use crate::auth::reserved::{is_oidc, is_robot};
+use crate::auth::reserved::{is_oidc, is_robot, mover_of};
 use crate::auth::rights::{Demand, Right, Rights, Scope};
 use crate::auth::robots::{Robot, Robots};
 use crate::auth::tokens::{Issuer, Token};
@@ -105,6 +105,9 @@ impl Access {
     /// Returns the sender of a request after checking its credentials. A challenge names what the request needs.
     pub(crate) async fn caller(&self, headers: &HeaderMap, scope: Scope<'_>, client: Option<IpAddr>) -> Result<Caller, Fault> {
         let identity = match credentials(headers) {
+            Credentials::Password(user, secret) if mover_of(&user).is_some() => {
+                self.by_password(user, &secret, scope, client).await?
+            }
             _ if !self.wants_credentials() => Identity::Anybody,
             Credentials::Missing => Identity::Anonymous,
             Credentials::Password(user, secret) => self.by_password(user, &secret, scope, client).await?,
@@ -179,6 +182,11 @@ impl Caller {
             Identity::Holder(token) => token.user(),
             Identity::Anybody | Identity::Anonymous => None,
         }
+    }
+
+    /// Returns whether the sender is the command that moves a tenant.
+    pub(crate) fn is_mover_of(&self, tenant: &str) -> bool {
+        matches!(&self.identity, Identity::Robot(robot) if robot.is_mover_of(tenant))
     }
 
     /// Returns whether the sender is a user of the file of users with this name.

@@ -3,12 +3,20 @@
 /// What the names of robots begin with.
 pub(super) const ROBOT: &str = "robot+";
 
+/// What the names of the accounts of commands begin with that move tenants. No robot that the owner made has such a name.
+pub(super) const MOVER: &str = "robot+move+";
+
 /// What the names of accounts of issuers begin with, and the users with whom their tokens are sent.
 pub(super) const OIDC: &str = "oidc+";
 
 /// Returns whether a name is one of a robot.
 pub(super) fn is_robot(user: &str) -> bool {
     user.starts_with(ROBOT)
+}
+
+/// Returns the tenant that a command moves whose account has this name.
+pub(super) fn mover_of(user: &str) -> Option<&str> {
+    user.strip_prefix(MOVER)
 }
 
 /// Returns whether a client sends a token of an issuer with this user.

@@ -1,5 +1,5 @@
 //! Accounts of machines. Each has a secret that is shown once, rights of its own, and an end. The database has a hash of the secret.
-use crate::auth::reserved::ROBOT;
+use crate::auth::reserved::{mover_of, MOVER, ROBOT};
 use crate::auth::rights::{Grant, Right};
 use crate::auth::same::is_same;
 use crate::database::change::Change;
@@ -80,6 +80,8 @@ pub(crate) enum RobotFault {
 #[derive(Default)]
 pub(crate) struct Robots {
     by_name: RwLock<BTreeMap<String, Arc<Robot>>>,
+    /// The accounts of commands that move tenants, which last as long as the program.
+    movers: RwLock<BTreeMap<String, Arc<Robot>>>,
     writer: Option<Arc<Writer>>,
     /// Held while a robot is made or revoked.
     changing: tokio::sync::Mutex<()>,
@@ -156,6 +158,11 @@ impl Robot {
         self.grants.iter().any(|grant| grant.reaches(tenant))
     }
 
+    /// Returns whether it is the account of the command that moves a tenant.
+    pub(super) fn is_mover_of(&self, tenant: &str) -> bool {
+        mover_of(&self.name) == Some(tenant)
+    }
+
     /// Returns whether it is neither revoked nor at its end.
     fn is_active(&self) -> bool {
         let has_ended = self.ends <= time_of_day();
@@ -181,7 +188,7 @@ impl Robots {
     pub(crate) fn new(writer: Option<Arc<Writer>>, rows: Vec<RobotRow>) -> Robots {
         let robots = rows.into_iter().filter_map(Robot::of);
         let by_name = robots.map(|robot| (robot.name.clone(), Arc::new(robot))).collect();
-        Robots { by_name: RwLock::new(by_name), writer, changing: Default::default() }
+        Robots { by_name: RwLock::new(by_name), writer, ..Robots::default() }
     }
 
     fn read(&self) -> RwLockReadGuard<'_, BTreeMap<String, Arc<Robot>>> {
@@ -200,7 +207,10 @@ impl Robots {
     /// Returns the robot of a name if the secret is its own, and it is neither revoked nor at its end. The time does not depend on how
     /// much of the secret is right.
     pub(super) fn accept(&self, name: &str, secret: &str) -> Option<Arc<Robot>> {
-        let found = self.read().get(name).cloned();
+        let found = match mover_of(name) {
+            Some(_) => guard_of(self.movers.read()).get(name).cloned(),
+            None => self.read().get(name).cloned(),
+        };
         let is_right = is_same(&hash_of(secret), found.as_ref().map_or(&[0; HASH_LEN], |robot| &robot.hash));
         found.filter(|_| is_right).filter(|robot| robot.is_active())
     }
@@ -209,6 +219,26 @@ impl Robots {
     pub(super) fn still(&self, accepted: &Robot) -> Option<Arc<Robot>> {
         let found = self.read().get(&accepted.name).cloned();
         found.filter(|robot| robot.hash == accepted.hash && robot.is_active())
+    }
+
+    /// Makes the account of a command that moves a tenant, with all rights there, and returns its secret. An earlier one is replaced.
+    pub(crate) fn begin_move(&self, tenant: &str) -> io::Result<String> {
+        let (name, secret) = (format!("{MOVER}{tenant}"), new_secret()?);
+        let grants = Grant::of("read,write,delete", tenant).map_err(|why| io::Error::new(io::ErrorKind::InvalidInput, why))?;
+        let (hash, made, ends) = (hash_of(&secret), time_of_day(), u64::MAX);
+        let robot = Robot { name: name.clone(), hash, grants: vec![grants], made, ends, is_revoked: false };
+        guard_of(self.movers.write()).insert(name, Arc::new(robot));
+        Ok(secret)
+    }
+
+    /// Returns whether a secret is that of the command that moves a tenant.
+    pub(crate) fn moves(&self, tenant: &str, secret: &str) -> bool {
+        self.accept(&format!("{MOVER}{tenant}"), secret).is_some()
+    }
+
+    /// Removes the account of a command that moves a tenant.
+    pub(crate) fn end_move(&self, tenant: &str) {
+        guard_of(self.movers.write()).remove(&format!("{MOVER}{tenant}"));
     }
 
     /// Makes a robot, and returns it with its secret, which is not kept.
@@ -269,6 +299,24 @@ mod tests {
 
     fn soon() -> u64 {
         time_of_day() + 1000
+    }
+
+    #[test]
+    fn the_command_that_began_last_moves_a_tenant() {
+        let robots = Robots::default();
+        let name = "robot+move+acme";
+        let (first, second) = (robots.begin_move("acme").unwrap(), robots.begin_move("acme").unwrap());
+        let robot = robots.accept(name, &second).unwrap();
+        assert!(robots.accept(name, &first).is_none() && robots.accept("robot+move+other", &second).is_none());
+        assert!(robot.is_mover_of("acme") && !robot.is_mover_of("other"));
+        for (right, repo, expected) in
+            [(Right::Write, "acme/app/web", true), (Right::Delete, "acme", true), (Right::Read, "acme2/x", false)]
+        {
+            assert_eq!(robot.allows(right, repo), expected, "{right:?} {repo}");
+        }
+        assert!(robots.list().is_empty());
+        robots.end_move("acme");
+        assert!(robots.accept(name, &second).is_none());
     }
 
     #[tokio::test]

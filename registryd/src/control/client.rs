@@ -2,6 +2,7 @@
 use crate::control::commands::{Command, NewAccount, Reaching, RetentionCommand, RobotCommand};
 use crate::control::server::{PREVIEW, ROBOTS};
 use crate::metadata::clock::time_of_day;
+use crate::moving;
 use crate::operation::reload::read_text;
 use hyper::body::HttpBody;
 use hyper::header::HOST;
@@ -33,6 +34,7 @@ pub(crate) fn run(command: &Command) -> ExitCode {
 
 async fn make(command: &Command) -> Result<(), String> {
     match command {
+        Command::Move(command) => moving::command::run(command).await,
         Command::Retention(command) => retention(command).await,
         Command::Robot(RobotCommand::Add(account)) => add(account).await,
         Command::Robot(RobotCommand::List(reaching)) => list(reaching).await,
@@ -41,12 +43,12 @@ async fn make(command: &Command) -> Result<(), String> {
 }
 
 /// Prints a line. Returns false if nobody reads any more.
-fn print(text: &str) -> bool {
+pub(crate) fn print(text: &str) -> bool {
     writeln!(std::io::stdout(), "{text}").is_ok()
 }
 
 /// Sends a request, and returns the reply.
-async fn send(socket: &Path, method: Method, path: &str, content: Vec<u8>) -> Result<Response<Body>, String> {
+pub(crate) async fn send(socket: &Path, method: Method, path: &str, content: Vec<u8>) -> Result<Response<Body>, String> {
     let fault = |why: String| format!("cannot reach the registry: {}: {why}", socket.display());
     let request = Request::builder().method(method).uri(path).header(HOST, "localhost").body(Body::from(content));
     let request = request.map_err(|error| fault(error.to_string()))?;
@@ -64,13 +66,13 @@ async fn send(socket: &Path, method: Method, path: &str, content: Vec<u8>) -> Re
 }
 
 /// Returns the next part of a reply.
-async fn next_part(body: &mut Body) -> Result<Option<bytes::Bytes>, String> {
+pub(crate) async fn next_part(body: &mut Body) -> Result<Option<bytes::Bytes>, String> {
     let part = timeout(PART_TIME, body.data()).await.map_err(|_| "the reply does not end in time".to_string())?;
     part.transpose().map_err(|error| format!("the reply is incomplete: {error}"))
 }
 
 /// Returns the whole reply as JSON.
-async fn value_of(response: Response<Body>) -> Result<Value, String> {
+pub(crate) async fn value_of(response: Response<Body>) -> Result<Value, String> {
     let (mut body, mut bytes) = (response.into_body(), Vec::new());
     while let Some(part) = next_part(&mut body).await? {
         bytes.extend_from_slice(&part);
@@ -79,7 +81,7 @@ async fn value_of(response: Response<Body>) -> Result<Value, String> {
 }
 
 /// Returns the message of a failure.
-async fn message(response: Response<Body>) -> String {
+pub(crate) async fn message(response: Response<Body>) -> String {
     let status = response.status();
     match value_of(response).await {
         Ok(value) => value["errors"][0]["message"].as_str().map_or_else(|| status.to_string(), str::to_string),

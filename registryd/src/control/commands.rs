@@ -1,5 +1,7 @@
 //! The commands of the command line that ask a registry that runs.
-use clap::{ArgGroup, Args, Subcommand};
+use crate::http::client::ip_of;
+use clap::{ArgGroup, Args, Subcommand, ValueEnum};
+use hyper::Uri;
 use std::path::PathBuf;
 use time::{Date, Month};
 
@@ -12,6 +14,8 @@ const DAY: u64 = 86_400;
 /// A command to a registry that runs.
 #[derive(Clone, Debug, Subcommand)]
 pub(crate) enum Command {
+    /// Move a tenant to another registry while it serves
+    Move(MoveCommand),
     /// Show which tags rules would remove now
     Retention(RetentionCommand),
     /// Make, list and revoke accounts of machines
@@ -28,6 +32,53 @@ pub(crate) struct Reaching {
     /// Print JSON
     #[arg(long)]
     pub(super) json: bool,
+}
+
+/// A move of a tenant.
+#[derive(Clone, Debug, Args)]
+pub(crate) struct MoveCommand {
+    /// Name of the tenant
+    pub(crate) tenant: String,
+    /// URL of the registry that has the tenant
+    #[arg(long, value_name = "URL", value_parser = url)]
+    pub(crate) from: String,
+    /// URL of the registry that gets the tenant
+    #[arg(long, value_name = "URL", value_parser = url)]
+    pub(crate) to: String,
+    /// Reach the registry of --from by its --control SOCKET
+    #[arg(long, value_name = "SOCKET", default_value = SOCKET)]
+    pub(crate) from_control: PathBuf,
+    /// Reach the registry of --to by its --control SOCKET
+    #[arg(long, value_name = "SOCKET")]
+    pub(crate) to_control: PathBuf,
+    /// Switch the tenant's route to this server of HAProxy
+    #[arg(long, value_name = "NAME", requires_all = ["haproxy", "routes"])]
+    pub(crate) server: Option<String>,
+    /// Command HAProxy by this socket
+    #[arg(long, value_name = "SOCKET", requires = "server")]
+    pub(crate) haproxy: Option<PathBuf>,
+    /// Routes of HAProxy's configuration
+    #[arg(long, value_name = "FILE", requires = "server")]
+    pub(crate) routes: Option<PathBuf>,
+    /// Wait for open uploads, and cut them after this time
+    #[arg(long, value_name = "S", default_value_t = 600)]
+    pub(crate) uploads_s: u64,
+    /// Delete what the tenant has at --to and not at --from
+    #[arg(long)]
+    pub(crate) replace: bool,
+    /// Delete the tenant's content at --from at the end
+    #[arg(long)]
+    pub(crate) delete: bool,
+    /// Give an interrupted move up, and let clients write here
+    #[arg(long, value_name = "from|to", conflicts_with_all = ["replace", "delete"])]
+    pub(crate) keep: Option<Side>,
+}
+
+/// A side of a move.
+#[derive(Clone, Copy, Debug, PartialEq, Eq, ValueEnum)]
+pub(crate) enum Side {
+    From,
+    To,
 }
 
 /// The tags that rules would remove.
@@ -93,6 +144,22 @@ fn rights(text: &str) -> Result<String, String> {
     }
 }
 
+/// Returns the URL of a registry, without a slash at its end.
+fn url(text: &str) -> Result<String, String> {
+    let text = text.trim_end_matches('/');
+    let uri: Uri = text.parse().map_err(|_| "write https://HOST[:PORT]")?;
+    match uri.scheme_str() {
+        Some("http" | "https") if uri.path().len() > 1 || text.contains(&['@', '?', '#'][..]) => {
+            Err("write no path and no user".to_string())
+        }
+        Some("https") if ip_of(&uri).is_some() => {
+            Err("write the name of the host: TLS knows no certificates of addresses".to_string())
+        }
+        Some("http" | "https") => Ok(text.to_string()),
+        _ => Err("write https://HOST[:PORT]".to_string()),
+    }
+}
+
 /// Returns the begin of a day in UTC, in seconds since 1970.
 fn date(text: &str) -> Result<u64, String> {
     let wrong = || "write a day as 2027-01-31".to_string();
@@ -147,6 +214,9 @@ mod tests {
             "registryd robot revoke ci",
             "registryd robot add ci --allow read:acme --allow write:acme/app --days 90",
             "registryd robot add ci --allow read:* --until 2030-01-01",
+            "registryd move acme --from http://127.0.0.1:5001 --to https://two.example/ --to-control x",
+            "registryd move acme --from http://a --to http://b --to-control x --server two --haproxy y --routes z --delete",
+            "registryd move acme --from http://a --to http://b --to-control x --keep from",
             "registryd acme=1",
         ] {
             assert!(is_good(words), "{words}");
@@ -160,6 +230,14 @@ mod tests {
             "registryd robot add ci --allow read:acme --days 0",
             "registryd robot add ci --allow read:acme --days 9 --until 2030-01-01",
             "registryd robot revoke",
+            "registryd move acme --from http://a --to http://b",
+            "registryd move acme --from a:1 --to http://b --to-control x",
+            "registryd move acme --from http://a/x --to http://b --to-control x",
+            "registryd move acme --from http://u@a --to http://b --to-control x",
+            "registryd move acme --from https://10.0.0.1 --to http://b --to-control x",
+            "registryd move acme --from http://a --to http://b --to-control x --server two",
+            "registryd move acme --from http://a --to http://b --to-control x --haproxy y --routes z",
+            "registryd move acme --from http://a --to http://b --to-control x --keep from --delete",
             "registryd --listen 127.0.0.1:0 robot list",
         ] {
             assert!(!is_good(words), "{words}");

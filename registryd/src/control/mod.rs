@@ -2,6 +2,7 @@
 //! serves (HTTP, in JSON), and the program that a person calls.
 pub(crate) mod client;
 pub(crate) mod commands;
+pub(crate) mod moves;
 mod robots;
-mod server;
+pub(crate) mod server;
 pub(crate) mod socket;

@@ -9,7 +9,7 @@ use hyper::StatusCode;
 use serde_json::{json, Value};
 
 /// Returns a reply with an object of JSON.
-fn reply(status: StatusCode, value: Value) -> HandlerResult {
+pub(super) fn reply(status: StatusCode, value: Value) -> HandlerResult {
     with_body(status, &[("Content-Type", "application/json"), ("Cache-Control", "no-store")], format!("{value}\n").into())
 }
 

@@ -1,5 +1,5 @@
 //! What the socket of the owner's commands serves.
-use crate::control::robots;
+use crate::control::{moves, robots};
 use crate::endpoints::registry::Registry;
 use crate::http::fault::Fault;
 use crate::http::paths::decoded;
@@ -22,7 +22,11 @@ use tokio::time::{sleep, timeout};
 pub(super) const PREVIEW: &str = "/retention/preview";
 
 /// The path of the accounts of machines.
-pub(super) const ROBOTS: &str = "/robots";
+pub(crate) const ROBOTS: &str = "/robots";
+
+/// The path of the moves of tenants, and the end of the path of a tenant's contents.
+pub(crate) const MOVES: &str = "/moves";
+pub(crate) const CONTENTS: &str = "/contents";
 
 /// The maximum number of connections at once.
 const MOST_CONNECTIONS: usize = 8;
@@ -94,6 +98,19 @@ async fn reply(registry: Arc<Registry>, request: Request<Body>) -> HandlerResult
         (&Method::GET, ROBOTS, _) => robots::list(&registry),
         (&Method::POST, ROBOTS, _) => robots::add(&registry, &content(body).await?).await,
         (&Method::DELETE, _, Some(name)) => robots::revoke(&registry, &name).await,
+        (method, path, _) => match path.strip_prefix(MOVES).and_then(|rest| rest.strip_prefix('/')) {
+            Some(rest) => reply_on_move(registry, method, rest, body).await,
+            None => Err(Fault::path()),
+        },
+    }
+}
+
+/// Replies to a request about a tenant's move. `rest` is the end of its path.
+async fn reply_on_move(registry: Arc<Registry>, method: &Method, rest: &str, body: Body) -> HandlerResult {
+    match (method, rest.strip_suffix(CONTENTS)) {
+        (&Method::GET, Some(tenant)) => registry.contents(tenant.to_string()),
+        (&Method::GET, None) => moves::show(&registry, rest).await,
+        (&Method::POST, None) => moves::step(&registry, rest, &content(body).await?).await,
         _ => Err(Fault::path()),
     }
 }

@@ -7,6 +7,7 @@ use crate::metadata::document::Facts;
 use crate::metadata::manifest_table::ManifestTable;
 use crate::metadata::names::tenant_of;
 use crate::metadata::tag::{ExpiredTag, Pull, RemovedTag};
+use crate::moving::stage::MoveRow;
 use std::collections::HashMap;
 
 /// A change of the database.
@@ -112,6 +113,11 @@ pub(crate) enum Change {
     /// An account of a machine was revoked.
     RemoveRobot {
         name: String,
+    },
+    /// A tenant's move to another registry has reached a stage that a restart keeps, or no such stage.
+    SetMove {
+        tenant: String,
+        row: Option<MoveRow>,
     },
     /// The log is on the disk up to this end.
     KeepLogEnd {

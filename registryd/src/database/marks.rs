@@ -1,6 +1,7 @@
 //! What the database keeps in its settings about itself and about the log, by which a start finds out that one of the two was
 //! lost or replaced.
 use crate::folder::log_end::LogEnd;
+use crate::moving::stage::MoveRow;
 use rusqlite::{params, Connection, OptionalExtension};
 
 /// The marks in a database.
@@ -54,6 +55,27 @@ pub(super) fn put_pulls_since(connection: &Connection, since: Option<u64>) -> ru
         Some(since) => put(connection, "pulls_since", &(since as i64)),
         None => connection.execute("DELETE FROM settings WHERE name = 'pulls_since'", []).map(|_| ()),
     }
+}
+
+/// Returns the name of the setting that has the stage of a tenant's move.
+fn move_of(tenant: &str) -> String {
+    format!("move {tenant}")
+}
+
+/// Writes the stage of a tenant's move, or that there is none.
+pub(super) fn put_move(connection: &Connection, tenant: &str, row: Option<&MoveRow>) -> rusqlite::Result<()> {
+    match row {
+        Some(row) => put(connection, &move_of(tenant), &row.text()),
+        None => connection.execute("DELETE FROM settings WHERE name = ?1", params![move_of(tenant)]).map(|_| ()),
+    }
+}
+
+/// Returns the stages of the tenants that are being moved, or were.
+pub(super) fn moves(connection: &Connection) -> rusqlite::Result<Vec<MoveRow>> {
+    let mut select = connection.prepare("SELECT substr(name, 6), value FROM settings WHERE name GLOB 'move *'")?;
+    let rows = select.query_map([], |row| Ok((row.get::<_, String>(0)?, row.get::<_, String>(1)?)))?;
+    let rows = rows.collect::<rusqlite::Result<Vec<_>>>()?;
+    Ok(rows.iter().filter_map(|(tenant, text)| MoveRow::of(tenant, text)).collect())
 }
 
 /// Writes the number of transactions and the time of the last one, in seconds since 1970.

@@ -4,6 +4,7 @@ use crate::events::queue::EventRows;
 use crate::metadata::document::Facts;
 use crate::metadata::tag::TagTimes;
 use crate::metadata::upload_names::Secret;
+use crate::moving::stage::MoveRow;
 use rusqlite::Connection;
 use std::collections::HashMap;
 
@@ -52,6 +53,8 @@ pub(crate) struct Rows {
     pub(crate) recorded: HashMap<String, u32>,
     /// The events that are not delivered yet.
     pub(crate) events: EventRows,
+    /// The tenants that are being moved to or from other registries, or were.
+    pub(crate) moves: Vec<MoveRow>,
 }
 
 /// Returns all rows of a query.

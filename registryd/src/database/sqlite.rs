@@ -217,7 +217,8 @@ impl Database {
         let recorded = recorded.into_iter().collect();
         let robots = rows::robot_rows(connection)?;
         let events = event_rows::read(connection)?;
-        Ok(Rows { secret, repositories, manifests, tags, uploads, loose_blobs, cached, robots, recorded, events })
+        let moves = marks::moves(connection)?;
+        Ok(Rows { secret, repositories, manifests, tags, uploads, loose_blobs, cached, robots, recorded, events, moves })
     }
 
     /// Returns the secret of the names of uploads, and makes it if there is none.

@@ -176,6 +176,7 @@ fn make_other<'c>(
             run(query, params![name, hash, rights, *made as i64, *ends as i64])
         }
         Change::RemoveRobot { name } => run("DELETE FROM robots WHERE name = ?1", params![name]),
+        Change::SetMove { tenant, row } => marks::put_move(transaction, tenant, row.as_ref()),
         Change::KeepLogEnd { end } => marks::put_log_end(transaction, *end),
         Change::PassEvents { passed } => event_rows::pass(transaction, passed),
         Change::RestoreManifest { .. } | Change::RemoveTag { .. } | Change::RemoveManifest { .. } | Change::ExpireTags { .. } => {
@@ -220,6 +221,7 @@ impl<'c> UploadChanges<'c> {
 mod tests {
     use super::*;
     use crate::database::test_folder::{put, since, tags, times, TestFolder};
+    use crate::moving::stage::{MoveRow, Stage};
 
     #[test]
     fn a_tag_expires_unless_it_was_pushed_meanwhile() {
@@ -270,6 +272,18 @@ mod tests {
         assert!(folder.open().commit([add(row("robot+a", 9))].iter(), &[], 1).is_err());
         folder.open().commit([Change::RemoveRobot { name: "robot+a".to_string() }].iter(), &[], 1).unwrap();
         assert_eq!(folder.open().read().unwrap().robots, [row("robot+b", 9)]);
+    }
+
+    #[test]
+    fn the_last_stage_of_a_move_is_kept() {
+        let folder = TestFolder::new();
+        let row = |tenant: &str, stage| MoveRow { tenant: tenant.to_string(), stage, other: "http://two".to_string() };
+        let set = |row: MoveRow| Change::SetMove { tenant: row.tenant.clone(), row: Some(row) };
+        let changes = [set(row("a", Stage::Closed)), set(row("b", Stage::Arriving)), set(row("a", Stage::Left))];
+        folder.open().commit(changes.iter(), &[], 1).unwrap();
+        assert_eq!(folder.open().read().unwrap().moves, [row("a", Stage::Left), row("b", Stage::Arriving)]);
+        folder.open().commit([Change::SetMove { tenant: "b".to_string(), row: None }].iter(), &[], 2).unwrap();
+        assert_eq!(folder.open().read().unwrap().moves, [row("a", Stage::Left)]);
     }
 
     #[test]

@@ -23,6 +23,8 @@ pub(super) fn headers_of<'h>(digest: &'h str, tag: &'h str, len: &'h str) -> [(&
 pub(super) async fn head(call: &Call, digest: &str) -> HandlerResult {
     call.registry.loose.ask(&call.repo, digest)?;
     let size = call.registry.store.stat(&call.repo, digest).await??;
+    // A client that finds a blob does not push it before the manifest.
+    call.registry.moves.note_blob(&call.repo, digest);
     check_match(call, Some(digest))?;
     if has_content(call, digest) {
         return not_modified(digest);

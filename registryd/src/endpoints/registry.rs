@@ -19,6 +19,7 @@ use crate::metadata::repositories::Repositories;
 use crate::metadata::repository::Removal;
 use crate::metadata::turns::Turns;
 use crate::mirror::mirrors::Mirrors;
+use crate::moving::moves::Moves;
 use crate::operation::collector::SweepRequests;
 use crate::operation::health::Draining;
 use crate::operation::log::DebugScope;
@@ -46,6 +47,8 @@ pub(crate) struct Registry {
     pub(crate) mirrors: Mirrors,
     /// The manifests and blobs that mirrors copied.
     pub(crate) cached: CachedContents,
+    /// The tenants that move to or from other registries.
+    pub(crate) moves: Moves,
     /// The folder, if the registry survives restarts.
     pub(crate) folder: Option<Folder>,
     /// The probes of its disk.

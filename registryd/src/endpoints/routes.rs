@@ -12,6 +12,8 @@ use crate::http::fault::Fault;
 use crate::http::framing;
 use crate::http::paths::{decoded, Target};
 use crate::http::responses::{empty, HandlerResult};
+use crate::metadata::names::tenant_of;
+use crate::moving::moves::Kind;
 use crate::operation::health::{ALIVE, HEALTH, READY};
 use crate::operation::log::shown_headers;
 use crate::operation::status::View;
@@ -52,6 +54,15 @@ fn adds_content(method: &Method, target: &Target<'_>, is_mount: bool) -> bool {
         Target::Uploads { .. } => !is_mount,
         Target::Manifest { .. } => *method == Method::PUT,
         _ => false,
+    }
+}
+
+/// Returns how a request changes its tenant, if it may.
+fn change_of(method: &Method, target: &Target<'_>) -> Option<Kind> {
+    match target {
+        _ if matches!(*method, Method::GET | Method::HEAD) => None,
+        Target::Upload { .. } => Some(Kind::Upload),
+        _ => Some(Kind::Other),
     }
 }
 
@@ -180,6 +191,9 @@ impl Registry {
         }
         caller.check(&demand)?;
         check_no_mirror(&self, demand.repo, &head.method, &target)?;
+        let is_mover = caller.is_mover_of(tenant_of(demand.repo));
+        let change = change_of(&head.method, &target).map(|kind| self.moves.begin(demand.repo, kind, is_mover));
+        let _changing = change.transpose()?;
         let repo = demand.repo.to_string();
         let method = head.method.clone();
         let call = Call { registry: self, head, repo, caller };

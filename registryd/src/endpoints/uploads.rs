@@ -56,6 +56,7 @@ async fn mount(call: &Call, digest: &str) -> HandlerResult {
     let mounted = store.mount(&call.repo, digest, &call.mount_source()).await;
     if let Ok(Ok(MountResult::Linked)) = mounted {
         loose.end_link(&call.repo, digest, &mounted);
+        call.registry.moves.note_blob(&call.repo, digest);
         call.registry.cached.unmark(&call.repo, digest);
     }
     drop(turn);
@@ -222,6 +223,7 @@ async fn take_and_close(
         Err(Refusal { reason: Reason::LimitReached, .. }) => Err(full_share(call).await?),
         closed => {
             let size = closed?;
+            call.registry.moves.note_blob(&call.repo, digest);
             call.registry.cached.unmark(&call.repo, digest);
             call.record_blob_push(digest, size).await
         }

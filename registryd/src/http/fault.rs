@@ -143,6 +143,11 @@ impl Fault {
         Fault::new(StatusCode::INSUFFICIENT_STORAGE, "UNSUPPORTED", message).with_header("Retry-After", "60")
     }
 
+    /// The tenant moves to another registry. The status is 429, as clients that do not retry after a 503 do after it.
+    pub(crate) fn moving(message: &str) -> Fault {
+        Fault::new(StatusCode::TOO_MANY_REQUESTS, "TOOMANYREQUESTS", message).with_header("Retry-After", "2")
+    }
+
     /// The upstream of a mirror wants no requests for a time.
     pub(crate) fn limited_upstream(seconds: u64) -> Fault {
         let message = "the upstream of this mirror limits the rate of requests: retry later";

@@ -2,10 +2,11 @@
 use crate::http::pages::{Page, MAX_PAGE};
 use crate::metadata::document::Facts;
 use crate::metadata::manifest_table::ManifestTable;
-use crate::metadata::repository::{NamedManifest, Repository};
+use crate::metadata::repository::{Manifest, NamedManifest, Repository};
 use crate::metadata::tag::Tag;
+use crate::moving::contents::Image;
 use crate::operation::locks::guard_of;
-use std::collections::BTreeMap;
+use std::collections::{BTreeMap, HashMap};
 use std::ops::Bound;
 
 /// A manifest that has a subject.
@@ -194,6 +195,32 @@ impl ManifestTable {
     /// Returns the names of all repositories, in order.
     pub(crate) fn names(&self) -> Vec<String> {
         guard_of(self.repos.read()).keys().cloned().collect()
+    }
+
+    /// Returns the manifests of a repository with all that is known of them, in the order of digests.
+    pub(crate) fn images(&self, name: &str) -> Vec<Image> {
+        let find = |repo: &mut Repository| {
+            let mut tags: HashMap<&str, Vec<String>> = HashMap::new();
+            for (tag, Tag { digest, .. }) in &repo.tags {
+                tags.entry(digest).or_default().push(tag.clone());
+            }
+            let visible = repo.manifests.iter().filter(|(_, manifest)| !manifest.is_leaving);
+            let mut found: Vec<Image> = visible
+                .map(|(digest, Manifest { facts, .. })| Image {
+                    repository: name.to_string(),
+                    digest: digest.clone(),
+                    media_type: facts.media_type.clone(),
+                    size: facts.size,
+                    artifact_type: facts.artifact_type.clone(),
+                    subject: facts.subject.clone(),
+                    lists: facts.lists.clone(),
+                    tags: tags.remove(digest.as_str()).unwrap_or_default(),
+                })
+                .collect();
+            found.sort_unstable();
+            found
+        };
+        self.with(name, find).unwrap_or_default()
     }
 
     /// Returns the manifests of a repository that have no tag, in the order of digests.

@@ -193,6 +193,13 @@ impl OpenUploads {
         uploads.iter().filter(|(_, upload)| tenant_of(&upload.repo) == tenant).map(|(name, _)| *name).collect()
     }
 
+    /// Returns the uploads of a tenant, also those that requests use.
+    pub(crate) fn all_of(&self, tenant: &str) -> Vec<(Uuid, Upload)> {
+        let uploads = guard_of(self.by_name.lock());
+        let own = uploads.iter().filter(|(_, upload)| tenant_of(&upload.repo) == tenant);
+        own.map(|(name, upload)| (*name, upload.clone())).collect()
+    }
+
     /// Returns the names of the uploads to abandon.
     pub(crate) fn unused(&self, patience: UploadTimeouts) -> Vec<Uuid> {
         let uploads = guard_of(self.by_name.lock());

@@ -222,6 +222,11 @@ pub(crate) fn write_robot(action: &str, robot: &str) {
     write_own(Line { action, robot: Some(robot), ..Line::default() });
 }
 
+/// Writes the line of a step of a tenant's move to or from another registry. The tenant is in the place of the repository.
+pub(crate) fn write_move(action: &str, tenant: &str) {
+    write_own(Line { action, repository: Some(tenant), ..Line::default() });
+}
+
 /// Writes a line that belongs to no request of a client, if there is an audit log.
 fn write_own(line: Line<'_>) {
     if let Some(log) = log() {

@@ -30,6 +30,10 @@ impl Registry {
     async fn delete_unheld(&self, repo: &str, since: u64) {
         let unheld = self.manifests.untagged(repo).into_iter().filter(|one| one.held_by.is_none() && one.since <= since);
         for Untagged { digest, .. } in unheld {
+            let _changing = match self.moves.begin_own(repo) {
+                Ok(changing) => changing,
+                Err(_) => return,
+            };
             match delete_manifest(self, repo, &digest, Removal::UnheldSince(since), self.own_reporter()).await {
                 Ok(Ok(())) => {
                     tracing::info!(repo, digest = %digest, "deleted a manifest that nothing holds");
@@ -45,6 +49,10 @@ impl Registry {
     pub(super) async fn unlink_loose(&self, time: Duration) {
         for key in self.loose.unasked(time) {
             let (repo, digest) = (&key.0, &key.1);
+            let _changing = match self.moves.begin_own(repo) {
+                Ok(changing) => changing,
+                Err(_) => continue,
+            };
             let turn = self.loose.turns.take(repo, digest).await;
             if !self.loose.begin_unlink(&key, time) {
                 continue;

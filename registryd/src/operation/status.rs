@@ -147,6 +147,9 @@ impl Registry {
             if let Some(mirror) = self.mirrors.of(tenant) {
                 state["mirror"] = mirror.json(self.cached.count(tenant));
             }
+            if let Some((stage, other)) = self.moves.show(tenant).ok().and_then(|shown| Some((shown.stage?, shown.other))) {
+                state["move"] = json!({ "stage": stage, "other": other });
+            }
             tenants.push(state);
         }
         self.note_syncs().await?;

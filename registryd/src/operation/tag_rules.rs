@@ -74,6 +74,10 @@ impl Registry {
             if leaving.is_empty() || !self.has_room() {
                 return;
             }
+            let _changing = match self.moves.begin_own(repo) {
+                Ok(changing) => changing,
+                Err(_) => return,
+            };
             let tags = leaving.iter().map(|one| one.tag.clone()).collect();
             let report = self.own_reporter().and_then(|reporter| reporter.deleted_tags(repo));
             let removed: HashSet<String> = match self.manifests.expire_tags(repo, tags, report).await {

@@ -26,6 +26,8 @@ use crate::metadata::repositories::Repositories;
 use crate::metadata::upload_names::Secret;
 use crate::mirror::mirrors::Mirrors;
 use crate::mirror::spool;
+use crate::moving::moves::Moves;
+use crate::moving::stage::MoveRow;
 use crate::operation::exit::Failure;
 use crate::operation::metrics::Metrics;
 use crate::operation::{background, memory_reserve};
@@ -114,6 +116,7 @@ struct Tables {
     robots: Robots,
     pulls_since: Option<u64>,
     cached: CachedContents,
+    moves: Vec<MoveRow>,
     database: Option<(Arc<Writer>, WriterThread)>,
 }
 
@@ -134,8 +137,18 @@ impl Tables {
                 clock::begin(None);
                 let (manifests, loose_blobs) = (Arc::default(), Vec::new());
                 let (robots, cached) = (Robots::default(), CachedContents::default());
-                let pulls_since = Some(clock::now());
-                return Ok(Tables { uploads, repositories, manifests, loose_blobs, robots, pulls_since, cached, database: None });
+                let (pulls_since, moves, database) = (Some(clock::now()), Vec::new(), None);
+                return Ok(Tables {
+                    uploads,
+                    repositories,
+                    manifests,
+                    loose_blobs,
+                    robots,
+                    pulls_since,
+                    cached,
+                    moves,
+                    database,
+                });
             }
         };
         for upload in &recovered.uploads {
@@ -151,8 +164,8 @@ impl Tables {
         let database = Some((writer.clone(), thread));
         let robots = Robots::new(Some(writer.clone()), recovered.robots);
         let cached = CachedContents::new(Some(writer.clone()), recovered.cached);
-        let (loose_blobs, pulls_since) = (recovered.loose_blobs, recovered.pulls_since);
-        Ok(Tables { uploads, repositories, manifests, loose_blobs, robots, pulls_since, cached, database })
+        let (loose_blobs, pulls_since, moves) = (recovered.loose_blobs, recovered.pulls_since, recovered.moves);
+        Ok(Tables { uploads, repositories, manifests, loose_blobs, robots, pulls_since, cached, moves, database })
     }
 }
 
@@ -189,7 +202,7 @@ pub(crate) async fn start(options: &Options, files: Files, address: SocketAddr) 
     capacity::warn_of_sums(&options.tenants(), options.slots);
     let (store, child) = default_shares::start_store(options, writer.clone()).await?;
     let (child, recovered) = recover(&store, child, opened).await?;
-    let Tables { uploads, repositories, manifests, loose_blobs, robots, pulls_since, cached, database } =
+    let Tables { uploads, repositories, manifests, loose_blobs, robots, pulls_since, cached, moves, database } =
         Tables::new(recovered, &writer, &queue, options.limits())?;
     let is_tls = options.tls_cert.is_some();
     let recorder =
@@ -203,6 +216,7 @@ pub(crate) async fn start(options: &Options, files: Files, address: SocketAddr) 
         loose: options.keep_untagged.map_or_else(LooseBlobs::default, |_| LooseBlobs::new(writer.clone(), loose_blobs)),
         mirrors: upstreams.map_or_else(Mirrors::default, |upstreams| upstreams.mirrors(options, &metrics)),
         cached,
+        moves: Moves::new(&options.tenant_names(), writer.clone(), moves),
         folder: options.data.clone().zip(room).map(|(path, room)| Folder::new(path, room)),
         disk_probe: options.data.as_deref().map(|path| Arc::new(DiskProbe::new(path))),
         scrub: options.data.clone().and_then(|path| Some(Scrub::new(path, options.scrub_pace()?, &metrics))),

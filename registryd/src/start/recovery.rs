@@ -16,6 +16,7 @@ use crate::metadata::manifest_table::ManifestTable;
 use crate::metadata::names::tenant_of;
 use crate::metadata::upload_names::Secret;
 use crate::metadata::{clock, document};
+use crate::moving::stage::MoveRow;
 use crate::operation::exit::Failure;
 use crate::start::losses::Loss;
 use crate::start::opening::Opened;
@@ -59,6 +60,8 @@ pub(super) struct Recovered {
     pub(super) recorded: HashMap<String, u32>,
     /// The events that are not delivered yet.
     pub(super) events: EventRows,
+    /// The tenants that are being moved, or were.
+    pub(super) moves: Vec<MoveRow>,
 }
 
 /// What a start finds and changes.
@@ -117,7 +120,7 @@ pub(super) async fn recover(store: &Store, opened: Opened) -> Result<Recovered, 
         false => blocking(move || correction.make(database, known)).await?,
     };
     let manifests = table_of(&rows);
-    let Rows { repositories, loose_blobs, cached, robots, events, .. } = rows;
+    let Rows { repositories, loose_blobs, cached, robots, events, moves, .. } = rows;
     Ok(Recovered {
         database,
         secret,
@@ -130,6 +133,7 @@ pub(super) async fn recover(store: &Store, opened: Opened) -> Result<Recovered, 
         cached,
         recorded,
         events,
+        moves,
     })
 }
 
