@@ -121,8 +121,10 @@ def its_own_uploads_never_fill_the_disk():
             assert status == 507 and len(blobs) > 20, (status, len(blobs))
             for number in range(100, 120):
                 assert upload(client, noise(number, 300_000)) == 507
-            kept = status_of(client)["folder"]
-            assert kept["serves"] == "reads and deletes" and kept["free_bytes"] < 3 * MIB, kept
+            # The database releases the room that it held when it begins its file again. Then one more upload may fit.
+            def is_refused():
+                return upload(client, noise(120, 300_000)) == 507 and status_of(client)["folder"]["serves"] == "reads and deletes"
+            assert until(is_refused) and status_of(client)["folder"]["free_bytes"] < 3 * MIB, status_of(client)["folder"]
             assert delete(client, blobs[0]) == 202 and tags_of(client, "acme/one") == ["v1"]
         by_signal(server)
 
@@ -237,6 +239,14 @@ def a_database_of_an_earlier_version_waits_for_room(name):
             by_signal(server)
 
 
+def is_log_shorter(folder, length):
+    """Returns whether the log is shorter than this. A rewriting may remove a file that was listed before."""
+    try:
+        return log_of(folder).length() < length
+    except FileNotFoundError:
+        return False
+
+
 def a_signal_gives_back_the_room_of_what_was_deleted():
     """The last file of the log is closed first, since it has the deletes. The reserve has room for what is kept."""
     with disk(96) as at, serving(*at.words()) as server:
@@ -253,7 +263,7 @@ def a_signal_gives_back_the_room_of_what_was_deleted():
             at.fill()
             before = log_of(at.folder).length()
             server.process.send_signal(signal.SIGUSR1)
-            assert until(lambda: log_of(at.folder).length() < before - 24 * MIB), (before, log_of(at.folder).length(), server.logged()[-2000:])
+            assert until(lambda: is_log_shorter(at.folder, before - 24 * MIB)), (before, log_of(at.folder).length(), server.logged()[-2000:])
             assert until(lambda: at.free() > 20 * MIB)
             push(client, "acme/one", noise("more"))
             check_all(server, image, layer, [blobs[0], noise("more")])
@@ -364,7 +374,7 @@ def main():
         its_own_uploads_never_fill_the_disk, another_program_fills_the_disk, (a_start_on_a_full_disk, by_signal),
         (a_start_on_a_full_disk, by_kill_of_both), a_signal_gives_back_the_room_of_what_was_deleted,
         a_rewriting_that_has_no_room_does_not_begin, changes_wait_while_the_disk_fills, a_robot_is_revoked_on_a_full_disk,
-        *((a_database_of_an_earlier_version_waits_for_room, name) for name in kept_folders.versions())]
+        *((a_database_of_an_earlier_version_waits_for_room, name) for name in kept_folders.earlier_versions())]
     play("full_disks", tests)
 
 

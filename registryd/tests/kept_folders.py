@@ -1,5 +1,5 @@
 """Folders of `--data` that the programs of a version left, as archives in `folders/`, and the facts that each has to serve."""
-import json, os, tarfile
+import json, os, re, tarfile
 
 from referrers import artifact, descriptor, index
 from restarts import CONFIG, PATCH, by_kill_of_both, by_signal, opened, push, push_manifest
@@ -29,6 +29,23 @@ def upload_bytes(length):
 def versions():
     """Returns the names of the archives."""
     return sorted(name.removesuffix(".tar.xz") for name in os.listdir(KEPT) if name.endswith(".tar.xz"))
+
+
+def this_database():
+    """Returns the version of the database that the sources have."""
+    with open(f"{os.path.dirname(HERE)}/src/database/schema.rs", encoding="utf-8") as file:
+        return int(re.search(r"VERSION: i64 = (\d+);", file.read()).group(1))
+
+
+def database_of(name):
+    """Returns the version of the database in an archive."""
+    with tarfile.open(f"{KEPT}/{name}.tar.xz") as tar:
+        return json.load(tar.extractfile("facts.json"))["database"]
+
+
+def earlier_versions():
+    """Returns the names of the archives whose database a start completes."""
+    return [name for name in versions() if database_of(name) < this_database()]
 
 
 def database_version(path):

@@ -37,6 +37,13 @@ class Repository:
         assert done.returncode == 0, done.stderr
         return done.stdout.strip()
 
+    def set_release(self, release):
+        path = f"{self.top}/registryd/Cargo.toml"
+        with open(path) as file:
+            text = re.sub(r'^version = ".*"$', f'version = "{release}"', file.read(), count=1, flags=re.MULTILINE)
+        with open(path, "w") as file:
+            file.write(text)
+
 
 @contextlib.contextmanager
 def repository():
@@ -47,6 +54,7 @@ def repository():
 def each_commit_has_a_greater_version():
     with repository() as made:
         before = "0.1.0"
+        made.set_release(before)
         # The names of ten commits are in no order.
         for number in range(10):
             made.commit(str(number))
@@ -61,10 +69,7 @@ def a_release_has_a_greater_version():
     with repository() as made:
         before = "0"
         for number, release in enumerate(("0.1.0", "0.2.0", "0.10.0", "1.0.0")):
-            with open(f"{made.top}/registryd/Cargo.toml") as file:
-                text = re.sub(r'^version = ".*"$', f'version = "{release}"', file.read(), count=1, flags=re.MULTILINE)
-            with open(f"{made.top}/registryd/Cargo.toml", "w") as file:
-                file.write(text)
+            made.set_release(release)
             for change in ("release", "after"):
                 made.commit(f"{number} {change}")
                 version = made.version()

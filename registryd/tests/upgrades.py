@@ -9,7 +9,8 @@ import argparse, contextlib, glob, os, re, shutil, signal, subprocess, tempfile,
 
 import server
 from documented import Shell, blocks
-from kept_folders import STATES, check_served, check_uploads, content_of, database_version, fill, make, serving_folder, unpack, versions
+from kept_folders import STATES, check_served, check_uploads, content_of, database_of, database_version, earlier_versions, fill, make
+from kept_folders import serving_folder, this_database, unpack, versions
 from playing import play, until
 from restarts import by_signal, database, folder, pulled, pushed
 from server import TOP, sha256
@@ -27,11 +28,6 @@ FIRST_LOG = "log"
 def read(path):
     with open(path, encoding="utf-8") as file:
         return file.read()
-
-
-def this_version():
-    """Returns the version of the database that the sources have."""
-    return int(re.search(r"VERSION: i64 = (\d+);", read(f"{TOP}/src/database/schema.rs")).group(1))
 
 
 def listed(change):
@@ -68,7 +64,7 @@ def a_folder_is_served(name, state):
         with serving_folder(path) as started:
             check_served(started.client(), facts)
             by_signal(started)
-        assert database_version(path) == this_version(), database_version(path)
+        assert database_version(path) == this_database(), database_version(path)
         after = content_of(path)
         check_changes(before, after)
         with serving_folder(path) as started:
@@ -128,7 +124,7 @@ def a_start_that_fails_has_completed_the_database(name):
             if file == FIRST_LOG or file.startswith(("log.", "base.")):
                 os.remove(f"{path}/{file}")
         check(ended("--data", path), 8, "lost")
-        assert database_version(path) == this_version(), database_version(path)
+        assert database_version(path) == this_database(), database_version(path)
 
 
 def the_copy_from_before_goes_back(name):
@@ -159,7 +155,7 @@ def a_folder_of_this_version_is_served():
             check_served(started.client(), facts)
             check_uploads(started.client(), facts)
             by_signal(started)
-        assert database_version(path) == this_version(), database_version(path)
+        assert database_version(path) == this_database(), database_version(path)
 
 
 def set_version(path, version):
@@ -170,7 +166,7 @@ def set_version(path, version):
 def a_database_of_a_later_version_is_refused():
     """Nothing is changed."""
     with folder() as path:
-        facts, version = fill(path), this_version()
+        facts, version = fill(path), this_database()
         with serving_folder(path) as started:
             by_signal(started)
         set_version(path, version + 1)
@@ -191,16 +187,13 @@ def each_version_has_a_folder():
     assert releases, "no release in CHANGELOG"
     for release in releases:
         assert any(name.split("+")[0] == release for name in versions()), release
-    databases = set()
-    for name in versions():
-        with tempfile.TemporaryDirectory() as top:
-            databases.add(unpack(name, top)["database"])
-    assert databases >= set(range(1, this_version())), databases
+    databases = {database_of(name) for name in versions()}
+    assert databases >= set(range(1, this_database())), databases
 
 
 def tests():
     found = [a_folder_of_this_version_is_served, a_database_of_a_later_version_is_refused, each_version_has_a_folder,
-             (the_copy_from_before_goes_back, versions()[-1])]
+             (the_copy_from_before_goes_back, earlier_versions()[-1])]
     for name in versions():
         found += [(a_folder_is_served, name, state) for state in STATES]
         found += [(test, name) for test in (a_first_start_is_killed, a_start_that_fails_has_completed_the_database)]
