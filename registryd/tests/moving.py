@@ -14,8 +14,8 @@ TENANTS = {"one": ("acme=4000000000,65536", "other=1000000000,65536"), "two": ("
 DOCKER = "application/vnd.docker.distribution.manifest.v2+json"
 EXAMPLES = "/usr/share/doc/registryd/examples"
 
-# Each client has one open, and so has each worker of the command.
-UPLOADS = ("--uploads", "1024")
+# Each client has one upload open, and so has each worker of the command. Each image has a layer of its own.
+ROOM = ("--uploads", "1024", "--slots", "65536")
 
 # The time for which writes may wait. The goal is 2 s. Other tests may run at the same time.
 MOST_SECONDS = 10
@@ -238,7 +238,7 @@ def main():
     with tempfile.TemporaryDirectory(ignore_cleanup_errors=True) as folder:
         os.makedirs(f"{folder}/srv")
         def words(name):
-            return ("--data", f"{folder}/srv/{name}", "--control", f"{folder}/srv/{name}/control", "--lines", "16", "--sweep-ms", "50", *UPLOADS)
+            return ("--data", f"{folder}/srv/{name}", "--control", f"{folder}/srv/{name}/control", "--lines", "16", "--sweep-ms", "50", *ROOM)
         with serving(*words("one"), tenants=TENANTS["one"]) as one, serving(*words("two"), tenants=TENANTS["two"]) as two:
             replaced = {EXAMPLES: f"{os.path.dirname(TOP)}/docs", "registryd move": f"{REGISTRYD} move"}
             shell = Shell(folder, {"127.0.0.1:5001": one.address, "127.0.0.1:5002": two.address, **replaced})
