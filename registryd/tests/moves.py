@@ -487,7 +487,7 @@ def open_uploads_are_cut():
 
 
 def pushes_that_are_in_progress_go_on():
-    """A client has pushed blobs, or was told that they are there, and pushes the manifest at the target."""
+    """A client has pushed blobs, or a reply named them, and it pushes the manifest at the target."""
     with pair() as both:
         client = both.one.client()
         for blob in (b"{}", b"early"):

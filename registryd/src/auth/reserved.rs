@@ -3,7 +3,7 @@
 /// What the names of robots begin with.
 pub(super) const ROBOT: &str = "robot+";
 
-/// What the names of the accounts of commands begin with that move tenants. No robot that the owner made has such a name.
+/// The prefix of the names of the accounts of commands that move tenants. No robot that the owner made has such a name.
 pub(super) const MOVER: &str = "robot+move+";
 
 /// What the names of accounts of issuers begin with, and the users with whom their tokens are sent.

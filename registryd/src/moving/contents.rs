@@ -1,4 +1,4 @@
-//! What a tenant has, a line of JSON for each manifest, as the owner's socket serves it and the command reads it.
+//! The contents of a tenant, a line of JSON for each manifest, as the owner's socket serves it and the command reads it.
 use crate::endpoints::registry::Registry;
 use crate::http::responses::{with_body, HandlerResult};
 use crate::metadata::names::tenant_of;
@@ -26,7 +26,7 @@ pub(crate) struct Image {
 #[serde(rename_all = "lowercase")]
 pub(crate) enum Line {
     Image(Image),
-    /// A blob that a client was told of, by its repository and its digest: a manifest of it may come.
+    /// A blob that a reply named, by its repository and its digest. A manifest that refers to it may follow.
     Blob(String, String),
     /// The last line.
     End,

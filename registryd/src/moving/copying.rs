@@ -25,7 +25,7 @@ const TIMES: (usize, Duration) = (5, Duration::from_secs(1));
 /// The maximum number of attempts at making both sides equal that change something.
 const MOST_ROUNDS: usize = 5;
 
-/// What was copied and deleted.
+/// The numbers of things that were copied and deleted.
 #[derive(Clone, Copy, Debug, Default, PartialEq, Eq)]
 pub(super) struct Tally {
     pub(super) manifests: usize,
@@ -59,7 +59,7 @@ enum Job {
     Blob(String, String),
 }
 
-/// What the target has and the source does not, as paths.
+/// The paths of things that the target has and the source does not.
 #[derive(Debug, Default, PartialEq, Eq)]
 struct Superfluous {
     tags: Vec<String>,

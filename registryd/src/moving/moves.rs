@@ -55,7 +55,7 @@ pub(crate) struct Changing {
     kind: Kind,
 }
 
-/// What is shown of a tenant's move.
+/// The public part of a tenant's move.
 #[derive(Debug, Default, PartialEq, Eq)]
 pub(crate) struct Shown {
     pub(crate) stage: Option<Stage>,
@@ -367,7 +367,7 @@ mod tests {
         let (moves, robots) = moves();
         assert!(moves.begin_target("acme", "x", false, &robots).await.is_err());
         moves.begin_target("acme", "x", true, &robots).await.unwrap();
-        // What an interrupted move has copied is no content of its own.
+        // The copies of an interrupted move are no content of its own.
         moves.begin_target("acme", "x", false, &robots).await.unwrap();
         assert!(moves.begin_source("acme", "y", &robots).await.is_err());
         let change = moves.begin("acme/web", Kind::Other, true).ok().unwrap();

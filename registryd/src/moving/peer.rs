@@ -30,12 +30,12 @@ pub(super) struct Peer {
     secret: String,
 }
 
-/// What a tenant has at a registry.
+/// The contents of a tenant at a registry.
 #[derive(Default)]
 pub(super) struct Contents {
     /// The manifests by repository and digest.
     pub(super) images: BTreeMap<(String, String), Image>,
-    /// The blobs that clients were told of.
+    /// The blobs that replies named.
     pub(super) blobs: Vec<(String, String)>,
 }
 
