@@ -1,7 +1,7 @@
 #!/usr/bin/env python3
 """Tests moves of tenants that do not go well: the command is killed before and after each of its steps and started again while clients write
 to both registries directly, registries are killed, the target is down, small or has other content, uploads stay open, moves are given up."""
-import concurrent.futures, contextlib, http.client, json, re, signal, socket, subprocess, tempfile, threading, time
+import concurrent.futures, contextlib, http.client, json, re, shutil, signal, socket, subprocess, tempfile, threading, time
 
 from limits import CHEAP, basic, users
 from playing import play, until
@@ -432,6 +432,23 @@ def a_move_is_given_up():
         assert push(both.one.client(), "acme", "v4") == 429, "two registries take writes"
 
 
+def a_backup_from_before_a_move_does_not_have_it():
+    """As the document warns: then both registries take writes."""
+    with pair() as both:
+        assert push(both.one.client(), "acme", "v1") == 201 and both.one.end() == 0
+        data = f"{both.folder}/one"
+        shutil.copytree(data, f"{data}.backup")
+        both.one = both.begin("one")
+        both.move()
+        assert push(both.one.client(), "acme", "v2") == 429 and push(both.two.client(), "acme", "v2") == 201
+        assert both.one.end() == 0
+        shutil.rmtree(data)
+        shutil.copytree(f"{data}.backup", data)
+        both.one = both.begin("one")
+        assert both.stage("one") is None and push(both.one.client(), "acme", "v3") == 201
+        assert pulls(both.two.client(), "acme", "v2")
+
+
 def routes_are_checked_first():
     with pair() as both, tempfile.TemporaryDirectory() as folder:
         balancer = FakeBalancer(folder, "other")
@@ -523,5 +540,6 @@ def users_and_robots():
 
 if __name__ == "__main__":
     play("moves", [kills_at_each_step, restarts_while_nobody_may_write, a_command_that_was_replaced_writes_nothing, a_target_that_cannot_have_it,
-                   a_target_whose_disk_is_full, other_content_is_not_overwritten, a_move_is_given_up, routes_are_checked_first,
+                   a_target_whose_disk_is_full, other_content_is_not_overwritten, a_move_is_given_up,
+                   a_backup_from_before_a_move_does_not_have_it, routes_are_checked_first,
                    open_uploads_are_waited_for, open_uploads_are_cut, pushes_that_are_in_progress_go_on, users_and_robots])
