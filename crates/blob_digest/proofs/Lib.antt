@@ -10,3 +10,4 @@ pub mod Refusals
 pub mod Slices
 pub mod Tenants
 pub mod WordOrder
+pub mod Vouched

@@ -1,6 +1,9 @@
 -- The bytes that a running hash, and the hashes of an upload, have taken in.
-use Rattle.std.specs.Prelude.{◌≤◌, ◌++◌, ℕ, List, length, take}
+use Rattle.std.specs.Prelude.{◌≡◌, ◌≤◌, ◌++◌, ℕ, List, length, take}
 use Rattle.sha2.specs.Hashers.{Holds256, Holds512}
+use Rattle.spec_lib.specs.Texts.{Text}
+use Rattle.blob_digest.specs.Digests.{hash_text}
+use Rattle.blob_digest.specs.declared.algorithm.Algorithm.TheVariants.{Sha256}
 use Rattle.blob_digest.specs.declared.running.Running.{Running}
 use Rattle.blob_digest.specs.declared.upload_hashes.UploadHashes.{UploadHashes}
 
@@ -19,3 +22,7 @@ HashesUpload h bytes = Holds256 h.sha256 bytes × (h.through_sha512 ≤ length b
 -- the new hashes have taken in all bytes of the old ones and then these
 abbrev pub UploadTakesIn : UploadHashes → UploadHashes → List ℕ → Type 0
 UploadTakesIn old new bytes = (before : List ℕ) → HashesUpload old before → HashesUpload new (before ++ bytes)
+
+-- whatever bytes the hashes have taken in, this is their digest by SHA-256
+abbrev pub IsSha256Of : UploadHashes → Text → Type 0
+IsSha256Of h digest = (bytes : List ℕ) → HashesUpload h bytes → digest ≡ hash_text Sha256 bytes

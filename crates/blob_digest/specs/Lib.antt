@@ -8,3 +8,4 @@ pub mod Outcomes
 pub mod Ranges
 pub mod Refusals
 pub mod Tenants
+pub mod Vouched

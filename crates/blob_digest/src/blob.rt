@@ -1,35 +1,37 @@
-//! Sealed blobs: bytes whose digest was checked.
-ghost use Rattle.std.specs.Prelude.{◌≡◌, ◌↔◌, IsOk, IfOk, IfErr, ℕ, List, true};
+//! Sealed blobs: contents whose digest was checked.
+ghost use Rattle.std.specs.Prelude.{◌≡◌, ◌↔◌, IsOk, IfOk, IfErr, IfSome, ℕ, List, length, true};
 ghost use Rattle.blob_digest.specs.Digests.{algorithm_of, hash_text, is_digest_of};
+ghost use Rattle.blob_digest.specs.Vouched.{has_digest};
 ghost use Rattle.blob_digest.specs.Hashing.{Hashes};
 
 use crate::digest::Digest;
 use crate::running::Running;
+use content_files::{Content, reveal_read};
 use std::marker::Model;
 
 /// The content of a blob with its digest (OCI Image Specification 1.1, "Content Descriptors", "Verification").
 ///
-/// The invariant of the type states that the bytes have this digest. Contracts see a blob as the pair of the digest's
-/// text and the bytes.
-#[derive(Debug, Drop)]
+/// The invariant of the type states that the content has this digest if all of it was accepted or read since the start.
+/// Contracts see a blob as the pair of the digest's text and the content.
+#[derive(Drop)]
 pub struct Blob {
-    bytes: Vec<u8>,
+    content: Content,
     digest: Digest,
 }
 
 impl Model for Blob {
     ghost use Rattle.std.specs.Prelude.{List, ℕ, ◌≡◌, true};
-    ghost use Rattle.blob_digest.specs.Digests.{is_digest_of};
+    ghost use Rattle.blob_digest.specs.Vouched.{has_digest};
 
     ghost Value = { List ℕ × List ℕ };
 
-    ghost view = { λ a. (a.digest, a.bytes.items) };
+    ghost view = { λ a. (a.digest, a.content) };
 
-    ghost invariant = { λ a. is_digest_of a.digest a.bytes.items ≡ true };
+    ghost invariant = { λ a. has_digest a.digest a.content ≡ true };
 }
 
 impl Blob {
-    /// Seals bytes under a digest.
+    /// Seals bytes in memory under a digest.
     ///
     /// `running` has hashed the bytes already, so the call does not read them again.
     ///
@@ -47,57 +49,81 @@ impl Blob {
         ensures back { IfErr result (λ v. v.items ≡ bytes.items) }
     {
         let found = running.finish(digest.algorithm());
-        Blob::seal_found(bytes, found, digest)
+        if found != *digest {
+            return Err(bytes);
+        }
+        reveal_read(bytes.as_slice());
+        Ok(Blob {
+            content: Content::resident(bytes),
+            digest: *digest,
+        })
     }
 
-    /// Seals bytes under a digest, given the digest that was computed of them.
+    /// Seals a content under a digest, given the digest that was computed of it.
     ///
-    /// `found` is the digest of the bytes by the algorithm that `digest` names. The call does not read the bytes.
+    /// `found` is the digest of the content by the algorithm that `digest` names. The call does not read the content.
     ///
     /// # Errors
     ///
-    /// - The bytes, unchanged: `digest` is not `found`.
+    /// - The content, unchanged: `digest` is not `found`.
     ///
     /// # Memory
     ///
     /// The call does not allocate.
-    pub fn seal_found(bytes: Vec<u8>, found: Digest, digest: &Digest) -> Result<Blob, Vec<u8>>
-        requires { found ≡ hash_text (algorithm_of digest.now) bytes.items }
-        ensures agrees { IsOk result ↔ (is_digest_of digest.now bytes.items ≡ true) }
-        ensures blob { IfOk result (λ b. b ≡ (digest.now, bytes.items)) }
-        ensures back { IfErr result (λ v. v.items ≡ bytes.items) }
+    #[tactic(auto, using(crate::proofs::Vouched::vouched))]
+    pub fn seal_found(content: Content, found: Digest, digest: &Digest) -> Result<Blob, Content>
+        requires { found ≡ hash_text (algorithm_of digest.now) content }
+        ensures agrees { IsOk result ↔ (is_digest_of digest.now content ≡ true) }
+        ensures blob { IfOk result (λ b. b ≡ (digest.now, content)) }
+        ensures back { IfErr result (λ c. c ≡ content) }
     {
-        if *digest == found {
-            Ok(Blob {
-                bytes,
-                digest: *digest,
-            })
-        } else {
-            Err(bytes)
+        if *digest != found {
+            return Err(content);
         }
+        digest.reveal_grammar();
+        Ok(Blob {
+            content,
+            digest: *digest,
+        })
     }
 
-    /// Returns the digest of the bytes.
+    /// Returns the digest of the content.
     pub fn digest(&self) -> Digest
         ensures value { result ≡ self.now.0 }
-        ensures agrees { is_digest_of self.now.0 self.now.1 ≡ true }
+        ensures agrees { has_digest self.now.0 self.now.1 ≡ true }
     {
         self.digest
     }
 
-    /// Returns the content.
-    pub fn bytes(&self) -> &[u8]
-        ensures value { result.now ≡ self.now.1 }
-        ensures agrees { is_digest_of self.now.0 self.now.1 ≡ true }
+    /// Returns the length of the content in bytes.
+    pub fn len(&self) -> u64
+        ensures { result ≡ length self.now.1 }
     {
-        self.bytes.as_slice()
+        self.content.len()
+    }
+
+    /// Returns the content's bytes, if they are in memory.
+    pub fn bytes(&self) -> Option<&[u8]>
+        ensures value { IfSome result (λ b. b.now ≡ self.now.1) }
+        ensures agrees { IfSome result (λ b. is_digest_of self.now.0 b.now ≡ true) }
+    {
+        let bytes = self.content.bytes()?;
+        reveal_read(bytes);
+        Some(bytes)
+    }
+
+    /// Returns the content's bytes without copying them, if they are in memory.
+    pub fn into_bytes(self) -> Option<Vec<u8>>
+        ensures { IfSome result (λ b. b.items ≡ self.1) }
+    {
+        self.into_content().into_bytes()
     }
 
     /// Returns the content without copying it.
-    pub fn into_bytes(self) -> Vec<u8>
-        ensures { result.items ≡ self.1 }
+    pub fn into_content(self) -> Content
+        ensures { result ≡ self.1 }
     {
-        let Blob { bytes, digest: _ } = self;
-        bytes
+        let Blob { content, digest: _ } = self;
+        content
     }
 }

@@ -203,6 +203,13 @@ impl Digest {
         self.checksum.algorithm()
     }
 
+    /// Does nothing at run time: it states that the text of a digest has the grammar of digests.
+    pub fn reveal_grammar(&self)
+        ensures { is_digest_text self.now ≡ true }
+    {
+        let _ = self.checksum();
+    }
+
     /// Returns the algorithm and the value.
     fn checksum(&self) -> &Checksum
         ensures text { text_of result.now ≡ self.now }

@@ -2,7 +2,7 @@
 
 ghost use Rattle.std.specs.Prelude.{◌≡◌, ◌≤◌, [], length, take};
 ghost use Rattle.blob_digest.specs.Digests.{algorithm_of, hash_text};
-ghost use Rattle.blob_digest.specs.Hashing.{HashesUpload, UploadTakesIn};
+ghost use Rattle.blob_digest.specs.Hashing.{HashesUpload, IsSha256Of, UploadTakesIn};
 ghost use Rattle.sha2.specs.Hashers.{Holds512};
 
 use crate::algorithm::Algorithm;
@@ -120,6 +120,17 @@ impl UploadHashes {
                     Err(_) => unreachable!(),
                 }
             }
+        }
+    }
+
+    /// Returns the digest by SHA-256 of all bytes that were taken in.
+    #[tactic(auto, unfolding(crate::specs::Hashing::HashesUpload, crate::specs::Digests::sha256_text))]
+    pub fn sha256(&self) -> Digest
+        ensures { IsSha256Of self.now result }
+    {
+        match self.sha256.clone() {
+            Ok(all) => Digest::of_sha256(all.finalize()),
+            Err(_) => unreachable!(),
         }
     }
 }

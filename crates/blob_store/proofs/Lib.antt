@@ -1,9 +1,10 @@
-pub mod Refusals
-pub mod Places
-pub mod RowOrders
-pub mod Settlings
 pub mod BackendSteps
+pub mod Commits
 pub mod Interleavings
 pub mod OneText
-pub mod Commits
+pub mod Places
+pub mod Refusals
+pub mod RowOrders
+pub mod Sending
+pub mod Settlings
 pub mod Starts

@@ -3,7 +3,7 @@ use Rattle.std.specs.Prelude.{◌≡◌, ◌<◌, ℕ, true, List, [], ◌∷◌
 use Rattle.std.specs.List.{AllByRecursion, Contains}
 use Rattle.locked_book.specs.History.{steps_of}
 use Rattle.store_model.specs.BookText.{book_text}
-use Rattle.store_model.specs.Catalog.{Catalog, Tenant, is_repo_of_tenant, opening}
+use Rattle.store_model.specs.Catalog.{Catalog, Tenant, is_repo_of_tenant, opening, ContentRules}
 use Rattle.store_model.specs.Histories.{AreSteps, State, Step, initial_state}
 use Rattle.store_model.specs.HistoryIsolation.{IsCollisionFreeHistory, IsOwnReply}
 use Rattle.store_api.specs.Answers.{Answer}
@@ -28,18 +28,18 @@ AreAllOwnReplies s [] s' run = Unit {0}
 AreAllOwnReplies s (step ∷ steps) s' run = IsOwnReply s step × AreAllOwnReplies run.0 steps s' run.2
 
 -- the history has no reply that other tenants can cause, and no digest with two contents
-pub record MeetsNoLimit (tenants : List Tenant) (slots max_blob : ℕ) (steps : List Step) (s : State) : Type 0 where
-  pub fair : IsCollisionFreeHistory tenants slots max_blob steps s
-  pub own : AreAllOwnReplies (initial_state (opening tenants slots max_blob)) steps s fair.run
+pub record MeetsNoLimit (tenants : List Tenant) (slots : ℕ) (contents : ContentRules) (steps : List Step) (s : State) : Type 0 where
+  pub fair : IsCollisionFreeHistory tenants slots contents steps s
+  pub own : AreAllOwnReplies (initial_state (opening tenants slots contents)) steps s fair.run
 
 -- ---- the law
 
 -- some workers played the rows on a store of these tenants and limits, with these replies and this last catalog, and met no shared limit
-pub record PlayedWithinLimits (tenants : List Tenant) (slots max_blob workers : ℕ) (rows : List RowView) (answers : List Answer) (last : Catalog) : Type 0 where
+pub record PlayedWithinLimits (tenants : List Tenant) (slots : ℕ) (contents : ContentRules) (workers : ℕ) (rows : List RowView) (answers : List Answer) (last : Catalog) : Type 0 where
   pub some : 0 < workers
   pub one_each : length answers ≡ length rows
-  pub run : IsInterleaved (opening tenants slots max_blob) workers rows answers last
-  pub free : MeetsNoLimit tenants slots max_blob (steps_of run.order) run.state
+  pub run : IsInterleaved (opening tenants slots contents) workers rows answers last
+  pub free : MeetsNoLimit tenants slots contents (steps_of run.order) run.state
 
 -- the replies are the same, and the books have one text
 pub record WriteTheSame (answers answers' : List Answer) (last last' : Catalog) : Type 0 where
@@ -48,6 +48,6 @@ pub record WriteTheSame (answers answers' : List Answer) (last last' : Catalog) 
 
 -- rows that neither lease nor sweep, and whose lanes share no tenant, write the same text for each number and order of workers
 abbrev pub WorkersWriteTheSame : Type 0
-WorkersWriteTheSame = (tenants : List Tenant) (slots max_blob : ℕ) (rows : List RowView) → ShareNoTenant tenants rows → NeitherLeaseNorSweep rows →
-    (n m : ℕ) (answers answers' : List Answer) (last last' : Catalog) → PlayedWithinLimits tenants slots max_blob n rows answers last →
-    PlayedWithinLimits tenants slots max_blob m rows answers' last' → WriteTheSame answers answers' last last'
+WorkersWriteTheSame = (tenants : List Tenant) (slots : ℕ) (contents : ContentRules) (rows : List RowView) → ShareNoTenant tenants rows → NeitherLeaseNorSweep rows →
+    (n m : ℕ) (answers answers' : List Answer) (last last' : Catalog) → PlayedWithinLimits tenants slots contents n rows answers last →
+    PlayedWithinLimits tenants slots contents m rows answers' last' → WriteTheSame answers answers' last last'

@@ -10,7 +10,7 @@ use Rattle.spec_lib.specs.Texts.{coded_text}
 use Rattle.store_model.specs.Histories.{Step}
 use Rattle.blob_digest.specs.declared.refusal.Refusal.{Refusal}
 use Rattle.store_book.specs.BookState.{BookState, coded_state}
-use Rattle.store_book.specs.Openings.{OpensBook, RefusesBook, tenants_shown}
+use Rattle.store_book.specs.Openings.{OpensBook, RefusesBook, tenants_shown, rules_of}
 use Rattle.store_book.specs.declared.config.Config.{Config}
 use Rattle.locked_book.specs.Names.{LedgerName, StoreNames, setting_of}
 use Rattle.locked_book.specs.declared.policy.LogPolicy.{LogPolicy}
@@ -88,7 +88,7 @@ names_of p = record {
 
 -- the parts have the new book of this configuration
 abbrev pub OpensParts : Config → PartsView → Type 0
-OpensParts config parts = OpensBook (tenants_shown config.tenants.items) config.slots config.max_blob config.first_generation parts.book
+OpensParts config parts = OpensBook (tenants_shown config.tenants.items) config.slots (rules_of config) config.first_generation parts.book
 
 -- the error is one with which a book of this configuration fails
 abbrev pub RefusesParts : Config → Refusal → Type 0

@@ -4,7 +4,7 @@ use Rattle.std.specs.List.{AllByRecursion, filter, sum_by, zip}
 use Rattle.std.specs.List.Sorted.{IsPermutation}
 use Rattle.blob_digest.specs.Tenants.{Tenant}
 use Rattle.blob_digest.specs.declared.refusal.Refusal.{Refusal}
-use Rattle.store_model.specs.Catalog.{Catalog, opening}
+use Rattle.store_model.specs.Catalog.{Catalog, opening, ContentRules}
 use Rattle.store_model.specs.Invariant.{Sound}
 use Rattle.store_model.specs.Runs as runs
 use Rattle.store_model.specs.Sweep.{IsSweep}
@@ -53,5 +53,5 @@ pub record AreCountable (rows : List RowView) : Type 0 where
 
 -- if no reply is `Busy` or `Quota`, the rows of several workers have such an order
 abbrev pub RowsHaveOrders : Type 0
-RowsHaveOrders = (tenants : List Tenant) (slots max_blob workers : ℕ) (rows : List RowView) (answers : List Answer) (last : Catalog) → Sound (opening tenants slots max_blob) → 0 < workers → length answers ≡ length rows → AreCountable rows →
-    AllByRecursion IsContentionFreeAnswer answers → IsInterleaved (opening tenants slots max_blob) workers rows answers last → HasOrder (opening tenants slots max_blob) workers rows answers last
+RowsHaveOrders = (tenants : List Tenant) (slots : ℕ) (contents : ContentRules) (workers : ℕ) (rows : List RowView) (answers : List Answer) (last : Catalog) → Sound (opening tenants slots contents) → 0 < workers → length answers ≡ length rows → AreCountable rows →
+    AllByRecursion IsContentionFreeAnswer answers → IsInterleaved (opening tenants slots contents) workers rows answers last → HasOrder (opening tenants slots contents) workers rows answers last

@@ -1,6 +1,6 @@
 -- How a desk's amounts and steps grow by the requests of a worker's rows.
 use Rattle.std.specs.Prelude.{◌≡◌, ◌⊎◌, ◌+◌, ℕ, true, List, [], ◌∷◌, ◌++◌, Option, Result, Ok, Err, length}
-use Rattle.blob_digest.specs.Digests.{is_digest_of}
+use Rattle.blob_digest.specs.Vouched.{has_digest}
 use Rattle.blob_digest.specs.declared.range.ByteRange.{ByteRange}
 use Rattle.blob_digest.specs.declared.refusal.Refusal.{Refusal}
 use Rattle.blob_digest.specs.declared.refusal.Refusal.TheVariants.{Memory}
@@ -61,7 +61,7 @@ pub record FindsBlob (names : StoreNames) (size : ℕ) : Type 0 where
   pub hold : PinRecord
   pub bytes : Text
   pub kept : InSomeBook names (HasPin hold)
-  pub content : is_digest_of hold.digest bytes ≡ true
+  pub content : has_digest hold.digest bytes ≡ true
   pub length : length bytes ≡ size
 
 -- if the request checks a lease, the lease has such a pin

@@ -2,7 +2,8 @@
 
 ghost use Rattle.std.specs.Prelude.{◌≡◌, ◌⊎◌, ◌<◌, Err, IfErr, IfOk, IsSome, OnOk, length, true, vec_len};
 ghost use Rattle.std.specs.Arc.{arc_value};
-ghost use Rattle.blob_digest.specs.Digests.{is_digest_of, sha256_text};
+ghost use Rattle.blob_digest.specs.Digests.{sha256_text};
+ghost use Rattle.blob_digest.specs.Vouched.{has_digest};
 ghost use Rattle.oci_manifest.specs.Manifests.{max_manifest, refs_of};
 ghost use Rattle.store_book.specs.SlotSteps.{HasPin};
 ghost use Rattle.store_model.specs.Histories.{SweepCall};
@@ -417,7 +418,7 @@ impl<S: Naming> Store<S> {
     }
 
     /// Checks a lease against the book, and returns it unchanged. Under the lock, its slot is in use, in the lease's
-    /// generation and with its digest, which the lease's bytes have.
+    /// generation and with its digest, which the lease's content has (`has_digest`).
     ///
     /// # Memory
     ///
@@ -425,7 +426,7 @@ impl<S: Naming> Store<S> {
     pub fn verify<'s>(&'s self, rt: &impl Wait, lease: Lease<'s, S>) -> Lease<'s, S>
         ensures same { result ≡ lease.entry }
         ensures kept { InSomeBook S.names (HasPin lease.entry.hold) }
-        ensures content { is_digest_of lease.entry.hold.digest lease.entry.bytes ≡ true }
+        ensures content { has_digest lease.entry.hold.digest lease.entry.bytes ≡ true }
     {
         let _ = lease.digest();
         let (pin, blob) = lease.into_parts();

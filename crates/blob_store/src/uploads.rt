@@ -7,6 +7,7 @@ ghost use Rattle.blob_digest.specs.declared.refusal.Refusal.TheVariants.{Memory}
 
 use crate::store::Store;
 use blob_digest::{ByteRange, Digest, Refusal, RepoName};
+use content_files::NoFiles;
 use locked_book::{Desk, Naming, chunk_record, seal_record};
 use std::sync::Wait;
 use upload_table::Hashing;
@@ -87,9 +88,9 @@ impl<S: Naming> Store<S> {
                 return Err(refusal);
             }
         };
-        match hand.fill_by(bytes, hashing) {
+        match hand.fill_by(&NoFiles, bytes, hashing) {
             Ok(hand) => self.locked(rt).put_back(desk, hand, record),
-            Err(hand) => {
+            Err((_, hand)) => {
                 let _ = self.locked(rt).cancel(desk, hand);
                 Err(Refusal::Memory)
             }
@@ -153,12 +154,12 @@ impl<S: Naming> Store<S> {
                 return Err(refusal);
             }
         };
-        let filled = hand.fill_by(bytes, hashing);
+        let filled = hand.fill_by(&NoFiles, bytes, hashing);
         match filled {
             Ok(hand) => self
                 .locked(rt)
                 .finish(&self.pins, desk, hand, digest, record),
-            Err(hand) => {
+            Err((_, hand)) => {
                 let _ = self.locked(rt).cancel(desk, hand);
                 Err(Refusal::Memory)
             }

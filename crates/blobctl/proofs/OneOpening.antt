@@ -14,7 +14,7 @@ use Rattle.std.proofs.lemmas.Map.Lookups.{exact_bytes}
 use Rattle.spec_lib.specs.Texts.{Text, text_cmp, same_text}
 use Rattle.blob_digest.specs.Tenants.{Tenant}
 use Rattle.spec_lib.proofs.Texts.{same_itself, same_text_is, text_is_same}
-use Rattle.store_model.specs.Catalog.{Catalog, opening}
+use Rattle.store_model.specs.Catalog.{Catalog, opening, ContentRules}
 use Rattle.store_book.specs.Openings.{OpensCatalog}
 
 abbrev names : List Tenant → List Text
@@ -89,7 +89,7 @@ sorted_same (x ∷ xs) [] rising other sums = absurd (omega (arith, sums (λ _. 
 sorted_same (x ∷ xs) (y ∷ ys) rising other sums =
     by_order x y xs ys rising other sums (sorted_same xs ys (sorted_tail text_cmp x.name (names xs) rising) (sorted_tail text_cmp y.name (names ys) other)) (text_cmp x.name y.name) refl
 
-pub one_opening : (given : List Tenant) (slots max_blob : ℕ) (C D : Catalog) → OpensCatalog given slots max_blob C → OpensCatalog given slots max_blob D → C ≡ D
-one_opening given slots max_blob C D h k =
+pub one_opening : (given : List Tenant) (slots : ℕ) (contents : ContentRules) (C D : Catalog) → OpensCatalog given slots contents C → OpensCatalog given slots contents D → C ≡ D
+one_opening given slots contents C D h k =
     let tenants = sorted_same C.tenants D.tenants h.rising k.rising (λ f. sum_by-IsPermutation f given C.tenants h.same ∙ sym (sum_by-IsPermutation f given D.tenants k.same)) in
-    h.empty ∙ ap (λ (ts : List Tenant). opening ts slots max_blob) tenants ∙ sym k.empty
+    h.empty ∙ ap (λ (ts : List Tenant). opening ts slots contents) tenants ∙ sym k.empty

@@ -15,7 +15,7 @@ use Rattle.blob_digest.specs.declared.refusal.Refusal.{Refusal}
 use Rattle.blob_digest.specs.declared.refusal.Refusal.TheVariants as no
 use Rattle.oci_manifest.specs.Manifests.{refs_of, max_manifest}
 use Rattle.std.specs.Option.{ok_or}
-use Rattle.store_model.specs.Catalog.{Catalog, Resident, opening}
+use Rattle.store_model.specs.Catalog.{Catalog, Resident, opening, ContentRules}
 use Rattle.store_model.specs.Runs as runs
 use Rattle.store_model.specs.Commands.{Outcome, tenant, start, append, close, abandon, mount, delete, put_manifest, delete_manifest, remove_repo, check_repo, is_in_use, with_stored_blob, was_leased, has_source, mounted_outcome, started_outcome, has_manifest, add_manifest, chunk_length_check, session, not_busy, check_no_referrer, referrer, check_all_links, manifest, check_link, is_digest_accepted, has_slot, check_quota, check_share, content_in, lacks_room_for, cannot_open, is_full_of_manifests}
 use Rattle.store_model.specs.Sweep.{IsAfterSweep, IsSweep, is_orphan}
@@ -318,5 +318,5 @@ pub rows_are_one : (script : Text) (one two : List RowView) → AreRowsOf script
 rows_are_one script one two h k = some_same one two (sym h.good ∙ ap (map row_of_record) (records_same _ _ _ h.records k.records h.all k.all) ∙ k.good)
 
 -- nothing is leased if nothing is stored
-pub opening_none : (C : Catalog) (tenants : List Tenant) (slots max_blob : ℕ) → C ≡ opening tenants slots max_blob → LentNone C
-opening_none C tenants slots max_blob is d b at = absurd (let h = sym (get-empty text_cmp d) ∙ ap (λ (x : Catalog). get x.residents d) (sym is) ∙ at in cc)
+pub opening_none : (C : Catalog) (tenants : List Tenant) (slots : ℕ) (contents : ContentRules) → C ≡ opening tenants slots contents → LentNone C
+opening_none C tenants slots contents is d b at = absurd (let h = sym (get-empty text_cmp d) ∙ ap (λ (x : Catalog). get x.residents d) (sym is) ∙ at in cc)

@@ -6,7 +6,7 @@ use Rattle.std.proofs.lemmas.Bool.{false≢true}
 use Rattle.spec_lib.specs.Texts.{Text}
 use Rattle.blob_digest.specs.Tenants.{Tenant, is_repo_of_tenant}
 use Rattle.blob_digest.specs.declared.refusal.Refusal.{Refusal}
-use Rattle.store_model.specs.Catalog.{Catalog, opening}
+use Rattle.store_model.specs.Catalog.{Catalog, opening, ContentRules}
 use Rattle.store_model.specs.Noninterference.{IsCollisionFreeRun, NoCollision, uploads_of_run, commands_of, events_of}
 use Rattle.store_model.specs.Runs as runs
 use Rattle.store_model.specs.Commands.{Outcome}
@@ -179,5 +179,5 @@ module _ (tenants : List Tenant) (t : ℕ) where
 abbrev FairFrom : Catalog → List runs.Event → Catalog → Type 0
 FairFrom C es C' = (run : runs.IsRun C es C') × NoCollision (uploads_of_run es C C' run)
 
-pub fair_from : (tenants : List Tenant) (slots max_blob : ℕ) (C C' : Catalog) (es : List runs.Event) → C ≡ opening tenants slots max_blob → FairFrom C es C' → IsCollisionFreeRun tenants slots max_blob es C'
-fair_from tenants slots max_blob C C' es same h = let k = subst (λ (X : Catalog). FairFrom X es C') same h in record { run = k.0; no_collision = k.1 }
+pub fair_from : (tenants : List Tenant) (slots : ℕ) (contents : ContentRules) (C C' : Catalog) (es : List runs.Event) → C ≡ opening tenants slots contents → FairFrom C es C' → IsCollisionFreeRun tenants slots contents es C'
+fair_from tenants slots contents C C' es same h = let k = subst (λ (X : Catalog). FairFrom X es C') same h in record { run = k.0; no_collision = k.1 }

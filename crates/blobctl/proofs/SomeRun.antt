@@ -118,7 +118,7 @@ module _ (C : Catalog) where
 
   check_fine : (t : ℕ) (repo : Text) (number : ℕ) (range : Option ByteRange) (n : ℕ) → Fine (steps.chunk_length_check C t repo number range n)
   check_fine t repo number range n =
-      bind_fine (session_in (fmap.get C.sessions (t, number)) repo) _ (session_fine (fmap.get C.sessions (t, number)) repo) (λ s. bind_fine (not_busy s.chunks) _ (not_busy_fine s.chunks) (λ _. length_fine C.max_blob (received_length s) range n))
+      bind_fine (session_in (fmap.get C.sessions (t, number)) repo) _ (session_fine (fmap.get C.sessions (t, number)) repo) (λ s. bind_fine (not_busy s.chunks) _ (not_busy_fine s.chunks) (λ _. length_fine C.contents.max_blob (received_length s) range n))
 
   quota_fine : (t n : ℕ) → Fine (steps.check_quota C t n)
   quota_fine t n = refuse_fine _ _ refl

@@ -99,10 +99,11 @@ ReadsWorkers rows value = MatchOption value (HaveNoWorkers rows) (HaveWorkers ro
 abbrev pub tenant_args : List Row → List Text
 tenant_args rows = unwrap_or (all_of (codes "tenants") rows) []
 
--- the options are those of the found words, with slots of generation 0 at first
+-- the options are those of the found words, with contents in memory, and slots of generation 0 at first
 pub record AreOptionsOf (rows : List Row) (options : Options) : Type 0 where
   pub numbers : HaveNumbers rows options.store.slots options.store.max_blob
   pub tenants : SpellTenants false (tenant_args rows) (tenants_shown options.store.tenants.items)
+  pub kept_in_memory : options.store.on_disk ≡ false
   pub first : options.store.first_generation ≡ 0
   pub workers : HaveWorkers rows options.workers
 

@@ -10,7 +10,7 @@ use Rattle.blobctl.specs.Played.{Played}
 use Rattle.store_api.specs.Answers.{Answer}
 use Rattle.script_player.specs.Replies.{replies_text}
 use Rattle.script_player.specs.Rows.{RowView}
-use Rattle.store_model.specs.Catalog.{Catalog}
+use Rattle.store_model.specs.Catalog.{Catalog, in_memory}
 use Rattle.store_model.specs.Invariant.{Sound}
 use Rattle.store_book.specs.Openings.{OpensCatalog, tenants_shown}
 use Rattle.store_model.specs.BookText.{book_text}
@@ -42,7 +42,7 @@ pub record PlayedByWorkers (workers : ℕ) (tenants : List Tenant) (slots max_bl
   pub answers : List Answer
   pub one_each : length answers ≡ length rows
   pub first : Catalog
-  pub opened : OpensCatalog tenants slots max_blob first
+  pub opened : OpensCatalog tenants slots (in_memory max_blob) first
   pub last : Catalog
   pub run : IsInterleaved first workers rows answers last
   pub sound : Sound last

@@ -2,7 +2,7 @@
 use Rattle.std.specs.Prelude.{◌≡◌, ◌≢◌, ℕ, List, [], ◌∷◌}
 use Rattle.spec_lib.specs.Texts.{Text}
 use Rattle.blob_digest.specs.Tenants.{Tenant}
-use Rattle.store_model.specs.Catalog.{Catalog}
+use Rattle.store_model.specs.Catalog.{Catalog, in_memory}
 use Rattle.store_book.specs.Openings.{OpensCatalog}
 use Rattle.blobctl.specs.Played.{Played}
 use Rattle.script_player.specs.Rows.{RowView}
@@ -20,4 +20,4 @@ HasOneText = (tenants : List Tenant) (slots max_blob : ℕ) (script text other :
 
 -- a script without bad rows has a text on each opening catalog
 abbrev pub HasText : Type 0
-HasText = (tenants : List Tenant) (slots max_blob : ℕ) (first : Catalog) (script : Text) (rows : List RowView) → OpensCatalog tenants slots max_blob first → AreRowsOf script rows → (text : Text) × Played tenants slots max_blob script text
+HasText = (tenants : List Tenant) (slots max_blob : ℕ) (first : Catalog) (script : Text) (rows : List RowView) → OpensCatalog tenants slots (in_memory max_blob) first → AreRowsOf script rows → (text : Text) × Played tenants slots max_blob script text

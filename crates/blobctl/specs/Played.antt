@@ -5,7 +5,7 @@ use Rattle.spec_lib.specs.Texts.{Text}
 use Rattle.blob_digest.specs.Tenants.{Tenant}
 use Rattle.blob_digest.specs.declared.refusal.Refusal.{Refusal}
 use Rattle.blob_digest.specs.declared.refusal.Refusal.TheVariants.{Memory, TooManyReaders}
-use Rattle.store_model.specs.Catalog.{Catalog}
+use Rattle.store_model.specs.Catalog.{Catalog, in_memory}
 use Rattle.store_book.specs.Openings.{OpensCatalog, tenants_shown}
 use Rattle.store_book.specs.declared.config.Config.{Config}
 use Rattle.store_model.specs.BookText.{book_text}
@@ -85,14 +85,14 @@ abbrev pub PlaysFromOpening : Config → List RowView → BookState × Vec Reply
 PlaysFromOpening config rows end =
     (first : Catalog)
     × (left : leases.Leases)
-    × OpensCatalog (tenants_shown config.tenants.items) config.slots config.max_blob first
+    × OpensCatalog (tenants_shown config.tenants.items) config.slots (in_memory config.max_blob) first
     × Plays CatalogLeads (first, leases.no_leases) rows (answers_of end.1.items) (end.0.catalog, left)
 
 -- playing the script on a store with these tenants writes this text: the replies to all its rows, and then the book;
 -- no lane has a lease at first, and no reply is `Memory`
 pub record Played (tenants : List Tenant) (slots max_blob : ℕ) (script text : Text) : Type 0 where
   pub first : Catalog
-  pub opened : OpensCatalog tenants slots max_blob first
+  pub opened : OpensCatalog tenants slots (in_memory max_blob) first
   pub rows : List RowView
   pub all : AreRowsOf script rows
   pub answers : List Answer

@@ -2,7 +2,7 @@
 use Rattle.std.specs.Prelude.{◌≡◌, ◌<◌, ℕ, List}
 use Rattle.spec_lib.specs.Texts.{Text}
 use Rattle.blob_digest.specs.Tenants.{Tenant}
-use Rattle.store_model.specs.Catalog.{Catalog}
+use Rattle.store_model.specs.Catalog.{Catalog, in_memory}
 use Rattle.locked_book.specs.History.{steps_of}
 use Rattle.blob_store.specs.OneText.{MeetsNoLimit, NeitherLeaseNorSweep, ShareNoTenant}
 use Rattle.blob_store.specs.Workers.{IsInterleaved}
@@ -14,7 +14,7 @@ use Rattle.blobctl.specs.Script.{AreRowsOf}
 
 -- the run met no shared limit: no reply is one that other tenants can cause, and no digest has two contents
 abbrev pub MeetNoLimit : (slots max_blob : ℕ) → {first : Catalog} {workers : ℕ} {rows : List RowView} {answers : List Answer} {last : Catalog} → IsInterleaved first workers rows answers last → Type 0
-MeetNoLimit slots max_blob {first = C} run = MeetsNoLimit C.tenants slots max_blob (steps_of run.order) run.state
+MeetNoLimit slots max_blob {first = C} run = MeetsNoLimit C.tenants slots (in_memory max_blob) (steps_of run.order) run.state
 
 -- the rows neither lease nor sweep, and no two lanes share a tenant
 pub record AreApart (tenants : List Tenant) (rows : List RowView) : Type 0 where

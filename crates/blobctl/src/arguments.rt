@@ -133,6 +133,7 @@ fn options_of(alloc: Global, matches: &ArgMatches<'_>) -> Result<Options, Stop>
         slots,
         max_blob,
         tenants,
+        on_disk: false,
         first_generation: 0,
     };
     Ok(Options { store, workers })

@@ -1,5 +1,5 @@
 //! Rows played by several workers on a store that they share.
-ghost use Rattle.std.specs.Prelude.{◌≡◌, ◌≢◌, ◌⊎◌, IfErr, OnOk};
+ghost use Rattle.std.specs.Prelude.{◌≡◌, ◌≢◌, ◌⊎◌, IfErr, OnOk, false};
 ghost use Rattle.blobctl.specs.Options.{IsWorkerCount, IsWithinOptionLimits};
 ghost use Rattle.blobctl.specs.Writing.{AddsRunOf};
 ghost use Rattle.blob_store.specs.Parts.{OpensParts, names_of};
@@ -28,6 +28,7 @@ fn play_on_store<T: Threads + Wait + Sync, W: Write, S: Naming + Send + Sync>(
     rows: &ScriptRows,
 ) -> Result<(), Fault>
     requires workers { IsWorkerCount options.now.workers }
+    requires kept { options.now.store.on_disk ≡ false }
     requires opened { OpensParts options.now.store parts }
     requires named { names_of parts ≡ S.names }
     ensures played { OnOk result (AddsRunOf W.contents writer.old writer.new options.now rows.now) }

@@ -2,15 +2,16 @@
 use Rattle.std.proofs.Common.{◌≡◌, ◌≤◌, ◌<◌, ◌-◌, ◌+◌, ◌∙◌, ℕ, List, [], ◌∷◌, ◌++◌, true, ap, arith, length, length-append, refl, subst, sym}
 use Rattle.std.specs.Prelude.{Option, drop, map, sum, sum_by, take, get_or}
 use Rattle.content_files.specs.Reads.{IsPieceAt, IsPlaceOf, IsReadOf}
-use Rattle.std.proofs.Math.Seq.{drop-cons, take-append_seam, take-length}
+use Rattle.std.proofs.Math.Seq.{drop-cons, take-add, take-append_seam, take-length}
 use Rattle.std.proofs.lemmas.Grind.{flat_map-append}
 use Rattle.std.proofs.lemmas.List.{length-map, length-take-le, take-append-le, append_assoc, append-nil, map-append, get_or-map, take-append-drop, take-map}
 use Rattle.std.proofs.lemmas.Simd.{map-map}
 use Rattle.std.proofs.lemmas.List.Sums.{sum-map}
 use Rattle.std.proofs.lemmas.List.Concat.{length-flat_map}
-use Rattle.std.specs.Prelude.{◌<◌}
+use Rattle.std.specs.Prelude.{◌<◌, nat_lt}
 use Prim.Native.Nat.{suc}
-use Rattle.std.proofs.lemmas.Bool.{lt-ltb}
+use Rattle.std.proofs.lemmas.Bool.{and_parts, lt-ltb}
+use Rattle.std.proofs.lemmas.List.Folds.{list_all-append}
 use Rattle.content_files.specs.Notes.{PieceNote, is_read, joined, note_of}
 use Rattle.content_files.specs.Pieces.{IsAtEndOf, Pieces, with_piece}
 use Rattle.content_files.specs.Placed.{Placed, placed}
@@ -182,3 +183,8 @@ sizes a r b w is = omega (arith, ap length is, length-append a r, length-append 
 -- a slice that was written whole
 pub written : (out items : List ℕ) (n : ℕ) → n ≡ length out → take n (out ++ drop (length out) items) ≡ out
 written out items n is = ap (λ k. take k (out ++ drop (length out) items)) is ∙ take-append_seam out (drop (length out) items)
+
+-- the beginning of a content that was read was read
+pub read_front : (n m : ℕ) (content : List ℕ) → is_read (take (n + m) content) ≡ true → is_read (take n content) ≡ true
+read_front n m content all = (and_parts (is_read (take n content)) (is_read (take m (drop n content)))
+    (sym (list_all-append (λ b. nat_lt b 256) (take n content) (take m (drop n content))) ∙ ap is_read (sym (take-add n m content)) ∙ all)).0

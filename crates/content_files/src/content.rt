@@ -1,10 +1,12 @@
 //! A content, in memory or in a file.
 
-ghost use Rattle.std.specs.Prelude.{◌≡◌, ◌++◌, length, take, IfOk, IfSome, OnErr, OnOk, []};
+ghost use Rattle.std.specs.Prelude.{◌≡◌, ◌++◌, length, take, IfOk, IfSome, OnErr, OnOk, [], true};
+ghost use Rattle.content_files.specs.Notes.{is_read};
 
 use crate::disk_content::DiskContent;
 use crate::error::ContentError;
 use crate::name::ContentName;
+use crate::note::reveal_read;
 use crate::store::ContentStore;
 use std::alloc::{AllocError, Global};
 use std::marker::Model;
@@ -51,12 +53,35 @@ impl Content {
         }
     }
 
+    /// Returns whether all of the content was accepted or read since the start.
+    pub fn is_read(&self) -> bool
+        ensures { result ≡ true → is_read self.now ≡ true }
+    {
+        match &self.place {
+            Place::Resident(bytes) => {
+                reveal_read(bytes.as_slice());
+                true
+            }
+            Place::OnDisk(content) => content.is_read(),
+        }
+    }
+
     /// Returns the bytes, if they are in memory.
     pub fn bytes(&self) -> Option<&[u8]>
         ensures { IfSome result (λ b. b.now ≡ self.now) }
     {
         match &self.place {
             Place::Resident(bytes) => Some(bytes.as_slice()),
+            Place::OnDisk(_) => None,
+        }
+    }
+
+    /// Returns the bytes without copying them, if they are in memory.
+    pub fn into_bytes(self) -> Option<Vec<u8>>
+        ensures { IfSome result (λ b. b.items ≡ self) }
+    {
+        match self.place {
+            Place::Resident(bytes) => Some(bytes),
             Place::OnDisk(_) => None,
         }
     }

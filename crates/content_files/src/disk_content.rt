@@ -1,12 +1,12 @@
 //! A content in a file.
 
-ghost use Rattle.std.specs.Prelude.{◌≡◌, ◌++◌, ◌<◌, [], IfOk, OnOk, OnErr, length, take};
-ghost use Rattle.content_files.specs.Notes.{unread};
+ghost use Rattle.std.specs.Prelude.{◌≡◌, ◌++◌, ◌<◌, [], IfOk, OnOk, OnErr, length, take, true};
+ghost use Rattle.content_files.specs.Notes.{is_read, unread};
 ghost use Rattle.content_files.specs.Reads.{IsReadOf};
 
 use crate::error::ContentError;
 use crate::name::ContentName;
-use crate::note::Note;
+use crate::note::{Note, reveal_read};
 use crate::pieces::Pieces;
 use crate::store::ContentStore;
 use std::alloc::{AllocError, Global};
@@ -21,17 +21,20 @@ pub struct DiskContent {
     pieces: Pieces,
     /// The length of the content. It is less than that of the pieces if the content was cut.
     len: u64,
+    /// Whether no piece was added by its note alone.
+    all_read: bool,
 }
 
 impl Model for DiskContent {
-    ghost use Rattle.std.specs.Prelude.{ℕ, List, ◌≤◌, length, take};
-    ghost use Rattle.content_files.specs.Notes.{joined};
+    ghost use Rattle.std.specs.Prelude.{◌≡◌, ℕ, List, ◌≤◌, length, take, true};
+    ghost use Rattle.content_files.specs.Notes.{is_read, joined};
 
     ghost Value = { List ℕ };
 
     ghost view = { λ d. take d.len (joined d.pieces.each) };
 
-    ghost invariant = { λ d. d.len ≤ length (joined d.pieces.each) };
+    ghost invariant = { λ d. (d.len ≤ length (joined d.pieces.each))
+        × (d.all_read ≡ true → is_read (take d.len (joined d.pieces.each)) ≡ true) };
 }
 
 impl DiskContent {
@@ -44,7 +47,11 @@ impl DiskContent {
         ensures { IfOk result (λ d. d ≡ []) }
     {
         let pieces = Pieces::new(alloc, name)?;
-        Ok(DiskContent { pieces, len: 0 })
+        Ok(DiskContent {
+            pieces,
+            len: 0,
+            all_read: true,
+        })
     }
 
     /// Returns the name.
@@ -57,6 +64,13 @@ impl DiskContent {
         ensures { result ≡ length self.now }
     {
         self.len
+    }
+
+    /// Returns whether every piece of the content was added as bytes, and none by its note alone.
+    pub fn is_read(&self) -> bool
+        ensures { result ≡ true → is_read self.now ≡ true }
+    {
+        self.all_read
     }
 
     /// Cuts the content to a length in bytes, if it is longer. The file is not changed.
@@ -95,6 +109,7 @@ impl DiskContent {
         let Some(len) = self.len.checked_add(bytes.len() as u64) else {
             return Err(ContentError::Memory);
         };
+        reveal_read(bytes);
         let written = files.write(self.pieces.name(), self.len, bytes)?;
         self.pieces.add_written(written)?;
         self.len = len;
@@ -119,6 +134,7 @@ impl DiskContent {
         }
         self.pieces.add_noted(note)?;
         self.len = self.pieces.total();
+        self.all_read = false;
         Ok(())
     }
 

@@ -3,14 +3,14 @@ use Rattle.std.proofs.Common.{◌≡◌, ℕ, Bool, true, List, Option, Some, Re
 use Rattle.std.specs.Prelude.{OnErr, OnOk}
 use Rattle.std.specs.FinMap.{get}
 use Rattle.std.specs.Io.KnownBytes.{Appends}
-use Rattle.blob_digest.specs.Digests.{is_digest_of, sha256_text}
+use Rattle.blob_digest.specs.Digests.{sha256_text}
 use Rattle.blob_digest.specs.declared.refusal.Refusal.TheVariants.{BlobUnknown, ManifestUnknown, TooManyReaders}
 use Rattle.store_book.specs.BookState.{BookState}
 use Rattle.spec_lib.specs.Texts.{Text}
 use Rattle.store_model.specs.Catalog.{Resident, Catalog}
 use Rattle.store_model.specs.Invariant.{WellFormed}
 use Rattle.store_model.specs.BookText.{book_text}
-use Rattle.store_model.specs.Commands.{tenant, get_manifest, check_link, linked_blob, lease, with_leased}
+use Rattle.store_model.specs.Commands.{tenant, get_manifest, check_link, linked_blob, lease, with_leased, is_named}
 use Rattle.spec_lib.specs.Outcomes.{refuse}
 use Rattle.store_model.proofs.Commands.Accepted.{answer_by, left_by}
 use Rattle.spec_lib.proofs.Outcomes.{bound_ok, some_of_ok}
@@ -35,10 +35,10 @@ lent C C' crowded repo digest bytes stepped =
     record { blob = b.0; found = some_of_ok _ BlobUnknown b.0 held.2; same = answer_by c.2; left = left_by c.2 }
 
 -- a leased blob has its digest
-pub lent_content : (C C' : Catalog) (crowded : Bool) (repo digest bytes : Text) → WellFormed C → lease crowded C repo digest ≡ Ok (bytes, C') → is_digest_of digest bytes ≡ true
+pub lent_content : (C C' : Catalog) (crowded : Bool) (repo digest bytes : Text) → WellFormed C → lease crowded C repo digest ≡ Ok (bytes, C') → is_named C.contents digest bytes ≡ true
 lent_content C C' crowded repo digest bytes lawful stepped =
     let l = lent C C' crowded repo digest bytes stepped in
-    ap (is_digest_of digest) (sym l.same) ∙ lawful.content digest l.blob l.found
+    ap (is_named C.contents digest) (sym l.same) ∙ lawful.content digest l.blob l.found
 
 -- a manifest is under its digest
 pub manifest_digest : (C : Catalog) (repo digest bytes : Text) → WellFormed C → get_manifest C repo digest ≡ Ok bytes → sha256_text bytes ≡ digest

@@ -1,5 +1,5 @@
 -- Each change of a legal history fits into a record, and is the change that its description describes.
-use Rattle.std.proofs.Common.{◌≡◌, ◌≤◌, ◌<◌, ◌+◌, ◌∙◌, ℕ, Bool, true, false, not, List, [], ◌∷◌, ◌++◌, Option, Some, None, Ok, Err, IfSome, ap, arith, length, length-append, refl, subst, sym}
+use Rattle.std.proofs.Common.{◌≡◌, ◌≤◌, ◌<◌, ◌+◌, ◌∙◌, ℕ, Bool, true, false, not, List, [], ◌∷◌, ◌++◌, Option, Some, None, Ok, Err, IfSome, ap, arith, length, length-append, refl, subst, sym, inl, inr}
 use Rattle.std.proofs.lemmas.List.{take-append-drop}
 use Rattle.std.specs.Prelude.{◌^◌, ◌==◌, drop, map, position, take, nat_le, nat_lt, if◌then◌else◌, sum_by}
 use Rattle.std.specs.FinMap.{get}
@@ -17,7 +17,10 @@ use Rattle.sha2.specs.Sha512.{sha512}
 use Rattle.sha2.proofs.Facts256.{length-sha256}
 use Rattle.sha2.proofs.Facts512.{length-sha512}
 use Rattle.ghost_log.specs.declared.view.Entry.{Entry}
-use Rattle.blob_digest.specs.Digests.{algorithm_of, hash_text, is_digest_of, sha256_text, sha512_text}
+use Rattle.content_files.specs.Notes.{is_read}
+use Rattle.blob_digest.specs.Digests.{algorithm_of, hash_text, is_digest_of, is_digest_text, sha256_text, sha512_text}
+use Rattle.blob_digest.specs.Vouched.{has_digest}
+use Rattle.blob_digest.proofs.Grammar.{passes_grammar}
 use Rattle.blob_digest.specs.declared.algorithm.Algorithm.{Algorithm}
 use Rattle.blob_digest.specs.declared.algorithm.Algorithm.TheVariants.{Sha256, Sha512}
 use Rattle.blob_digest.specs.Names.{tenant_name}
@@ -30,7 +33,7 @@ use Rattle.oci_manifest.specs.Manifests.{max_manifest}
 use Rattle.spec_lib.specs.Outcomes.{refuse}
 use Rattle.spec_lib.specs.Texts.{Text, same_text}
 use Rattle.spec_lib.proofs.Outcomes.{bound_ok, not_refused, some_of_ok}
-use Rattle.store_model.specs.Catalog.{Catalog, CheckedOutWith, Chunks, HandRecord, Session, SessionNumber, Tenant, charged_length, holds, next_number_of, open_sessions, tenant_of, limits_of}
+use Rattle.store_model.specs.Catalog.{Catalog, CheckedOutWith, Chunks, HandRecord, Session, SessionNumber, Tenant, charged_length, holds, next_number_of, open_sessions, tenant_of, limits_of, ContentRules}
 use Rattle.store_model.specs.Commands as commands
 use Rattle.store_model.specs.Commands.{Outcome}
 use Rattle.store_model.specs.Durable.{Agrees, AreReturnedAsTaken, BlobLinked, BlobStored, BlobUnlinked, Change, ChunkReceived, DurableState, ManifestDeleted, ManifestPut, NumberSet, RepoAdded, RepoRemoved, SessionDropped, SessionOpened, SessionSealed, TakenChunks, change_of, changes_of, chunk_change, command_change, filled_chunk, mount_change, session_key, taken_after_step}
@@ -91,10 +94,30 @@ hash_short : (a : Algorithm) (bytes : List ℕ) → length (hash_text a bytes) �
 hash_short Sha256 bytes = sha256_short bytes
 hash_short Sha512 bytes = sha512_short bytes
 
-digest_short : (digest bytes : List ℕ) → is_digest_of digest bytes ≡ true → length digest ≤ 135
-digest_short digest bytes is =
+hashed_short : (digest bytes : List ℕ) → is_digest_of digest bytes ≡ true → length digest ≤ 135
+hashed_short digest bytes is =
     let same : digest ≡ hash_text (algorithm_of digest) bytes = (bytes_eq-Decides digest (hash_text (algorithm_of digest) bytes)).0 is in
     omega (arith, ap length same, hash_short (algorithm_of digest) bytes)
+
+text_short : (digest : List ℕ) → is_digest_text digest ≡ true → length digest ≤ 135
+text_short digest is = elim (passes_grammar digest is) [
+  | inl h ↦ omega (arith, seven, ap length h.1, length-append (codes "sha256:") h.0, h.2)
+  | inr h ↦ omega (arith, seven_too, ap length h.1, length-append (codes "sha512:") h.0, h.2)
+]
+
+vouched_short : (digest content : List ℕ) → has_digest digest content ≡ true → length digest ≤ 135
+vouched_short digest content = by (is_read content)
+  where
+    by : (b : Bool) → (if b then is_digest_of digest content else is_digest_text digest) ≡ true → length digest ≤ 135
+    by true is = hashed_short digest content is
+    by false is = text_short digest is
+
+digest_short : (rules : ContentRules) (digest content : List ℕ) → commands.is_named rules digest content ≡ true → length digest ≤ 135
+digest_short rules digest content = by rules.on_disk
+  where
+    by : (b : Bool) → (if b then has_digest digest content else is_digest_of digest content) ≡ true → length digest ≤ 135
+    by true is = vouched_short digest content is
+    by false is = hashed_short digest content is
 
 -- ---- descriptions
 
@@ -186,7 +209,7 @@ module _ (C : Catalog) (lawful : WellFormed C) where
   link_short : (repo digest : Text) → holds C repo digest ≡ true → length digest ≤ 135
   link_short repo digest has =
       let kept = (lawful.links (repo, digest) has).kept in
-      digest_short digest kept.0.bytes (lawful.content digest kept.0 kept.1)
+      digest_short C.contents digest kept.0.bytes (lawful.content digest kept.0 kept.1)
 
   manifest_short : (repo name bytes : Text) → get C.manifests (repo, name) ≡ Some bytes → length name ≤ 135
   manifest_short repo name bytes found = omega (arith, ap length (lawful.manifests (repo, name) bytes found).name, sha256_short bytes)
@@ -205,8 +228,8 @@ module _ (C : Catalog) (lawful : WellFormed C) where
   seal_fits : (key : SessionNumber) (s : Session) → get C.sessions key ≡ Some s → (digest whole last : Text) → commands.is_digest_accepted C digest whole ≡ true → length last ≤ 2 ^ 40 → Fits (SessionSealed key digest last)
   seal_fits key s found digest whole last accepted small =
       let f = session_fits key s found in
-      let is = and_parts (is_digest_of digest whole) (commands.has_same_bytes (get C.residents digest) whole) accepted in
-      (room kind.SessionSealed (name_at C.tenants key.0) digest key.1 last f.0 (digest_short digest whole is.0) f.1 small, f.2)
+      let is = and_parts (commands.is_named C.contents digest whole) (commands.fits_stored C.contents (get C.residents digest) whole) accepted in
+      (room kind.SessionSealed (name_at C.tenants key.0) digest key.1 last f.0 (digest_short C.contents digest whole is.0) f.1 small, f.2)
 
   drop_fits : (key : SessionNumber) (s : Session) → get C.sessions key ≡ Some s → Fits (SessionDropped key)
   drop_fits key s found = let f = session_fits key s found in (room kind.SessionDropped (name_at C.tenants key.0) [] key.1 [] f.0 (omega arith) f.1 (omega arith), f.2)

@@ -15,3 +15,4 @@ pub mod Fitting
 pub mod Logging
 pub mod TenantNames
 pub mod SeenHistories
+pub mod Sending

@@ -40,7 +40,7 @@ steps_by-lanes_of lane (e ∷ es) = ap (λ steps. if e.writer == lane then e.eve
 -- a new store's opening catalog agrees with its first durable state
 opening_agrees : (names : StoreNames) → OpensNew names → Agrees fmap.empty (opening_state names) names.opening
 opening_agrees names opens =
-    subst (Agrees fmap.empty (opening_state names)) (sym opens.new) (new_stores_agree names.setting.tenants names.setting.slots names.setting.max_blob)
+    subst (Agrees fmap.empty (opening_state names)) (sym opens.new) (new_stores_agree names.setting.tenants names.setting.slots names.setting.contents)
 
 -- if each writer returns only what it took last, every hand is returned as it was taken
 returned_as_taken : (names : StoreNames) (history : List (Entry Step)) (s : State) → OpensNew names → LogLeadsTo names.opening history s → AreReturned history → AreWellFormed history →

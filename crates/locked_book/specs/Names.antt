@@ -6,22 +6,22 @@ use Rattle.locked_book.specs.Totals.{ledger_parts}
 use Rattle.locked_book.specs.declared.policy.LogPolicy.{LogPolicy}
 use Rattle.locked_book.specs.declared.policy.LogPolicy.TheVariants as policy
 use Rattle.store_book.specs.BookState.{BookState}
-use Rattle.store_model.specs.Catalog.{Catalog, Tenant, opening}
+use Rattle.store_model.specs.Catalog.{Catalog, Tenant, opening, ContentRules, in_memory}
 use Rattle.store_model.specs.Invariant.{Sound}
 
 -- the setting of a store, which no command changes: its tenants with their quotas in the order of their names, its slots, and its blob size limit
 pub record Setting : Type 0 where
   pub tenants : List Tenant
   pub slots : ℕ
-  pub max_blob : ℕ
+  pub contents : ContentRules
 
 -- the setting that a catalog has
 abbrev pub setting_of : Catalog → Setting
-setting_of C = record { tenants = C.tenants; slots = C.slots; max_blob = C.max_blob }
+setting_of C = record { tenants = C.tenants; slots = C.slots; contents = C.contents }
 
 -- the catalog of a new store with this setting
 abbrev pub new_catalog : Setting → Catalog
-new_catalog setting = opening setting.tenants setting.slots setting.max_blob
+new_catalog setting = opening setting.tenants setting.slots setting.contents
 
 -- the catalog is that of a new store
 abbrev pub IsNewCatalog : Catalog → Type 0
@@ -67,12 +67,12 @@ abbrev pub no_names : StoreNames
 no_names = record {
   table = no_table;
   slots = 0;
-  setting = record { tenants = []; slots = 0; max_blob = 0 };
+  setting = record { tenants = []; slots = 0; contents = in_memory 0 };
   commands = record { name = 0; parts = 0 };
   received = record { name = 0; parts = 0 };
   closed = record { name = 0; parts = 0 };
   abandoned = record { name = 0; parts = 0 };
   log = durable.no_names;
   policy = policy.NoLog;
-  opening = opening [] 0 0;
+  opening = opening [] 0 (in_memory 0);
 }

@@ -1,8 +1,8 @@
 -- What calls return: totals, sums, errors, leases and printed text.
+use Rattle.store_model.specs.Commands.{is_named}
 use Rattle.std.specs.Prelude.{◌≡◌, ℕ, List, Option, IfSome, MatchResult, Result, ◌+◌, length, sum_by, true}
 use Rattle.std.specs.Io.KnownBytes.{Appends}
 use Rattle.atomic_table.specs.Seated.{TableId}
-use Rattle.blob_digest.specs.Digests.{is_digest_of}
 use Rattle.blob_digest.specs.declared.range.ByteRange.{ByteRange}
 use Rattle.blob_digest.specs.declared.refusal.Refusal.{Refusal}
 use Rattle.spec_lib.specs.Texts.{Text}
@@ -12,7 +12,7 @@ use Rattle.pin_table.specs.Calls.{PinValue}
 use Rattle.store_book.specs.BookState.{BookState}
 use Rattle.store_model.specs.Amounts.{Amounts}
 use Rattle.store_model.specs.BookText.{book_text}
-use Rattle.store_model.specs.Catalog.{HandRecord}
+use Rattle.store_model.specs.Catalog.{HandRecord, ContentRules}
 
 -- the returned totals have these amounts
 abbrev pub HasTotals : Totals → Amounts → Type 0
@@ -30,9 +30,9 @@ FailsWith result e = MatchResult result (λ _. ⊥) (λ x. x ≡ e)
 abbrev pub IsPinOf : TableId → Text → PinValue → Type 0
 IsPinOf table digest pin = (pin.table ≡ table) × (pin.hold.digest ≡ digest) × (pin.hold.weight ≡ 1024)
 
--- the bytes hash to this digest
-abbrev pub HashesTo : Text → Text → Type 0
-HashesTo bytes digest = is_digest_of digest bytes ≡ true
+-- the content has this digest, in a store with these rules
+abbrev pub HashesTo : ContentRules → Text → Text → Type 0
+HashesTo rules bytes digest = is_named rules digest bytes ≡ true
 
 -- the session's bytes and n more end with the range, if there is one
 abbrev pub EndsWithRange : HandRecord → ℕ → Option ByteRange → Type 0

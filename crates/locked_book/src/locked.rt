@@ -297,7 +297,8 @@ impl<S: Naming> LockedBook<S> {
             (reply (λ r. Bytes (blob_bytes (arc_value r.1))) result)
             self.old self.new desk.old desk.new }
         ensures pin { IfOk result (λ r. IsPinOf S.names.table digest.now r.0) }
-        ensures content { IfOk result (λ r. HashesTo (blob_bytes (arc_value r.1)) digest.now) }
+        ensures content { IfOk result
+            (λ r. HashesTo self.old.book.catalog.contents (blob_bytes (arc_value r.1)) digest.now) }
         ensures blob { IfOk result (λ r. blob_digest (arc_value r.1) ≡ digest.now) }
     {
         let result = self.kept.lease(pins, &mut desk.tally, repo, digest);

@@ -39,7 +39,7 @@ impl Job {
             digest,
         } = self;
         let found = UploadHashes::new().digest(bytes.as_slice(), 0, digest.algorithm());
-        match Blob::seal_found(bytes, found, &digest) {
+        match Blob::seal_found(content_files::Content::resident(bytes), found, &digest) {
             Ok(blob) => Some(blob),
             Err(_) => None,
         }
@@ -198,7 +198,7 @@ impl Contents {
         }
         match self.contents.remove(&number) {
             Some(Content::Hashed(blob)) => {
-                self.release(blob.bytes().len() as u64);
+                self.release(blob.len());
                 Found::Blob(blob)
             }
             Some(Content::Waiting(bytes, _)) => {

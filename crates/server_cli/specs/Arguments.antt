@@ -1,5 +1,5 @@
 -- The arguments of the command line.
-use Rattle.std.specs.Prelude.{⊤, ◌≡◌, ◌≢◌, ◌⊎◌, ◌%◌, ◌≤◌, ℕ, List, [], ◌∷◌, Bool, true, Option, Some, None, MatchOption, String, bytes_eq, codes, length, map, string_bytes}
+use Rattle.std.specs.Prelude.{⊤, ◌≡◌, ◌≢◌, ◌⊎◌, ◌%◌, ◌≤◌, ℕ, List, [], ◌∷◌, Bool, true, false, Option, Some, None, MatchOption, String, bytes_eq, codes, length, map, string_bytes}
 use Rattle.std.specs.declared.alloc.Global.{Global}
 use Rattle.std.specs.List.{after_first, before_first}
 use Rattle.spec_lib.specs.Texts.{Text}
@@ -52,6 +52,7 @@ pub record IsWithin (store : Config) : Type 0 where
   pub sized : IsSized store.slots store.max_blob
   pub names : HasNames (tenants_shown store.tenants.items)
   pub limits : IsWithinLimits (tenants_shown store.tenants.items)
+  pub in_memory : store.on_disk ≡ false
   pub first : store.first_generation ≡ 0
 
 -- there are too few settings, or a number is missing or past its limit, or a tenant is wrong, or the number of paths is odd

@@ -86,6 +86,7 @@ fn read_settings(alloc: Global, words: &[String]) -> Result<(Config, &[String]),
         slots: slots as u32,
         max_blob,
         tenants,
+        on_disk: false,
         first_generation: 0,
     };
     Ok((store, paths))

@@ -51,6 +51,10 @@ live-marked slots k h live e = live_in (slice_get slots k) h live e
 
 -- ---- the slot of a digest
 
+-- the slot of a digest is one of the slots
+pub found_within : (slots : List Slot) (d : Text) (k : ℕ) → slot_of slots d ≡ Some k → k < length slots
+found_within slots d k found = (position-Some (has_digest d) slots k (empty_slot 0) found).0
+
 -- a blob's digest is found
 pub any_at : (slots : List Slot) (k : ℕ) (h : StoredBlob) → stored_blob_at slots k ≡ Some h → list_any (has_digest h.digest) slots ≡ true
 any_at [] k h e = cc

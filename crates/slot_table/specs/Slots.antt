@@ -138,6 +138,14 @@ link_down h = record h { links = h.links - 1 }
 abbrev pub lend : StoredBlob → StoredBlob
 lend h = record h { lent = true }
 
+-- the blob with this content
+abbrev pub with_content : Text → StoredBlob → StoredBlob
+with_content bytes h = record h { bytes = bytes }
+
+-- the digest of the blob of a slot
+abbrev pub digest_in : SlotContent → Option Text
+digest_in c = option_map (λ h. h.digest) (stored_blob_in c)
+
 -- the blob, condemned or live
 abbrev pub mark : Bool → StoredBlob → StoredBlob
 mark b h = record h { condemned = b }

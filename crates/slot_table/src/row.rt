@@ -1,13 +1,14 @@
 //! A slot's row: its generation and its content.
 
-ghost use Rattle.std.specs.Prelude.{◌≡◌, ◌+◌, ◌<◌, ◌^◌};
+ghost use Rattle.std.specs.Prelude.{◌≡◌, ◌+◌, ◌<◌, ◌^◌, Some};
 ghost use Rattle.std.specs.Option.{option_map};
-ghost use Rattle.slot_table.specs.Slots.{blob_in, empty_slot, is_orphan, phase_in, links_in, fill, on_stored_blob, link_up, link_down, lend, mark, freed_slot, retire};
+ghost use Rattle.slot_table.specs.Slots.{blob_in, empty_slot, is_orphan, phase_in, links_in, fill, on_stored_blob, link_up, link_down, lend, mark, freed_slot, retire, digest_in, with_content};
 
 use crate::phase::Phase;
 use blob_digest::Blob;
 use std::alloc::Global;
 use std::marker::Model;
+use std::mem;
 use std::sync::Arc;
 
 /// A stored blob with its marks and its number of links.
@@ -151,6 +152,17 @@ impl Row {
     {
         if let Cell::Used(filled) = &mut self.cell {
             filled.condemned = condemned;
+        }
+    }
+
+    /// Replaces the slot's blob by another one with its digest, and returns the old one. Its marks and links are kept.
+    pub fn replace(&mut self, blob: Arc<Blob, Global>) -> Arc<Blob, Global>
+        requires { digest_in self.old.content ≡ Some blob.value.0 }
+        ensures { self.new ≡ on_stored_blob (with_content blob.value.1) self.old }
+    {
+        match &mut self.cell {
+            Cell::Used(filled) => mem::replace(&mut filled.blob, blob),
+            _ => blob,
         }
     }
 

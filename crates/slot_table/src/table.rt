@@ -1,13 +1,13 @@
 //! The slots of a store, with an index of their digests and a stack of the free ones.
 
-ghost use Rattle.std.specs.Prelude.{◌≡◌, ◌+◌, ◌<◌, ◌≤◌, ◌^◌, length, replicate, None, IfOk, IfErr, OnErr, true, false};
+ghost use Rattle.std.specs.Prelude.{◌≡◌, ◌+◌, ◌<◌, ◌≤◌, ◌^◌, length, replicate, None, Some, IfOk, IfErr, OnOk, OnErr, true, false};
 ghost use Rattle.std.specs.Option.{option_map};
 ghost use Rattle.std.specs.Vec.{vec_len, vec_capacity};
 ghost use Rattle.std.specs.BTreeMap as tree;
 ghost use Rattle.blob_digest.specs.Outcomes.{Answers};
 ghost use Rattle.blob_digest.specs.declared.refusal.Refusal.TheVariants.{Memory, StoreFull};
 ghost use Rattle.slot_table.specs.Indexes.{HasEachOnce, ForgetsDigest};
-ghost use Rattle.slot_table.specs.Slots.{slot_of, blob_at, phase_at, links_at, generation_at, free_slots, empty_slot, orphan_from, initial_slots, with_slot, fill, on_stored_blob, link_up, link_down, lend, mark, freed_slot, retire, IsDistinct, IsUnlinked, RefusesFull};
+ghost use Rattle.slot_table.specs.Slots.{slot_of, blob_at, phase_at, links_at, generation_at, free_slots, empty_slot, orphan_from, initial_slots, with_slot, fill, on_stored_blob, link_up, link_down, lend, mark, freed_slot, retire, IsDistinct, IsUnlinked, RefusesFull, with_content};
 ghost use Rattle.slot_table.specs.declared.phase.Phase.TheVariants as phase;
 
 use crate::phase::Phase;
@@ -262,6 +262,26 @@ impl SlotTable {
         ensures { self.new ≡ with_slot self.old slot (on_stored_blob lend) }
     {
         self.rows[slot as usize].lend();
+    }
+
+    /// Replaces the content of a blob by that of another blob with its digest, and returns the old one.
+    ///
+    /// Leases that share the old one keep it.
+    ///
+    /// # Errors
+    ///
+    /// The blob, and nothing changes: out of memory.
+    pub fn replace(&mut self, slot: u32, blob: Blob) -> Result<Arc<Blob, Global>, Blob>
+        requires there { slot_of self.old blob.0 ≡ Some slot }
+        ensures ok { OnOk result
+            (self.new ≡ with_slot self.old slot (on_stored_blob (with_content blob.1))) }
+        ensures back { IfErr result (λ b. b ≡ blob) }
+        ensures err { OnErr result (self.new ≡ self.old) }
+    {
+        match Arc::new(self.alloc, blob) {
+            Ok(blob) => Ok(self.rows[slot as usize].replace(blob)),
+            Err(failed) => Err(failed.value),
+        }
     }
 
     /// Condemns a live blob without links.

@@ -1,5 +1,5 @@
 //! Pieces of blobs.
-ghost use Rattle.std.specs.Prelude.{◌≡◌, ◌^◌, ◌<◌, ◌≤◌};
+ghost use Rattle.std.specs.Prelude.{◌≡◌, ◌^◌, ◌<◌, ◌≤◌, IfSome};
 ghost use Rattle.std.specs.Arc.{arc_value};
 ghost use Rattle.store_api.specs.LeaseViews.{bytes_between};
 
@@ -37,7 +37,7 @@ impl Piece {
         requires small { end < 2 ^ 63 }
         ensures { result ≡ bytes_between (arc_value blob).1 start end }
     {
-        let len = blob.bytes().len() as u64;
+        let len = blob.len();
         let first = start.min(len);
         let last = (end + 1).min(len);
         Piece {
@@ -47,13 +47,14 @@ impl Piece {
         }
     }
 
-    /// Returns the bytes.
+    /// Returns the bytes, if they are in memory.
     ///
     /// # Memory
     /// Allocates nothing.
-    pub fn bytes(&self) -> &[u8]
-        ensures { result.now ≡ self.now }
+    pub fn bytes(&self) -> Option<&[u8]>
+        ensures { IfSome result (λ b. b.now ≡ self.now) }
     {
-        &self.blob.bytes()[self.start..self.end]
+        let bytes = self.blob.bytes()?;
+        Some(&bytes[self.start..self.end])
     }
 }

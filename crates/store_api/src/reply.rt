@@ -83,9 +83,10 @@ impl fmt::Display for Reply {
             }
             Reply::Leased(size) => write!(f, "leased {size}"),
             Reply::Bytes(piece) => {
-                let digits = HexDigits {
-                    bytes: piece.bytes(),
+                let Some(bytes) = piece.bytes() else {
+                    return Err(fmt::Error);
                 };
+                let digits = HexDigits { bytes };
                 write!(f, "bytes {digits}")
             }
             Reply::Shared => f.write_str("shared"),
@@ -117,7 +118,7 @@ impl Reply {
     /// Appends the text of the reply to `out`, without a line feed.
     ///
     /// # Errors
-    /// - `Memory` if allocation fails. The text is unchanged then.
+    /// - `Memory` if allocation fails, or if the bytes of a piece are not in memory. The text is unchanged then.
     ///
     /// # Cost
     /// Linear in the length of the reply's text, which has two digits for each byte of a manifest or of a piece. It

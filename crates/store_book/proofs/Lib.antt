@@ -1,3 +1,4 @@
 pub mod Layers
 pub mod Refine
+pub mod Sending
 pub mod Slots

@@ -3,6 +3,7 @@ pub mod Abandon
 pub mod Delete
 pub mod Events
 pub mod Finish
+pub mod Found
 pub mod Lease
 pub mod Look
 pub mod Manifests

@@ -5,7 +5,7 @@ use Rattle.store_book.specs.declared.book.Book.TheInside.{Inside}
 
 -- the layers of a book
 abbrev pub layers : Inside → Layers
-layers b = record { links = b.links; uploads = b.uploads; slots = b.slots.slots; max_blob = b.max_blob }
+layers b = record { links = b.links; uploads = b.uploads; slots = b.slots.slots; contents = record { max_blob = b.max_blob; on_disk = b.on_disk } }
 
 -- the state of a book
 abbrev pub state : Inside → BookState

@@ -9,7 +9,7 @@ use Rattle.upload_table.specs.Uploaded.{Uploaded}
 use Rattle.store_book.specs.BookState.{BookState}
 use Rattle.store_book.specs.Pinned.{Pinned, slot_views_of}
 use Rattle.spec_lib.specs.Texts.{Text, text_cmp}
-use Rattle.store_model.specs.Catalog.{Link, Resident, Catalog, link_cmp, session_charges_of, link_count, used_bytes}
+use Rattle.store_model.specs.Catalog.{Link, Resident, Catalog, link_cmp, session_charges_of, link_count, used_bytes, ContentRules}
 use Rattle.store_model.specs.Invariant.{Sound}
 
 -- the set of links, without their sizes
@@ -44,19 +44,19 @@ is_lent s = option_map_or (λ h. h.lent) (stored_blob_in s.content) false
 abbrev pub lent_marks : List Slot → List Bool
 lent_marks slots = map is_lent slots
 
--- The layers of a book as their contracts show them, with the largest size of a blob.
+-- The layers of a book as their contracts show them, with the rules of contents.
 pub record Layers : Type 0 where
   pub links : Linked
   pub uploads : Uploaded
   pub slots : List Slot
-  pub max_blob : ℕ
+  pub contents : ContentRules
 
 -- the catalog of these layers with these ever-leased marks
 abbrev pub catalog_from : Layers → List Bool → Catalog
 catalog_from L lent = record {
   tenants = L.links.tenants;
   slots = length L.slots;
-  max_blob = L.max_blob;
+  contents = L.contents;
   repos = L.links.repos;
   links = links_of L.links.links;
   manifests = L.links.manifests;

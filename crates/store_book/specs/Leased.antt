@@ -1,5 +1,5 @@
 -- Leases as contracts see them.
-use Rattle.std.specs.Prelude.{◌≡◌, ◌⊎◌, []}
+use Rattle.std.specs.Prelude.{◌≡◌, ◌-◌, ◌⊎◌, ◌++◌, ℕ, List, [], drop, length, min, take}
 use Rattle.atomic_table.specs.Seated.{TableId}
 use Rattle.blob_digest.specs.declared.refusal.Refusal.{Refusal}
 use Rattle.blob_digest.specs.declared.refusal.Refusal.TheVariants.{Memory, WeightSpent}
@@ -28,6 +28,11 @@ IsBlobOf l blob = (blob_bytes blob ≡ l.bytes) × (blob_digest blob ≡ l.hold.
 -- sharing the lease is out of memory, or the lease weighs 1
 abbrev pub RefusesShare : Refusal → LeaseValue → Type 0
 RefusesShare e l = (e ≡ Memory) ⊎ ((e ≡ WeightSpent) × (l.hold.weight ≡ 1))
+
+-- n bytes from an offset on, as many as there are and fit, are at the begin of a buffer, whose rest is unchanged
+pub record ReadsAt (bytes : Text) (offset : ℕ) (old new : List ℕ) (n : ℕ) : Type 0 where
+  pub count : n ≡ min (length old) (length bytes - offset)
+  pub copied : new ≡ take n (drop offset bytes) ++ drop n old
 
 -- the table of no pin
 abbrev pub no_table : TableId

@@ -7,7 +7,7 @@ pub use Rattle.link_table.specs.Tenancy.{HasNames, IsWithinLimits, max_quota, ma
 use Rattle.slot_table.specs.declared.phase.Phase.TheVariants as phase
 use Rattle.store_book.specs.BookState.{BookState}
 use Rattle.store_book.specs.declared.config.Config.{Config}
-use Rattle.store_model.specs.Catalog.{Tenant, Catalog, opening}
+use Rattle.store_model.specs.Catalog.{Tenant, Catalog, opening, ContentRules}
 use Rattle.spec_lib.specs.Texts.{text_cmp}
 
 -- 1 to 65,536 slots, and blobs of at most 2^40 bytes
@@ -17,17 +17,17 @@ pub record IsSized (slots max_blob : ℕ) : Type 0 where
   pub blobs : max_blob ≤ 2 ^ 40
 
 -- the catalog has the given tenants in the order of their names, and nothing else
-pub record OpensCatalog (given : List Tenant) (slots max_blob : ℕ) (C : Catalog) : Type 0 where
+pub record OpensCatalog (given : List Tenant) (slots : ℕ) (contents : ContentRules) (C : Catalog) : Type 0 where
   pub same : IsPermutation given C.tenants
   pub rising : IsStrictlySortedBy text_cmp (map (λ t. t.name) C.tenants)
-  pub empty : C ≡ opening C.tenants slots max_blob
+  pub empty : C ≡ opening C.tenants slots contents
 
 -- the configuration is valid, the catalog is the opening one, and each slot is free in its first generation
-pub record OpensBook (given : List Tenant) (count max_blob first : ℕ) (book : BookState) : Type 0 where
+pub record OpensBook (given : List Tenant) (count : ℕ) (contents : ContentRules) (first : ℕ) (book : BookState) : Type 0 where
   pub names : HasNames given
   pub limits : IsWithinLimits given
-  pub sized : IsSized count max_blob
-  pub catalog : OpensCatalog given count max_blob book.catalog
+  pub sized : IsSized count contents.max_blob
+  pub catalog : OpensCatalog given count contents book.catalog
   pub slots : book.slots ≡ replicate count (record { generation = first; phase = phase.Free; digest = None; bound = 0; looks = 0 })
 
 -- the error fits this configuration: a fault in the names first, then in the limits, and out of memory at any time
@@ -37,9 +37,13 @@ RefusesBook LimitReached given slots max_blob = HasNames given × (¬ (IsWithinL
 RefusesBook Memory given slots max_blob = Unit {0}
 RefusesBook _ given slots max_blob = ⊥
 
+-- how a store with this configuration keeps contents
+abbrev pub rules_of : Config → ContentRules
+rules_of config = record { max_blob = config.max_blob; on_disk = config.on_disk }
+
 -- the book is that of a new store with this configuration
 abbrev pub OpensFrom : Config → BookState → Type 0
-OpensFrom config book = OpensBook (tenants_shown config.tenants.items) config.slots config.max_blob config.first_generation book
+OpensFrom config book = OpensBook (tenants_shown config.tenants.items) config.slots (rules_of config) config.first_generation book
 
 -- this error may be returned for this configuration
 abbrev pub RefusesConfig : Refusal → Config → Type 0

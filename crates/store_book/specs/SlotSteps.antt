@@ -1,7 +1,6 @@
 -- The effects of commands and sweeps on the slots. Those on the catalog are in `Commands`.
 use Rattle.std.specs.Prelude.{◌≡◌, ◌<◌, ◌≤◌, ◌+◌, ◌^◌, ◌⊎◌, ℕ, Bool, true, Some, None, Result, List, length, slice_get}
 use Rattle.std.specs.FinMap as fmap
-use Rattle.blob_digest.specs.Digests.{is_digest_of}
 use Rattle.spec_lib.specs.Texts.{Text}
 use Rattle.blob_digest.specs.declared.refusal.Refusal.{Refusal}
 use Rattle.blob_digest.specs.Outcomes.{Does}
@@ -13,7 +12,7 @@ use Rattle.slot_table.specs.declared.phase.Phase.{Phase}
 use Rattle.slot_table.specs.declared.phase.Phase.TheVariants as phase
 use Rattle.store_book.specs.BookState.{BookState, SlotView}
 use Rattle.store_model.specs.Catalog.{Catalog, Resident}
-use Rattle.store_model.specs.Commands.{lease}
+use Rattle.store_model.specs.Commands.{lease, is_named}
 
 -- each slot is related to the one before
 abbrev pub EachSlot : (SlotView → SlotView → Type 0) → List SlotView → List SlotView → Type 0
@@ -85,7 +84,7 @@ pub record HasPin (h : PinRecord) (book : BookState) : Type 0 where
   pub digest : slot.digest ≡ Some h.digest
   pub blob : Resident
   pub resident : fmap.get book.catalog.residents h.digest ≡ Some blob
-  pub content : is_digest_of h.digest blob.bytes ≡ true
+  pub content : is_named book.catalog.contents h.digest blob.bytes ≡ true
 
 -- the sweep left the slot unchanged, condemned its live blob, freed it in the next generation, or retired it in the last one
 pub data SweepsSlot (a b : SlotView) : Type 0 where

@@ -17,6 +17,7 @@ use crate::pinned_slots::PinnedSlots;
 use crate::print::print_book;
 use crate::sweep::sweep_slots;
 use blob_digest::{Blob, ByteRange, Digest, Refusal, RepoName};
+use content_files::NoFiles;
 use link_table::Links;
 use pin_table::{Pin, Pins};
 use std::alloc::Global;
@@ -37,6 +38,7 @@ pub struct Book {
     pub(crate) uploads: Uploads,
     pub(crate) slots: PinnedSlots,
     pub(crate) max_blob: u64,
+    pub(crate) on_disk: bool,
 }
 
 impl Model for Book {
@@ -82,6 +84,7 @@ impl Book {
             uploads,
             slots,
             max_blob: config.max_blob,
+            on_disk: config.on_disk,
         };
         Ok((book, pins))
     }
@@ -162,9 +165,9 @@ impl Book {
         ensures slots { KeepsSlots self.old self.new }
     {
         let hand = self.take(repo, number, range, bytes.len() as u64)?;
-        match hand.fill(bytes) {
+        match hand.fill(&NoFiles, bytes) {
             Ok(hand) => self.put_back(hand),
-            Err(hand) => {
+            Err((_, hand)) => {
                 let _ = self.put_back(hand);
                 Err(Refusal::Memory)
             }
@@ -203,9 +206,9 @@ impl Book {
         ensures kept { OnErr result (self.new.slots ≡ self.old.slots) }
     {
         let hand = self.take(repo, number, range, bytes.len() as u64)?;
-        match hand.fill_last(bytes, digest.algorithm()) {
+        match hand.fill_last(&NoFiles, bytes, digest.algorithm()) {
             Ok(hand) => self.finish(pins, hand, digest),
-            Err(hand) => {
+            Err((_, hand)) => {
                 let _ = self.put_back(hand);
                 Err(Refusal::Memory)
             }

@@ -14,6 +14,9 @@ pub struct Config {
     /// The tenants: 1 to 256 in any order, no name twice, with quotas of at most 2^50 bytes and limits of at most
     /// `GREATEST_LIMITS`.
     pub tenants: Vec<TenantSettings>,
+    /// Whether contents may lie in files. If so, a content that is stored again is compared by its digest and its length
+    /// alone, and replaces the stored one.
+    pub on_disk: bool,
     /// The first generation of every slot.
     pub first_generation: u32,
 }

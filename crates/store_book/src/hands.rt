@@ -103,9 +103,17 @@ impl Book {
                 }
             },
         };
-        let size = blob.bytes().len() as u64;
+        let size = blob.len();
         let repo = self.uploads.repo_of(&sealed);
-        match keep(&mut self.links, &mut self.slots, pins, tenant, repo, blob) {
+        match keep(
+            &mut self.links,
+            &mut self.slots,
+            pins,
+            tenant,
+            repo,
+            blob,
+            self.on_disk,
+        ) {
             Ok(()) => {
                 self.uploads.forget(sealed);
                 self.links.discharge(tenant, size);

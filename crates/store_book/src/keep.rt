@@ -1,12 +1,13 @@
 //! Links blobs: changes the links and the slots together.
 
-ghost use Rattle.std.specs.Prelude.{◌≡◌, ◌≢◌, ◌<◌, length, true, false, Some, None, IfErr, OnOk, OnErr};
+ghost use Rattle.std.specs.Prelude.{◌≡◌, ◌≢◌, ◌<◌, length, true, false, Some, None, IfErr, IfSome, OnOk, OnErr};
 ghost use Rattle.blob_digest.specs.declared.refusal.Refusal.TheVariants.{Memory};
 ghost use Rattle.link_table.specs.Linked.{is_repo_of_tenant, passes_share};
 ghost use Rattle.slot_table.specs.Slots.{phase_at, slot_of};
 ghost use Rattle.slot_table.specs.declared.phase.Phase.TheVariants as phase;
+ghost use Rattle.store_model.specs.Commands.{fits_content};
 ghost use Rattle.store_book.specs.Pinned.{KeepsView, KeepsGenerations};
-ghost use Rattle.store_book.specs.Internal.Storing.{bytes_at, holds_bytes_at, linked_slot, CanStore, CanLinkSlot, IsExplained, LinksSlot, StoresBlob};
+ghost use Rattle.store_book.specs.Internal.Storing.{bytes_at, linked_slot, CanStore, CanLinkSlot, IsExplained, LinksSlot, StoresBlob};
 
 use crate::pinned_slots::PinnedSlots;
 use blob_digest::{Blob, Digest, Refusal, RepoName};
@@ -14,15 +15,19 @@ use link_table::Links;
 use pin_table::Pins;
 use slot_table::SlotTable;
 
-/// Returns whether a slot holds these bytes.
-fn holds(slots: &SlotTable, slot: u32, bytes: &[u8]) -> bool
+/// Returns whether a blob fits the content of a slot: they are the same or, if contents lie on disk, as long. Returns `None` if
+/// they have to be compared and either is not in memory.
+fn fits(slots: &SlotTable, slot: u32, other: &Blob, on_disk: bool) -> Option<bool>
     requires { slot < length slots.now }
-    ensures { result ≡ holds_bytes_at slots.now slot bytes.now }
+    ensures { IfSome result (λ f. f ≡ fits_content on_disk (bytes_at slots.now slot) other.now.1) }
 {
-    match slots.blob(slot) {
-        Some(blob) => blob.bytes() == bytes,
-        None => false,
+    let blob = slots.blob(slot)?;
+    if on_disk {
+        return Some(blob.len() == other.len());
     }
+    let stored = blob.bytes()?;
+    let bytes = other.bytes()?;
+    Some(stored == bytes)
 }
 
 /// Returns how many bytes a slot holds.
@@ -31,7 +36,7 @@ pub(crate) fn held_len(slots: &SlotTable, slot: u32) -> u64
     ensures { result ≡ length (bytes_at slots.now slot) }
 {
     match slots.blob(slot) {
-        Some(blob) => blob.bytes().len() as u64,
+        Some(blob) => blob.len(),
         None => 0,
     }
 }
@@ -82,14 +87,14 @@ pub(crate) fn link_slot(
     Ok(())
 }
 
-/// Links a blob whose digest has a slot, and makes the slot live.
+/// Links a blob whose digest has a slot, makes the slot live, and replaces its content by that of the blob.
 ///
 /// Any error returns the blob and changes nothing.
 ///
 /// # Errors
-/// - `DigestInvalid` if the slot holds other bytes.
+/// - `DigestInvalid` if the slot has another content.
 /// - `LimitReached` if the digest is new to the tenant, and its share does not admit it.
-/// - `Memory` if out of memory.
+/// - `Memory` if out of memory, or if the contents have to be compared and either is not in memory.
 fn store_existing(
     links: &mut Links,
     slots: &mut PinnedSlots,
@@ -98,34 +103,44 @@ fn store_existing(
     repo: &RepoName,
     slot: u32,
     blob: Blob,
+    on_disk: bool,
 ) -> Result<(), (Refusal, Blob)>
     requires table { slots.old.table ≡ pins.now }
     requires can { CanStore links.old slots.old.slots tenant repo.now blob }
     requires there { slot_of slots.old.slots blob.0 ≡ Some slot }
-    ensures ok { OnOk result (StoresBlob links.old slots.old repo.now blob links.new slots.new) }
+    ensures ok { OnOk result (StoresBlob on_disk links.old slots.old repo.now blob links.new slots.new) }
     ensures share { OnOk result (passes_share links.old tenant blob.0 ≡ false) }
     ensures back { IfErr result (λ e. e.1 ≡ blob) }
-    ensures refused { IfErr result (λ e. IsExplained links.old slots.old tenant blob e.0) }
+    ensures refused { IfErr result (λ e. IsExplained on_disk links.old slots.old tenant blob e.0) }
     ensures err { OnErr result ((links.new ≡ links.old) × (slots.new ≡ slots.old)) }
     ensures quiet { KeepsGenerations slots.old slots.new }
 {
-    if !holds(slots.table(), slot, blob.bytes()) {
+    let Some(is_fitting) = fits(slots.table(), slot, &blob, on_disk) else {
+        return Err((Refusal::Memory, blob));
+    };
+    if !is_fitting {
         return Err((Refusal::DigestInvalid, blob));
     }
-    if links.passes_share(tenant, &blob.digest()) {
+    let size = blob.len();
+    let key = blob.digest();
+    if links.passes_share(tenant, &key) {
         return Err((Refusal::LimitReached, blob));
     }
-    let size = blob.bytes().len() as u64;
-    match links.link(tenant, repo, &blob.digest(), size) {
-        Ok(is_new) => {
-            slots.revive(pins, slot);
-            if is_new {
-                slots.link_up(slot);
-            }
-            Ok(())
+    let is_new = match links.link(tenant, repo, &key, size) {
+        Ok(is_new) => is_new,
+        Err(refusal) => return Err((refusal, blob)),
+    };
+    if let Err(blob) = slots.replace(slot, blob) {
+        if is_new {
+            links.unlink(tenant, repo, &key);
         }
-        Err(refusal) => Err((refusal, blob)),
+        return Err((Refusal::Memory, blob));
     }
+    slots.revive(pins, slot);
+    if is_new {
+        slots.link_up(slot);
+    }
+    Ok(())
 }
 
 /// Links a blob whose digest has no slot, and puts it into a free one.
@@ -143,14 +158,15 @@ fn store_new(
     tenant: u16,
     repo: &RepoName,
     blob: Blob,
+    on_disk: bool,
 ) -> Result<(), (Refusal, Blob)>
     requires table { slots.old.table ≡ pins.now }
     requires can { CanStore links.old slots.old.slots tenant repo.now blob }
     requires absent { slot_of slots.old.slots blob.0 ≡ None }
-    ensures ok { OnOk result (StoresBlob links.old slots.old repo.now blob links.new slots.new) }
+    ensures ok { OnOk result (StoresBlob on_disk links.old slots.old repo.now blob links.new slots.new) }
     ensures share { OnOk result (passes_share links.old tenant blob.0 ≡ false) }
     ensures back { IfErr result (λ e. e.1 ≡ blob) }
-    ensures refused { IfErr result (λ e. IsExplained links.old slots.old tenant blob e.0) }
+    ensures refused { IfErr result (λ e. IsExplained on_disk links.old slots.old tenant blob e.0) }
     ensures err { OnErr result ((links.new ≡ links.old) × (slots.new ≡ slots.old)) }
     ensures quiet { KeepsGenerations slots.old slots.new }
 {
@@ -161,7 +177,7 @@ fn store_new(
     if slots.table().free_count() == 0 {
         return Err((Refusal::StoreFull, blob));
     }
-    let size = blob.bytes().len() as u64;
+    let size = blob.len();
     if let Err(refusal) = links.link(tenant, repo, &digest, size) {
         return Err((refusal, blob));
     }
@@ -177,12 +193,13 @@ fn store_new(
     }
 }
 
-/// Links a sealed blob in a repository, and stores it if its digest has no slot.
+/// Links a sealed blob in a repository, and stores it: in the slot of its digest, in place of the content there, or in a
+/// free one.
 ///
 /// Any error returns the blob and changes nothing.
 ///
 /// # Errors
-/// - `DigestInvalid` if the store has other bytes with this digest.
+/// - `DigestInvalid` if the store has another content with this digest.
 /// - `LimitReached` if the digest is new to the tenant, and its share does not admit it.
 /// - `StoreFull` if the digest has no slot and none is free.
 /// - `Memory` if out of memory.
@@ -193,18 +210,19 @@ pub(crate) fn keep(
     tenant: u16,
     repo: &RepoName,
     blob: Blob,
+    on_disk: bool,
 ) -> Result<(), (Refusal, Blob)>
     requires table { slots.old.table ≡ pins.now }
     requires can { CanStore links.old slots.old.slots tenant repo.now blob }
-    ensures ok { OnOk result (StoresBlob links.old slots.old repo.now blob links.new slots.new) }
+    ensures ok { OnOk result (StoresBlob on_disk links.old slots.old repo.now blob links.new slots.new) }
     ensures share { OnOk result (passes_share links.old tenant blob.0 ≡ false) }
     ensures back { IfErr result (λ e. e.1 ≡ blob) }
-    ensures refused { IfErr result (λ e. IsExplained links.old slots.old tenant blob e.0) }
+    ensures refused { IfErr result (λ e. IsExplained on_disk links.old slots.old tenant blob e.0) }
     ensures err { OnErr result ((links.new ≡ links.old) × (slots.new ≡ slots.old)) }
     ensures quiet { KeepsGenerations slots.old slots.new }
 {
     match slots.table().find(&blob.digest()) {
-        Some(slot) => store_existing(links, slots, pins, tenant, repo, slot, blob),
-        None => store_new(links, slots, pins, tenant, repo, blob),
+        Some(slot) => store_existing(links, slots, pins, tenant, repo, slot, blob, on_disk),
+        None => store_new(links, slots, pins, tenant, repo, blob, on_disk),
     }
 }

@@ -1,10 +1,10 @@
 //! Leases: a reader's hold on a blob.
 
-ghost use Rattle.std.specs.Prelude.{◌≡◌, ◌≢◌, ◌-◌, ◌++◌, IfOk, IfErr, OnOk, true, length, take, drop, min};
+ghost use Rattle.std.specs.Prelude.{◌≡◌, ◌≢◌, IfNone, IfOk, IfErr, IfSome, OnOk, true, length};
 ghost use Rattle.std.specs.Arc.{arc_value};
 ghost use Rattle.atomic_table.specs.Seated.{TableId};
-ghost use Rattle.blob_digest.specs.Digests.{is_digest_of};
-ghost use Rattle.store_book.specs.Leased.{no_table, AreHalves, IsBlobOf, RefusesShare};
+ghost use Rattle.blob_digest.specs.Vouched.{has_digest};
+ghost use Rattle.store_book.specs.Leased.{no_table, AreHalves, IsBlobOf, ReadsAt, RefusesShare};
 ghost use Rattle.store_book.specs.Pinned.{blob_bytes, blob_digest};
 
 use blob_digest::{Blob, Digest, Refusal};
@@ -85,9 +85,9 @@ impl<'p, N: PinsName> Lease<'p, N> {
         &self.blob
     }
 
-    /// Returns the blob's bytes in place. None is copied.
-    pub fn bytes(&self) -> &[u8]
-        ensures { result.now ≡ self.now.bytes }
+    /// Returns the blob's bytes in place, if they are in memory.
+    pub fn bytes(&self) -> Option<&[u8]>
+        ensures { IfSome result (λ b. b.now ≡ self.now.bytes) }
     {
         self.blob.bytes()
     }
@@ -96,13 +96,13 @@ impl<'p, N: PinsName> Lease<'p, N> {
     pub fn len(&self) -> u64
         ensures { result ≡ length self.now.bytes }
     {
-        self.blob.bytes().len() as u64
+        self.blob.len()
     }
 
     /// Returns the blob's digest.
     pub fn digest(&self) -> Digest
         ensures value { result ≡ self.now.hold.digest }
-        ensures agrees { is_digest_of self.now.hold.digest self.now.bytes ≡ true }
+        ensures agrees { has_digest self.now.hold.digest self.now.bytes ≡ true }
     {
         self.blob.digest()
     }
@@ -128,8 +128,8 @@ impl<'p, N: PinsName> Lease<'p, N> {
         self.pin.weight()
     }
 
-    /// Copies the blob's bytes from `offset` on into `out`, and returns how many: at most the bytes that are there
-    /// and that fit.
+    /// Copies the blob's bytes from `offset` on into `out`, and returns how many: at most the bytes that are there and that
+    /// fit. Returns `None` if the bytes are not in memory.
     ///
     /// The result is 0 at the blob's end and after it. The rest of `out` is unchanged.
     ///
@@ -138,18 +138,18 @@ impl<'p, N: PinsName> Lease<'p, N> {
     ///
     /// # Memory
     /// None is allocated.
-    pub fn read_at(&self, offset: u64, out: &mut [u8]) -> usize
-        ensures count { result ≡ min (length out.old) (length self.now.bytes - offset) }
-        ensures bytes { out.new ≡ take result (drop offset self.now.bytes) ++ drop result out.old }
+    pub fn read_at(&self, offset: u64, out: &mut [u8]) -> Option<usize>
+        ensures bytes { IfSome result (λ n. ReadsAt self.now.bytes offset out.old out.new n) }
+        ensures none { IfNone result (out.new ≡ out.old) }
     {
-        let bytes = self.blob.bytes();
+        let bytes = self.blob.bytes()?;
         if offset >= bytes.len() as u64 {
-            return 0;
+            return Some(0);
         }
         let rest = &bytes[offset as usize..];
         let count = rest.len().min(out.len());
         out[..count].copy_from_slice(&rest[..count]);
-        count
+        Some(count)
     }
 
     /// Splits the lease into two of half the weight. No byte is copied.

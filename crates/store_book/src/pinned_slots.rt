@@ -1,9 +1,9 @@
 //! The slots of a store with the keeper of their words.
 
-ghost use Rattle.std.specs.Prelude.{◌≡◌, ◌≢◌, ◌+◌, ◌<◌, ◌^◌, length, None, Some, IfOk, IfErr, OnErr, IsTrue, ◌↔◌, true, false};
+ghost use Rattle.std.specs.Prelude.{◌≡◌, ◌≢◌, ◌+◌, ◌<◌, ◌^◌, length, None, Some, IfOk, IfErr, OnErr, OnOk, IsTrue, ◌↔◌, true, false};
 ghost use Rattle.std.specs.Arc.{arc_value};
 ghost use Rattle.blob_digest.specs.declared.refusal.Refusal.TheVariants.{Memory};
-ghost use Rattle.slot_table.specs.Slots.{phase_at, links_at, slot_of, fill, on_stored_blob, link_up, link_down, mark};
+ghost use Rattle.slot_table.specs.Slots.{phase_at, links_at, slot_of, fill, on_stored_blob, link_up, link_down, mark, with_content};
 ghost use Rattle.slot_table.specs.declared.phase.Phase.TheVariants as phase;
 ghost use Rattle.store_book.specs.Pinned.{blob_at, is_orphan_at, with_changed_slot, with_slot_and_bound, HasOneEach, LendsOn, ReadsSlotWord, OpensSlots, ReclaimsSlot, RefusesForSlots, RefusesSlots, UnheldIfNeverLent, VerifiesPin};
 
@@ -91,6 +91,23 @@ impl PinnedSlots {
         let slot = self.slots.place(blob)?;
         pins.give(&mut self.keeper, slot, digest);
         Ok(slot)
+    }
+
+    /// Replaces the content of a blob by that of another blob with its digest. Leases of the old one keep it.
+    ///
+    /// # Errors
+    /// The blob, and nothing changes: out of memory.
+    pub fn replace(&mut self, slot: u32, blob: Blob) -> Result<(), Blob>
+        requires there { slot_of self.old.slots blob.0 ≡ Some slot }
+        ensures ok { OnOk result
+            (self.new ≡ with_changed_slot slot (on_stored_blob (with_content blob.1)) self.old) }
+        ensures back { IfErr result (λ b. b ≡ blob) }
+        ensures err { OnErr result (self.new ≡ self.old) }
+    {
+        match self.slots.replace(slot, blob) {
+            Ok(_) => Ok(()),
+            Err(blob) => Err(blob),
+        }
     }
 
     /// Counts one more link of a live blob.

@@ -5,6 +5,7 @@ pub mod AppendClose
 pub mod ByHand
 pub mod Delete
 pub mod Finish
+pub mod Fits
 pub mod Hands
 pub mod Lease
 pub mod Manifests

@@ -1,5 +1,5 @@
 -- The catalog: the abstract state of a store, and its counts. Names and digests are texts; a tenant is its position in the order of names.
-use Rattle.std.specs.Prelude.{ℕ, ◌+◌, ◌&&◌, Bool, List, length, filter, map, sum_by, count_by, slice_get, slice_index, if◌then◌else◌}
+use Rattle.std.specs.Prelude.{ℕ, ◌+◌, ◌&&◌, Bool, false, List, length, filter, map, sum_by, count_by, slice_get, slice_index, if◌then◌else◌}
 use Rattle.std.specs.Option.{option_map_or}
 use Rattle.std.proofs.Common.{refl}
 use Rattle.std.specs.List.{list_any}
@@ -20,14 +20,21 @@ pub record Resident : Type 0 where
   pub condemned : Bool
   pub lent : Bool
 
+-- how a store keeps contents
+pub record ContentRules : Type 0 where
+  -- the maximum length of a blob in bytes
+  pub max_blob : ℕ
+  -- whether they lie on disk, where they are not compared byte by byte
+  pub on_disk : Bool
+
 -- The abstract state of a store.
 pub record Catalog : Type 0 where
   -- the tenants, in the order of their names
   pub tenants : List Tenant
   -- the number of slots
   pub slots : ℕ
-  -- the maximum length of a blob in bytes
-  pub max_blob : ℕ
+  -- how contents are kept
+  pub contents : ContentRules
   -- the repositories
   pub repos : set.Set text_cmp
   -- the links: pairs of a repository and a digest that it contains
@@ -115,12 +122,16 @@ manifests_of C repo = count_by (λ e. same_text e.0.0 repo) (fmap.entries C.mani
 abbrev pub next_number_of : Catalog → ℕ → ℕ
 next_number_of C t = slice_index C.next t
 
+-- contents lie in memory, and a blob has at most this many bytes
+abbrev pub in_memory : ℕ → ContentRules
+in_memory max_blob = record { max_blob = max_blob; on_disk = false }
+
 -- the catalog of a new store
-abbrev pub opening : List Tenant → ℕ → ℕ → Catalog
-opening tenants slots max_blob = record {
+abbrev pub opening : List Tenant → ℕ → ContentRules → Catalog
+opening tenants slots contents = record {
   tenants = tenants;
   slots = slots;
-  max_blob = max_blob;
+  contents = contents;
   repos = set.empty_set;
   links = set.empty_set;
   manifests = fmap.empty;
@@ -136,20 +147,24 @@ opening tenants slots max_blob = record {
 abbrev pub coded_resident : Coded Resident
 coded_resident = code_by (Text × (Bool × Bool)) (coded× coded_text (coded× coded_bool coded_bool)) (λ b. (b.bytes, (b.condemned, b.lent))) (λ p. record { bytes = p.0; condemned = p.1.0; lent = p.1.1 }) (λ _. refl)
 
+-- the encoding of the rules of contents
+abbrev pub coded_rules : Coded ContentRules
+coded_rules = code_by (ℕ × Bool) (coded× coded_ℕ coded_bool) (λ r. (r.max_blob, r.on_disk)) (λ p. record { max_blob = p.0; on_disk = p.1 }) (λ _. refl)
+
 -- the fields of a catalog as nested pairs
 abbrev pub CatalogFields : Type 0
-CatalogFields = (List Tenant × (ℕ × ℕ)) × ((set.Set text_cmp × (set.Set link_cmp × fmap.FinMap link_cmp Text)) × ((fmap.FinMap session_number_cmp Session × List ℕ) × (fmap.FinMap text_cmp Resident × ℕ)))
+CatalogFields = (List Tenant × (ℕ × ContentRules)) × ((set.Set text_cmp × (set.Set link_cmp × fmap.FinMap link_cmp Text)) × ((fmap.FinMap session_number_cmp Session × List ℕ) × (fmap.FinMap text_cmp Resident × ℕ)))
 
 -- the nested pairs of a catalog
 abbrev pub catalog_fields_of : Catalog → CatalogFields
-catalog_fields_of C = ((C.tenants, (C.slots, C.max_blob)), ((C.repos, (C.links, C.manifests)), ((C.sessions, C.next), (C.residents, C.retired))))
+catalog_fields_of C = ((C.tenants, (C.slots, C.contents)), ((C.repos, (C.links, C.manifests)), ((C.sessions, C.next), (C.residents, C.retired))))
 
 -- the catalog of nested pairs
 abbrev pub catalog_of_fields : CatalogFields → Catalog
 catalog_of_fields p = record {
   tenants = p.0.0;
   slots = p.0.1.0;
-  max_blob = p.0.1.1;
+  contents = p.0.1.1;
   repos = p.1.0.0;
   links = p.1.0.1.0;
   manifests = p.1.0.1.1;
@@ -163,7 +178,7 @@ catalog_of_fields p = record {
 abbrev pub coded_catalog : Coded Catalog
 coded_catalog =
     code_by CatalogFields
-    (coded× (coded× (coded_list coded_tenant) (coded× coded_ℕ coded_ℕ))
+    (coded× (coded× (coded_list coded_tenant) (coded× coded_ℕ coded_rules))
     (coded× (coded× (set.code coded_text) (coded× (set.code coded_link) (fmap.code coded_link coded_text)))
     (coded× (coded× (fmap.code (coded× coded_ℕ coded_ℕ) coded_session) (coded_list coded_ℕ)) (coded× (fmap.code coded_text coded_resident) coded_ℕ))))
     catalog_fields_of catalog_of_fields (λ _. refl)

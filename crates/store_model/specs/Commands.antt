@@ -1,6 +1,6 @@
 -- The outcome of each command: the first error that applies, in the order of the lines, or its result with the catalog after it.
 -- A command that allocates may fail with `Memory` instead, which changes nothing (`Runs`: `IsCase`).
-use Rattle.std.specs.Prelude.{ℕ, ◌+◌, ◌^◌, nat_le, nat_lt, ◌&&◌, ◌||◌, not, if◌then◌else◌, Bool, true, false, Option, Some, None, Result, Ok, Err, List, [], ◌∷◌, length, slice_set}
+use Rattle.std.specs.Prelude.{ℕ, ◌+◌, ◌^◌, ◌==◌, nat_le, nat_lt, ◌&&◌, ◌||◌, not, if◌then◌else◌, Bool, true, false, Option, Some, None, Result, Ok, Err, List, [], ◌∷◌, length, slice_set}
 use Rattle.std.specs.Option.{ok_or, option_map}
 use Rattle.std.specs.List.{find, list_any}
 use Rattle.std.specs.FinMap as fmap
@@ -9,13 +9,14 @@ use Rattle.blob_digest.specs.declared.range.ByteRange.{ByteRange}
 use Rattle.blob_digest.specs.declared.refusal.Refusal.{Refusal}
 use Rattle.blob_digest.specs.declared.refusal.Refusal.TheVariants.{NameUnknown, DigestInvalid, SizeInvalid, BlobUnknown, ManifestInvalid, ManifestUnknown, ManifestBlobUnknown, Quota, Referenced, StoreFull, TooManyReaders, LimitReached, RepoInUse}
 use Rattle.blob_digest.specs.Digests.{sha256_text, is_digest_of}
+use Rattle.blob_digest.specs.Vouched.{has_digest}
 pub use Rattle.blob_digest.specs.Outcomes.{OutcomeIn}
 pub use Rattle.spec_lib.specs.Outcomes.{◌>>=◌, refuse}
 use Rattle.oci_manifest.specs.Manifests.{refs_of, max_manifest}
 pub use Rattle.oci_manifest.specs.Manifests.{refers}
 pub use Rattle.store_model.specs.Sessions.{session_in, not_busy, length_after, chunk_length_check_in, after_append_in, content_in, hand_in, after_take_in, put_back_outcome_in, session_of_hand, hand_content, after_cancel_in}
 use Rattle.spec_lib.specs.Texts.{Text, same_text}
-use Rattle.store_model.specs.Catalog.{Catalog, Session, HandRecord, CheckedIn, Resident, tenant_of, is_repo_of, quota_of, share_of, limits_of, holds, tenant_holds, held_count, used_bytes, received_length, next_number_of, open_sessions, repos_of, manifests_of}
+use Rattle.store_model.specs.Catalog.{Catalog, Session, HandRecord, CheckedIn, Resident, tenant_of, is_repo_of, quota_of, share_of, limits_of, holds, tenant_holds, held_count, used_bytes, received_length, next_number_of, open_sessions, repos_of, manifests_of, ContentRules}
 use Rattle.store_model.specs.declared.mount.Mount.{Mount}
 use Rattle.store_model.specs.declared.mount.Mount.TheVariants as mounting
 
@@ -45,7 +46,7 @@ lacks_room_for C t repo = not (set.contains C.repos repo) && nat_le (limits_of C
 
 -- the length of a tenant's session after a chunk of n bytes, or the error
 abbrev pub chunk_length_check : Catalog → ℕ → Text → ℕ → Option ByteRange → ℕ → Result ℕ Refusal
-chunk_length_check C t repo number range n = chunk_length_check_in C.sessions C.max_blob (t, number) repo range n
+chunk_length_check C t repo number range n = chunk_length_check_in C.sessions C.contents.max_blob (t, number) repo range n
 
 -- the tenant may use n more bytes, or the error is `Quota`
 abbrev pub check_quota : Catalog → ℕ → ℕ → Result (Unit {0}) Refusal
@@ -88,14 +89,22 @@ append C repo number range bytes = do
   _ ← check_quota C t (length bytes)
   Ok (n, record C { sessions = after_append_in C.sessions (t, number) bytes })
 
--- whether a stored blob, if there is one, has these bytes
-abbrev pub has_same_bytes : Option Resident → Text → Bool
-has_same_bytes None bytes = true
-has_same_bytes (Some b) bytes = same_text b.bytes bytes
+-- whether a content has the digest; if contents lie on disk, as far as it was read since the start
+abbrev pub is_named : ContentRules → Text → Text → Bool
+is_named rules digest content = if rules.on_disk then has_digest digest content else is_digest_of digest content
 
--- whether a digest is that of these bytes and not stored with other bytes
+-- whether two contents are the same; if contents lie on disk, whether they are as long
+abbrev pub fits_content : Bool → Text → Text → Bool
+fits_content on_disk stored content = if on_disk then length stored == length content else same_text stored content
+
+-- whether a content fits the stored blob, if there is one
+abbrev pub fits_stored : ContentRules → Option Resident → Text → Bool
+fits_stored rules None content = true
+fits_stored rules (Some b) content = fits_content rules.on_disk b.bytes content
+
+-- whether a content has the digest and fits the blob that is stored under it
 abbrev pub is_digest_accepted : Catalog → Text → Text → Bool
-is_digest_accepted C digest bytes = is_digest_of digest bytes && has_same_bytes (fmap.get C.residents digest) bytes
+is_digest_accepted C digest content = is_named C.contents digest content && fits_stored C.contents (fmap.get C.residents digest) content
 
 -- whether a digest needs a new slot and none is free
 abbrev pub is_full_for : Catalog → Text → Bool

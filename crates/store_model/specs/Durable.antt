@@ -6,7 +6,7 @@ use Rattle.std.specs.List.{AllByRecursion}
 use Rattle.blob_digest.specs.Digests.{sha256_text}
 use Rattle.spec_lib.specs.Sets as set
 use Rattle.spec_lib.specs.Texts.{Text, text_cmp}
-use Rattle.store_model.specs.Catalog.{Catalog, CheckedIn, CheckedOutWith, Chunks, HandRecord, Link, Resident, Session, SessionNumber, Tenant, link_cmp, opening, session_number_cmp, tenant_of}
+use Rattle.store_model.specs.Catalog.{Catalog, CheckedIn, CheckedOutWith, Chunks, HandRecord, Link, Resident, Session, SessionNumber, Tenant, link_cmp, opening, session_number_cmp, tenant_of, ContentRules}
 use Rattle.store_model.specs.Histories.{AreSteps, CommandCall, FinishCall, LeadsTo, PutBackCall, State, Step, TakeCall}
 use Rattle.store_model.specs.Runs.{Abandon, Answer, Append, Close, Command, Delete, DeleteManifest, Event, Mount, Mounting, Number, PutManifest, RemoveRepo, Start}
 use Rattle.store_model.specs.Sessions.{Sessions, after_append_in, content_in}
@@ -252,8 +252,8 @@ LogsExtend = (taken : TakenChunks) (D : DurableState) (s : State) (steps : List 
 
 -- The changes of a legal history of a new store, applied to the initial durable state, agree with the catalog at the end.
 abbrev pub LogsAgree : Type 0
-LogsAgree = (tenants : List Tenant) (slots max_blob : ℕ) (steps : List Step) (s : State) →
-    LeadsTo (opening tenants slots max_blob) steps s → AreReturnedAsTaken fmap.empty steps →
+LogsAgree = (tenants : List Tenant) (slots : ℕ) (contents : ContentRules) (steps : List Step) (s : State) →
+    LeadsTo (opening tenants slots contents) steps s → AreReturnedAsTaken fmap.empty steps →
     AgreesAfter fmap.empty (initial_durable tenants) steps s.catalog
 
 -- The kept changes are those of some first steps, and the durable state after them agrees with the catalog after these steps.

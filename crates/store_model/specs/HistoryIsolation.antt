@@ -6,7 +6,7 @@ use Rattle.blob_digest.specs.declared.refusal.Refusal.{Refusal}
 use Rattle.blob_digest.specs.declared.refusal.Refusal.TheVariants.{Memory, StoreFull, TooManyReaders}
 use Rattle.spec_lib.specs.Texts.{Text}
 use Rattle.store_model.specs.BookText.{book_text}
-use Rattle.store_model.specs.Catalog.{Catalog, HandRecord, Tenant, is_repo_of_tenant, opening}
+use Rattle.store_model.specs.Catalog.{Catalog, HandRecord, Tenant, is_repo_of_tenant, opening, ContentRules}
 use Rattle.store_model.specs.Commands.{Outcome, after_cancel, finish, put_back, take}
 use Rattle.store_model.specs.Histories.{AreSteps, SweepCall, FinishCall, IsUncountable, LeadsTo, CommandCall, PutBackCall, State, Step, TakeCall, initial_state}
 use Rattle.store_model.specs.Noninterference.{NoCollision, uploads_of_command, catalog_after, uploaded_pair, isolated_outcome, tenant_view, reply_of}
@@ -105,7 +105,7 @@ AreOwnReplies tenants t s (step ∷ steps) s' run = (is_step_of tenants t step �
 -- the digest and content of a close or a finish, if the content has the digest
 abbrev pub uploads_of_step : Catalog → Step → List (Text × Text)
 uploads_of_step C (CommandCall command reply) = uploads_of_command C command
-uploads_of_step C (FinishCall h d reply) = uploaded_pair d (Ok (hand_content h))
+uploads_of_step C (FinishCall h d reply) = uploaded_pair C.contents d (Ok (hand_content h))
 uploads_of_step C step = []
 
 -- the digests and contents of all closes and finishes of a list of steps
@@ -116,27 +116,27 @@ uploads_of_history s (step ∷ steps) s' run = uploads_of_step s.catalog step ++
 -- ---- the theorems
 
 -- The steps are a legal history of a new store in which no two uploads have different contents with the same digest.
-pub record IsCollisionFreeHistory (tenants : List Tenant) (slots max_blob : ℕ) (steps : List Step) (s : State) : Type 0 where
-  pub run : LeadsTo (opening tenants slots max_blob) steps s
-  pub no_collision : NoCollision (uploads_of_history (initial_state (opening tenants slots max_blob)) steps s run)
+pub record IsCollisionFreeHistory (tenants : List Tenant) (slots : ℕ) (contents : ContentRules) (steps : List Step) (s : State) : Type 0 where
+  pub run : LeadsTo (opening tenants slots contents) steps s
+  pub no_collision : NoCollision (uploads_of_history (initial_state (opening tenants slots contents)) steps s run)
 
 -- no reply to a tenant in the history is one that others may cause
-abbrev pub IsUnaffectedHistory : (tenants : List Tenant) (slots max_blob t : ℕ) (steps : List Step) (s : State) → IsCollisionFreeHistory tenants slots max_blob steps s → Type 0
-IsUnaffectedHistory tenants slots max_blob t steps s fair = AreOwnReplies tenants t (initial_state (opening tenants slots max_blob)) steps s fair.run
+abbrev pub IsUnaffectedHistory : (tenants : List Tenant) (slots : ℕ) (contents : ContentRules) (t : ℕ) (steps : List Step) (s : State) → IsCollisionFreeHistory tenants slots contents steps s → Type 0
+IsUnaffectedHistory tenants slots contents t steps s fair = AreOwnReplies tenants t (initial_state (opening tenants slots contents)) steps s fair.run
 
 -- a tenant's steps and its view at the end are those of its isolated history
-pub record IsIsolatedInHistory (tenants : List Tenant) (slots max_blob t : ℕ) (steps : List Step) (s : State) : Type 0 where
-  pub replies : isolated_steps (opening tenants slots max_blob) (requests_of (steps_of tenants t steps)) ≡ steps_of tenants t steps
-  pub tenant_view : tenant_view s.catalog t ≡ tenant_view (catalog_after_requests (opening tenants slots max_blob) (requests_of (steps_of tenants t steps))) t
+pub record IsIsolatedInHistory (tenants : List Tenant) (slots : ℕ) (contents : ContentRules) (t : ℕ) (steps : List Step) (s : State) : Type 0 where
+  pub replies : isolated_steps (opening tenants slots contents) (requests_of (steps_of tenants t steps)) ≡ steps_of tenants t steps
+  pub tenant_view : tenant_view s.catalog t ≡ tenant_view (catalog_after_requests (opening tenants slots contents) (requests_of (steps_of tenants t steps))) t
 
 -- If no reply to a tenant is one that others may cause, its replies and its view at the end are those of its isolated history.
 abbrev pub TenantsAreIsolatedInHistories : Type 0
-TenantsAreIsolatedInHistories = (tenants : List Tenant) (slots max_blob t : ℕ) (steps : List Step) (s : State) (fair : IsCollisionFreeHistory tenants slots max_blob steps s) →
-    IsUnaffectedHistory tenants slots max_blob t steps s fair → IsIsolatedInHistory tenants slots max_blob t steps s
+TenantsAreIsolatedInHistories = (tenants : List Tenant) (slots : ℕ) (contents : ContentRules) (t : ℕ) (steps : List Step) (s : State) (fair : IsCollisionFreeHistory tenants slots contents steps s) →
+    IsUnaffectedHistory tenants slots contents t steps s fair → IsIsolatedInHistory tenants slots contents t steps s
 
 -- The store's text is the same after two such histories in which each tenant makes the same requests in the same order.
 abbrev pub HistoriesLeaveTheSameText : Type 0
-HistoriesLeaveTheSameText = (tenants : List Tenant) (slots max_blob : ℕ) (one two : List Step) (s s' : State)
-    (fair : IsCollisionFreeHistory tenants slots max_blob one s) → ((t : ℕ) → IsUnaffectedHistory tenants slots max_blob t one s fair) →
-    (fair' : IsCollisionFreeHistory tenants slots max_blob two s') → ((t : ℕ) → IsUnaffectedHistory tenants slots max_blob t two s' fair') →
+HistoriesLeaveTheSameText = (tenants : List Tenant) (slots : ℕ) (contents : ContentRules) (one two : List Step) (s s' : State)
+    (fair : IsCollisionFreeHistory tenants slots contents one s) → ((t : ℕ) → IsUnaffectedHistory tenants slots contents t one s fair) →
+    (fair' : IsCollisionFreeHistory tenants slots contents two s') → ((t : ℕ) → IsUnaffectedHistory tenants slots contents t two s' fair') →
     ((t : ℕ) → requests_of (steps_of tenants t one) ≡ requests_of (steps_of tenants t two)) → book_text s.catalog ≡ book_text s'.catalog

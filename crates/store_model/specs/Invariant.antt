@@ -4,12 +4,12 @@ use Rattle.std.specs.List.{AllByRecursion}
 use Rattle.std.specs.Ordering.{eq_by_cmp}
 use Rattle.std.specs.List.Sorted.{IsStrictlySortedBy}
 use Rattle.std.specs.FinMap as fmap
-use Rattle.blob_digest.specs.Digests.{sha256_text, is_digest_of}
+use Rattle.blob_digest.specs.Digests.{sha256_text}
 use Rattle.spec_lib.specs.Sets as set
 use Rattle.oci_manifest.specs.Manifests.{refs_of, max_manifest}
 use Rattle.std.specs.declared.cmp.Ordering.TheVariants.{Less}
 use Rattle.blob_digest.specs.declared.refusal.Refusal.TheVariants.{Referenced}
-use Rattle.store_model.specs.Commands.{refers, delete}
+use Rattle.store_model.specs.Commands.{refers, delete, is_named}
 use Rattle.spec_lib.specs.Texts.{Text, text_cmp}
 use Rattle.store_model.specs.Catalog.{Link, SessionNumber, Session, Resident, Catalog, tenant_of, quota_of, share_of, link_count, blob_length, used_bytes, held_digests, held_count, session_charges_of, open_sessions, manifests_of, charged_length, Tenant, is_repo_of_tenant, tenant_repo_count, link_cmp}
 use Rattle.store_model.specs.Sessions.{at_home}
@@ -64,7 +64,7 @@ pub record AreWellFormedNumbers (known : List Tenant) (next : List ℕ) : Type 0
 
 -- a session of a catalog is well-formed
 abbrev pub WellFormedSession : Catalog → SessionNumber → Session → Type 0
-WellFormedSession C = IsWellFormedSession C.tenants C.repos C.max_blob C.next
+WellFormedSession C = IsWellFormedSession C.tenants C.repos C.contents.max_blob C.next
 
 -- a manifest of a catalog is well-formed
 abbrev pub WellFormedManifest : Catalog → Link → Text → Type 0
@@ -76,13 +76,13 @@ WellFormedLink C = IsWellFormedLink C.repos C.residents
 
 -- A catalog is well-formed; each part of this reads only some fields of the catalog.
 pub record WellFormed (C : Catalog) : Type 0 where
-  pub content : (d : Text) (b : Resident) → fmap.get C.residents d ≡ Some b → is_digest_of d b.bytes ≡ true
+  pub content : (d : Text) (b : Resident) → fmap.get C.residents d ≡ Some b → is_named C.contents d b.bytes ≡ true
   pub links : (l : Link) → set.contains C.links l ≡ true → WellFormedLink C l
   pub manifests : (l : Link) (bytes : Text) → fmap.get C.manifests l ≡ Some bytes → WellFormedManifest C l bytes
   pub sessions : (key : SessionNumber) (s : Session) → fmap.get C.sessions key ≡ Some s → WellFormedSession C key s
   pub repositories : AreWellFormedRepositories C.tenants C.repos
   pub numbering : AreWellFormedNumbers C.tenants C.next
-  pub limits : AreWithinLimits C.tenants C.max_blob
+  pub limits : AreWithinLimits C.tenants C.contents.max_blob
   pub few_sessions : (t : ℕ) → open_sessions C t ≤ greatest_limits.sessions
   pub few_manifests : (r : Text) → manifests_of C r ≤ greatest_limits.manifests
 

@@ -4,12 +4,11 @@ use Rattle.std.specs.List.{AllByRecursion, Contains}
 use Rattle.std.specs.FinMap as fmap
 use Rattle.blob_digest.specs.declared.refusal.Refusal.{Refusal}
 use Rattle.blob_digest.specs.declared.refusal.Refusal.TheVariants.{Memory, TooManyReaders, StoreFull}
-use Rattle.blob_digest.specs.Digests.{is_digest_of}
 use Rattle.spec_lib.specs.Sets as set
 use Rattle.spec_lib.specs.Texts.{Text, text_cmp}
-use Rattle.store_model.specs.Catalog.{Tenant, Session, Catalog, link_cmp, session_number_cmp, is_repo_of_tenant, is_repo_of, tenant_holds, next_number_of, opening}
+use Rattle.store_model.specs.Catalog.{Tenant, Session, Catalog, link_cmp, session_number_cmp, is_repo_of_tenant, is_repo_of, tenant_holds, next_number_of, opening, ContentRules}
 use Rattle.spec_lib.specs.Outcomes.{◌>>=◌}
-use Rattle.store_model.specs.Commands.{Outcome, tenant, session, content_in, close_by}
+use Rattle.store_model.specs.Commands.{Outcome, tenant, session, content_in, close_by, is_named}
 use Rattle.store_model.specs.Runs.{Command, Close, Answer, Number, repo_of, outcome, map_outcome, Event, CommandEvent, SweepEvent, IsRun}
 use Rattle.store_model.specs.BookText.{book_text}
 
@@ -104,13 +103,13 @@ close_content C repo number last = do
   Ok (content_in C.sessions (t, number) last)
 
 -- the digest and the content, if the content has the digest
-abbrev pub uploaded_pair : Text → Result Text Refusal → List (Text × Text)
-uploaded_pair digest (Ok whole) = if is_digest_of digest whole then (digest, whole) ∷ [] else []
-uploaded_pair digest (Err e) = []
+abbrev pub uploaded_pair : ContentRules → Text → Result Text Refusal → List (Text × Text)
+uploaded_pair rules digest (Ok whole) = if is_named rules digest whole then (digest, whole) ∷ [] else []
+uploaded_pair rules digest (Err e) = []
 
 -- the digest and content of a close, if the content has the digest
 abbrev pub uploads_of_command : Catalog → Command → List (Text × Text)
-uploads_of_command C (Close r n d g b) = uploaded_pair d (close_content C r n b)
+uploads_of_command C (Close r n d g b) = uploaded_pair C.contents d (close_content C r n b)
 uploads_of_command C command = []
 
 -- the digest and content of an event, if it is such a close
@@ -130,22 +129,22 @@ NoCollision pairs = (digest a b : Text) → Contains pairs (digest, a) → Conta
 -- ---- the theorem
 
 -- The events are a run of a new store in which no two closes have different contents with the same digest.
-pub record IsCollisionFreeRun (tenants : List Tenant) (slots max_blob : ℕ) (es : List Event) (C' : Catalog) : Type 0 where
-  pub run : IsRun (opening tenants slots max_blob) es C'
-  pub no_collision : NoCollision (uploads_of_run es (opening tenants slots max_blob) C' run)
+pub record IsCollisionFreeRun (tenants : List Tenant) (slots : ℕ) (contents : ContentRules) (es : List Event) (C' : Catalog) : Type 0 where
+  pub run : IsRun (opening tenants slots contents) es C'
+  pub no_collision : NoCollision (uploads_of_run es (opening tenants slots contents) C' run)
 
 -- a tenant's replies and its view at the end are those of its isolated run
-pub record IsIsolated (tenants : List Tenant) (slots max_blob t : ℕ) (es : List Event) (C' : Catalog) : Type 0 where
-  pub replies : replies (events_of tenants t es) ≡ isolated_replies (opening tenants slots max_blob) (commands_of (events_of tenants t es))
-  pub tenant_view : tenant_view C' t ≡ tenant_view (isolated_catalog (opening tenants slots max_blob) (commands_of (events_of tenants t es))) t
+pub record IsIsolated (tenants : List Tenant) (slots : ℕ) (contents : ContentRules) (t : ℕ) (es : List Event) (C' : Catalog) : Type 0 where
+  pub replies : replies (events_of tenants t es) ≡ isolated_replies (opening tenants slots contents) (commands_of (events_of tenants t es))
+  pub tenant_view : tenant_view C' t ≡ tenant_view (isolated_catalog (opening tenants slots contents) (commands_of (events_of tenants t es))) t
 
 -- If no reply to a tenant is one that others may cause, its replies and its view at the end are those of its isolated run.
 abbrev pub TenantsAreIsolated : Type 0
-TenantsAreIsolated = (tenants : List Tenant) (slots max_blob t : ℕ) (es : List Event) (C' : Catalog) →
-    IsCollisionFreeRun tenants slots max_blob es C' → AllByRecursion IsUnaffectedByOthers (events_of tenants t es) → IsIsolated tenants slots max_blob t es C'
+TenantsAreIsolated = (tenants : List Tenant) (slots : ℕ) (contents : ContentRules) (t : ℕ) (es : List Event) (C' : Catalog) →
+    IsCollisionFreeRun tenants slots contents es C' → AllByRecursion IsUnaffectedByOthers (events_of tenants t es) → IsIsolated tenants slots contents t es C'
 
 -- The store's text is the same after two such runs in which each tenant makes the same commands in the same order.
 abbrev pub TextsAreTheSame : Type 0
-TextsAreTheSame = (tenants : List Tenant) (slots max_blob : ℕ) (es fs : List Event) (C' D' : Catalog) →
-    IsCollisionFreeRun tenants slots max_blob es C' → AllByRecursion IsUnaffectedByOthers es → IsCollisionFreeRun tenants slots max_blob fs D' → AllByRecursion IsUnaffectedByOthers fs →
+TextsAreTheSame = (tenants : List Tenant) (slots : ℕ) (contents : ContentRules) (es fs : List Event) (C' D' : Catalog) →
+    IsCollisionFreeRun tenants slots contents es C' → AllByRecursion IsUnaffectedByOthers es → IsCollisionFreeRun tenants slots contents fs D' → AllByRecursion IsUnaffectedByOthers fs →
     ((t : ℕ) → commands_of (events_of tenants t es) ≡ commands_of (events_of tenants t fs)) → book_text C' ≡ book_text D'

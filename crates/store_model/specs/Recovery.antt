@@ -4,7 +4,7 @@ use Rattle.std.specs.List.{AllByRecursion, enumerate_from, list_any}
 use Rattle.std.specs.FinMap as fmap
 use Rattle.spec_lib.specs.Sets as set
 use Rattle.spec_lib.specs.Texts.{Text, text_cmp}
-use Rattle.store_model.specs.Catalog.{Catalog, HandRecord, Resident, Session, SessionNumber, Tenant, charged_length, held_count, opening, quota_of, share_of, used_bytes}
+use Rattle.store_model.specs.Catalog.{Catalog, HandRecord, Resident, Session, SessionNumber, Tenant, charged_length, held_count, opening, quota_of, share_of, used_bytes, ContentRules}
 use Rattle.store_model.specs.Durable.{Agrees, AreReturnedAsTaken, BlobLinked, BlobStored, Change, ChunkReceived, DurableState, IsTornLog, ManifestPut, NumberSet, RepoAdded, SessionOpened, TakenChunks, after_changes, changes_of, initial_durable}
 use Rattle.store_model.specs.Histories.{CommandCall, FinishCall, LeadsTo, PutBackCall, State, Step}
 use Rattle.store_model.specs.Invariant.{Sound, WellFormed}
@@ -32,11 +32,11 @@ restored_blobs D =
     fmap.from_entries (map {B = Text × Resident} (λ e. (e.0, restored_blob e.1)) (fmap.entries (linked_contents D)))
 
 -- the catalog of a store that was restarted with this number of slots and this limit on blobs
-abbrev pub restored_catalog : DurableState → ℕ → ℕ → Catalog
-restored_catalog D slots max_blob = record {
+abbrev pub restored_catalog : DurableState → ℕ → ContentRules → Catalog
+restored_catalog D slots contents = record {
   tenants = D.tenants;
   slots = slots;
-  max_blob = max_blob;
+  contents = contents;
   repos = D.repos;
   links = D.links;
   manifests = D.manifests;
@@ -47,16 +47,17 @@ restored_catalog D slots max_blob = record {
 }
 
 -- the restored catalog is sound, agrees with the durable state, and no tenant uses more than in the catalog C
-pub record IsRestored (D : DurableState) (C : Catalog) (slots max_blob : ℕ) : Type 0 where
-  pub sound : Sound (restored_catalog D slots max_blob)
-  pub agrees : Agrees fmap.empty D (restored_catalog D slots max_blob)
-  pub uses : (t : ℕ) → used_bytes (restored_catalog D slots max_blob) t ≤ used_bytes C t
+pub record IsRestored (D : DurableState) (C : Catalog) (slots : ℕ) (contents : ContentRules) : Type 0 where
+  pub sound : Sound (restored_catalog D slots contents)
+  pub agrees : Agrees fmap.empty D (restored_catalog D slots contents)
+  pub uses : (t : ℕ) → used_bytes (restored_catalog D slots contents) t ≤ used_bytes C t
 
--- A store restarts with a durable state that agrees with a sound catalog, if neither the slots nor the limit on blobs are lowered.
+-- A store restarts with a durable state that agrees with a sound catalog, if neither the slots nor the limit on blobs are lowered, and contents lie
+-- where they did.
 abbrev pub StoresRestart : Type 0
 StoresRestart = (taken : TakenChunks) (D : DurableState) (C : Catalog) → Agrees taken D C → Sound C →
-    (slots max_blob : ℕ) → C.slots ≤ slots → slots ≤ 65536 → C.max_blob ≤ max_blob → max_blob ≤ 2 ^ 40 →
-    IsRestored D C slots max_blob
+    (slots : ℕ) (contents : ContentRules) → C.slots ≤ slots → slots ≤ 65536 → C.contents.max_blob ≤ contents.max_blob → contents.max_blob ≤ 2 ^ 40 → contents.on_disk ≡ C.contents.on_disk →
+    IsRestored D C slots contents
 
 -- ---- other settings
 
@@ -65,17 +66,17 @@ abbrev pub with_tenants : DurableState → List Tenant → DurableState
 with_tenants D tenants = record D { tenants = tenants }
 
 -- the tenant's restored use is within its quota
-abbrev pub FitsQuota : DurableState → ℕ → ℕ → ℕ → Type 0
-FitsQuota D slots max_blob t =
-    used_bytes (restored_catalog D slots max_blob) t ≤ quota_of (restored_catalog D slots max_blob) t
+abbrev pub FitsQuota : DurableState → ℕ → ContentRules → ℕ → Type 0
+FitsQuota D slots contents t =
+    used_bytes (restored_catalog D slots contents) t ≤ quota_of (restored_catalog D slots contents) t
 
 -- the tenant's restored blobs are within its share
-abbrev pub FitsShare : DurableState → ℕ → ℕ → ℕ → Type 0
-FitsShare D slots max_blob t =
-    held_count (restored_catalog D slots max_blob) t ≤ share_of (restored_catalog D slots max_blob) t
+abbrev pub FitsShare : DurableState → ℕ → ContentRules → ℕ → Type 0
+FitsShare D slots contents t =
+    held_count (restored_catalog D slots contents) t ≤ share_of (restored_catalog D slots contents) t
 
 -- A durable state fits these tenants, slots and limit on blobs.
-pub record CanRestore (D : DurableState) (tenants : List Tenant) (slots max_blob : ℕ) : Type 0 where
+pub record CanRestore (D : DurableState) (tenants : List Tenant) (slots : ℕ) (contents : ContentRules) : Type 0 where
   -- the tenants have the same names; only their quotas, shares and limits may differ
   pub names : map (λ t. t.name) tenants ≡ map (λ t. t.name) D.tenants
   pub quotas : AllByRecursion (λ t. t.quota ≤ 2 ^ 50) tenants
@@ -83,25 +84,25 @@ pub record CanRestore (D : DurableState) (tenants : List Tenant) (slots max_blob
   pub some : (0 < slots) × (slots ≤ 65536)
   -- the linked blobs fit the slots
   pub fit : fmap.len (restored_blobs D) ≤ slots
-  pub limit : max_blob ≤ 2 ^ 40
+  pub limit : contents.max_blob ≤ 2 ^ 40
   -- each open session is within the limit on blobs
   pub small : (key : SessionNumber) (s : Session) →
-      fmap.get D.sessions key ≡ Some s → charged_length s ≤ max_blob
+      fmap.get D.sessions key ≡ Some s → charged_length s ≤ contents.max_blob
   -- no tenant exceeds its quota
-  pub uses : (t : ℕ) → t < length tenants → FitsQuota (with_tenants D tenants) slots max_blob t
+  pub uses : (t : ℕ) → t < length tenants → FitsQuota (with_tenants D tenants) slots contents t
   -- no tenant exceeds its share
-  pub shares : (t : ℕ) → t < length tenants → FitsShare (with_tenants D tenants) slots max_blob t
+  pub shares : (t : ℕ) → t < length tenants → FitsShare (with_tenants D tenants) slots contents t
 
 -- the restored catalog is sound and agrees with the durable state
-abbrev pub IsSoundRestart : DurableState → ℕ → ℕ → Type 0
-IsSoundRestart D slots max_blob =
-    Sound (restored_catalog D slots max_blob) × Agrees fmap.empty D (restored_catalog D slots max_blob)
+abbrev pub IsSoundRestart : DurableState → ℕ → ContentRules → Type 0
+IsSoundRestart D slots contents =
+    Sound (restored_catalog D slots contents) × Agrees fmap.empty D (restored_catalog D slots contents)
 
--- A store restarts with other settings that its durable state fits.
+-- A store restarts with other settings that its durable state fits, if contents lie where they did.
 abbrev pub StoresRestartWithOtherSettings : Type 0
 StoresRestartWithOtherSettings = (taken : TakenChunks) (D : DurableState) (C : Catalog) →
-    Agrees taken D C → WellFormed C → (tenants : List Tenant) (slots max_blob : ℕ) →
-    CanRestore D tenants slots max_blob → IsSoundRestart (with_tenants D tenants) slots max_blob
+    Agrees taken D C → WellFormed C → (tenants : List Tenant) (slots : ℕ) (contents : ContentRules) →
+    CanRestore D tenants slots contents → contents.on_disk ≡ C.contents.on_disk → IsSoundRestart (with_tenants D tenants) slots contents
 
 -- ---- crashes
 
@@ -119,7 +120,7 @@ IsWellFormedStep step = Unit {0}
 -- A store whose log kept these changes restarts with its state after some first steps of the history.
 pub record SurvivesCrash (D : DurableState) (C : Catalog) (done later : List Step) (kept : List Change) : Type 0 where
   pub cut : IsTornLog D C done later kept
-  pub restored : IsRestored (after_changes D (changes_of D.tenants done ++ kept)) cut.at.catalog C.slots C.max_blob
+  pub restored : IsRestored (after_changes D (changes_of D.tenants done ++ kept)) cut.at.catalog C.slots C.contents
 
 -- A store that opened with a sound catalog and an agreeing durable state survives a crash in which its log lost its last records.
 abbrev pub StoresSurviveCrashes : Type 0
@@ -130,8 +131,8 @@ StoresSurviveCrashes = (D : DurableState) (C : Catalog) (done later : List Step)
 
 -- The initial durable state agrees with the catalog of a new store.
 abbrev pub NewStoresAgree : Type 0
-NewStoresAgree = (tenants : List Tenant) (slots max_blob : ℕ) →
-    Agrees fmap.empty (initial_durable tenants) (opening tenants slots max_blob)
+NewStoresAgree = (tenants : List Tenant) (slots : ℕ) (contents : ContentRules) →
+    Agrees fmap.empty (initial_durable tenants) (opening tenants slots contents)
 
 -- ---- rewritten logs
 

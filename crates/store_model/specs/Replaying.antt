@@ -3,8 +3,8 @@ use Rattle.std.specs.Prelude.{◌≡◌, ℕ, IsOk, List, [], ◌∷◌, Option,
 use Rattle.std.specs.Option.{option_map}
 use Rattle.std.specs.FinMap as fmap
 use Rattle.std.specs.List.{AllByRecursion, cons_option}
-use Rattle.store_model.specs.Catalog.{Catalog, Tenant, opening}
-use Rattle.store_model.specs.Commands.{has_same_bytes, has_slot}
+use Rattle.store_model.specs.Catalog.{Catalog, Tenant, opening, ContentRules}
+use Rattle.store_model.specs.Commands.{fits_stored, has_slot}
 use Rattle.store_model.specs.Durable.{Agrees, AreReturnedAsTaken, BlobLinked, BlobUnlinked, Change, ChunkReceived, DurableState, IsReturnedAsTaken, ManifestDeleted, ManifestPut, RepoRemoved, SessionDropped, SessionOpened, SessionSealed, TakenChunks, after_change, after_changes, change_of, changes_of, command_change, initial_durable}
 use Rattle.store_model.specs.Histories.{LeadsTo, MayLeadTo, State, Step}
 use Rattle.store_model.specs.Invariant.{Sound}
@@ -30,10 +30,10 @@ replay_command D (ManifestDeleted repo digest) = Some (DeleteManifest repo diges
 replay_command D (RepoRemoved repo) = Some (RemoveRepo repo)
 replay_command D change = None
 
--- if the change seals a session, there is a slot for its blob, and no stored blob of its digest has other bytes
+-- if the change seals a session, there is a slot for its blob, and no stored blob of its digest has another length
 abbrev pub HasRoomFor : DurableState → Catalog → Change → Type 0
 HasRoomFor D C (SessionSealed key digest last) =
-    (has_slot C digest ≡ Ok tt) × (has_same_bytes (fmap.get C.residents digest) (content_in D.sessions key last) ≡ true)
+    (has_slot C digest ≡ Ok tt) × (fits_stored C.contents (fmap.get C.residents digest) (content_in D.sessions key last) ≡ true)
 HasRoomFor D C change = Unit {0}
 
 -- the command of the change succeeds, records the same change, and leads to a sound, agreeing catalog
@@ -60,7 +60,7 @@ pub record IsRecordedStep (taken : TakenChunks) (D : DurableState) (s : State) (
 abbrev pub ChangesHaveReplays : Type 0
 ChangesHaveReplays = (taken : TakenChunks) (D : DurableState) (s : State) (step : Step) (X : Catalog)
     (change : Change) → IsRecordedStep taken D s step X change →
-    (C : Catalog) → Agrees fmap.empty D C → Sound C → C.max_blob ≡ s.catalog.max_blob →
+    (C : Catalog) → Agrees fmap.empty D C → Sound C → C.contents ≡ s.catalog.contents →
     HasRoomFor D C change → HasReplay D C change
 
 -- ---- a whole log
@@ -83,7 +83,7 @@ pub record HasLogReplay (D : DurableState) (C : Catalog) (changes : List Change)
 
 -- The log of a legal history of a sound new store has a replay in a new store with the same settings.
 abbrev pub LogsHaveReplays : Type 0
-LogsHaveReplays = (tenants : List Tenant) (slots max_blob : ℕ) (steps : List Step) (s : State) →
-    Sound (opening tenants slots max_blob) → LeadsTo (opening tenants slots max_blob) steps s →
+LogsHaveReplays = (tenants : List Tenant) (slots : ℕ) (contents : ContentRules) (steps : List Step) (s : State) →
+    Sound (opening tenants slots contents) → LeadsTo (opening tenants slots contents) steps s →
     AreReturnedAsTaken fmap.empty steps → AllByRecursion IsWellFormedStep steps →
-    HasLogReplay (initial_durable tenants) (opening tenants slots max_blob) (changes_of tenants steps)
+    HasLogReplay (initial_durable tenants) (opening tenants slots contents) (changes_of tenants steps)

@@ -6,7 +6,7 @@ use Rattle.blob_digest.specs.declared.range.ByteRange.{ByteRange}
 use Rattle.blob_digest.specs.declared.refusal.Refusal.{Refusal}
 use Rattle.blob_digest.specs.declared.refusal.Refusal.TheVariants.{Busy, Memory, Quota}
 use Rattle.spec_lib.specs.Texts.{Text}
-use Rattle.store_model.specs.Catalog.{HandRecord, Tenant, session_number_cmp, opening}
+use Rattle.store_model.specs.Catalog.{HandRecord, Tenant, session_number_cmp, opening, ContentRules}
 use Rattle.store_model.specs.Histories.{AreSteps, SweepCall, FinishCall, IsUncountable, LeadsTo, CommandCall, PutBackCall, State, Step, TakeCall, initial_state}
 use Rattle.store_model.specs.Invariant.{Sound}
 use Rattle.store_model.specs.Runs.{Answer, Append, CommandEvent, Close, Command, Event, HasShortName, IsRun, Number, SweepEvent}
@@ -86,6 +86,6 @@ AreContentionFree s (step ∷ steps) s' run = IsContentionFreeStep s step × Are
 
 -- A history that is free of contention and ends with no session checked out is a run of whole commands with the same catalog at the end.
 abbrev pub HistoriesAreRuns : Type 0
-HistoriesAreRuns = (tenants : List Tenant) (slots max_blob : ℕ) (steps : List Step) (s : State) (events : List Event) → Sound (opening tenants slots max_blob) →
-    (run : LeadsTo (opening tenants slots max_blob) steps s) → AreContentionFree (initial_state (opening tenants slots max_blob)) steps s run →
-    AreWholeCommands fmap.empty steps events → AllByRecursion HasShortName events → IsRun (opening tenants slots max_blob) events s.catalog
+HistoriesAreRuns = (tenants : List Tenant) (slots : ℕ) (contents : ContentRules) (steps : List Step) (s : State) (events : List Event) → Sound (opening tenants slots contents) →
+    (run : LeadsTo (opening tenants slots contents) steps s) → AreContentionFree (initial_state (opening tenants slots contents)) steps s run →
+    AreWholeCommands fmap.empty steps events → AllByRecursion HasShortName events → IsRun (opening tenants slots contents) events s.catalog

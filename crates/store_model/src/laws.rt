@@ -155,7 +155,7 @@ pub fn durability()
 ///   `durability`.
 /// - `rewrite`: a rewritten log gives the same durable state, except for contents without a link.
 /// - `replay`: the change of a step is made again by one command, in every store that agrees with the durable state
-///   before it. The store has the same limit on blobs and, for a close, a slot and no other bytes with the digest.
+///   before it. The store has the same limit on blobs and, for a close, a slot and no content of another length with the digest.
 /// - `replay_log`: the log of a legal history is made again by commands that all succeed, and sweeps, in a new store
 ///   with the same settings.
 ///

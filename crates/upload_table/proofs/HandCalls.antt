@@ -17,8 +17,8 @@ use Rattle.upload_table.specs.declared.upload.ChunkBuffer.{ChunkBuffer}
 use Rattle.upload_table.proofs.Cuts.{sum_by-cut_chunks}
 
 -- chunks that satisfy `IsConsistentBuffer` are as long as their bytes
-pub whole_length : (p : ChunkBuffer) → IsConsistentBuffer p → sum_by length (cut_chunks p.lens.items p.bytes.items) ≡ length p.bytes.items
-whole_length p whole = sum_by-cut_chunks p.lens.items p.bytes.items (omega (arith, whole.lengths)) ∙ whole.lengths
+pub whole_length : (p : ChunkBuffer) → IsConsistentBuffer p → sum_by length (cut_chunks p.lens.items p.bytes) ≡ length p.bytes
+whole_length p whole = sum_by-cut_chunks p.lens.items p.bytes (omega (arith, whole.lengths)) ∙ whole.lengths
 
 -- ---- the session of a hand
 
@@ -49,7 +49,7 @@ taken_value (Some x) h is = by x.chunks refl
 
 module _ (v : Uploaded) (h : HandRecord) (x : Session) (taken : IsTaken (get v.sessions h.key) h x) where
   -- chunks no longer than the hand's fit the charge of the session
-  pub put_fits : (p : ChunkBuffer) → IsConsistentBuffer p → sum_by length (cut_chunks p.lens.items p.bytes.items) ≤ sum_by length h.chunks + h.reserved → (y : Session) → y ≡ x → length p.bytes.items ≤ charged_length y
+  pub put_fits : (p : ChunkBuffer) → IsConsistentBuffer p → sum_by length (cut_chunks p.lens.items p.bytes) ≤ sum_by length h.chunks + h.reserved → (y : Session) → y ≡ x → length p.bytes ≤ charged_length y
   put_fits p whole le y same =
       let charge : charged_length x ≡ sum_by length h.chunks + h.reserved = ap (λ (c : Chunks). received_of c + reserved_of c) taken.chunks in
       omega (arith, charge, ap charged_length same, whole_length p whole, le)
@@ -83,14 +83,14 @@ module _ (v : Uploaded) (h : HandRecord) (x : Session) (taken : IsTaken (get v.s
 
 -- ---- checking a session out
 
-module _ (v : Uploaded) (key : SessionNumber) (n : ℕ) (x : Session) (found : get v.sessions key ≡ Some x) (p : ChunkBuffer) (whole : IsConsistentBuffer p) (home : Some x.chunks ≡ Some (CheckedIn (cut_chunks p.lens.items p.bytes.items))) where
-  pub hand_is : record { key = key; chunks = cut_chunks p.lens.items p.bytes.items; reserved = n; last = None } ≡ hand_in v.sessions key n
+module _ (v : Uploaded) (key : SessionNumber) (n : ℕ) (x : Session) (found : get v.sessions key ≡ Some x) (p : ChunkBuffer) (whole : IsConsistentBuffer p) (home : Some x.chunks ≡ Some (CheckedIn (cut_chunks p.lens.items p.bytes))) where
+  pub hand_is : record { key = key; chunks = cut_chunks p.lens.items p.bytes; reserved = n; last = None } ≡ hand_in v.sessions key n
   hand_is =
-      let chunks : chunks_in v.sessions key ≡ cut_chunks p.lens.items p.bytes.items = ap (λ o. option_map_or (λ (s : Session). at_home s.chunks) o []) found ∙ ap at_home (some_same home) in
+      let chunks : chunks_in v.sessions key ≡ cut_chunks p.lens.items p.bytes = ap (λ o. option_map_or (λ (s : Session). at_home s.chunks) o []) found ∙ ap at_home (some_same home) in
       λ j. record { key = key; chunks = sym chunks j; reserved = n; last = None }
 
-  pub take_is : with_sessions v (with_chunks v.sessions key x (CheckedOutWith (length p.bytes.items) n)) ≡ with_sessions v (after_take_in v.sessions key n)
+  pub take_is : with_sessions v (with_chunks v.sessions key x (CheckedOutWith (length p.bytes) n)) ≡ with_sessions v (after_take_in v.sessions key n)
   take_is =
-      let received : received_of x.chunks ≡ length p.bytes.items = ap received_of (some_same home) ∙ whole_length p whole in
+      let received : received_of x.chunks ≡ length p.bytes = ap received_of (some_same home) ∙ whole_length p whole in
       ap (λ k. with_sessions v (with_chunks v.sessions key x (CheckedOutWith k n))) (sym received)
       ∙ ap (with_sessions v) (sym (ap (λ o. option_map_or (λ (s : Session). with_chunks v.sessions key s (CheckedOutWith (received_of s.chunks) n)) o v.sessions) found))

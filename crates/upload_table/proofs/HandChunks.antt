@@ -58,47 +58,47 @@ cut_chunks-last lens bytes n len = at (drop (sum lens) bytes) refl
 
 module _ (received reserved : ℕ) (p : ChunkBuffer) (room : ℕ) (whole : Option ContentHash) (hand : IsHand received reserved p room whole) where
   -- the chunks are among the bytes
-  pub chunks_within : sum p.lens.items ≤ length p.bytes.items
+  pub chunks_within : sum p.lens.items ≤ length p.bytes
   chunks_within = at whole hand.filled
     where
-      at : (w : Option ContentHash) → IsFilled received reserved p room w → sum p.lens.items ≤ length p.bytes.items
+      at : (w : Option ContentHash) → IsFilled received reserved p room w → sum p.lens.items ≤ length p.bytes
       at None filled = omega (arith, filled, hand.lengths)
       at (Some w) filled = omega (arith, filled.0, hand.lengths)
 
-  pub hand_received : received ≡ sum_by length (cut_chunks p.lens.items p.bytes.items)
-  hand_received = sym hand.lengths ∙ sym (sum_by-cut_chunks p.lens.items p.bytes.items chunks_within)
+  pub hand_received : received ≡ sum_by length (cut_chunks p.lens.items p.bytes)
+  hand_received = sym hand.lengths ∙ sym (sum_by-cut_chunks p.lens.items p.bytes chunks_within)
 
-  pub hand_nonempty : AllByRecursion (λ c. c ≢ []) (cut_chunks p.lens.items p.bytes.items)
-  hand_nonempty = cut_chunks-nonempty p.lens.items p.bytes.items chunks_within hand.positive
+  pub hand_nonempty : AllByRecursion (λ c. c ≢ []) (cut_chunks p.lens.items p.bytes)
+  hand_nonempty = cut_chunks-nonempty p.lens.items p.bytes chunks_within hand.positive
 
   -- its bytes are those of all its chunks
-  pub hand_whole : (t n : ℕ) → hand_content (hand_shown t n received reserved p whole) ≡ p.bytes.items
+  pub hand_whole : (t n : ℕ) → hand_content (hand_shown t n received reserved p whole) ≡ p.bytes
   hand_whole t n = at whole hand.filled
     where
-      at : (w : Option ContentHash) → IsFilled received reserved p room w → concat (cut_chunks p.lens.items p.bytes.items) ++ option_map_or (λ b. b) (option_map (λ (r : ContentHash). drop received p.bytes.items) w) [] ≡ p.bytes.items
-      at None filled = append-nil (concat (cut_chunks p.lens.items p.bytes.items)) ∙ concat-cut_chunks p.lens.items p.bytes.items (hand.lengths ∙ sym filled)
-      at (Some w) filled = ap (λ front. front ++ drop received p.bytes.items) (concat-cut_chunks-front p.lens.items p.bytes.items chunks_within)
-          ∙ ap (λ k. take k p.bytes.items ++ drop received p.bytes.items) hand.lengths ∙ take-append-drop received p.bytes.items
+      at : (w : Option ContentHash) → IsFilled received reserved p room w → concat (cut_chunks p.lens.items p.bytes) ++ option_map_or (λ b. b) (option_map (λ (r : ContentHash). drop received p.bytes) w) [] ≡ p.bytes
+      at None filled = append-nil (concat (cut_chunks p.lens.items p.bytes)) ∙ concat-cut_chunks p.lens.items p.bytes (hand.lengths ∙ sym filled)
+      at (Some w) filled = ap (λ front. front ++ drop received p.bytes) (concat-cut_chunks-front p.lens.items p.bytes chunks_within)
+          ∙ ap (λ k. take k p.bytes ++ drop received p.bytes) hand.lengths ∙ take-append-drop received p.bytes
 
   -- with the length of the last chunk, if there is one, the bytes are cut into all chunks
-  pub hand_chunks : (t n : ℕ) → cut_chunks (if is_some whole then with_length p.lens.items reserved else p.lens.items) p.bytes.items ≡ chunks_of (hand_shown t n received reserved p whole)
+  pub hand_chunks : (t n : ℕ) → cut_chunks (if is_some whole then with_length p.lens.items reserved else p.lens.items) p.bytes ≡ chunks_of (hand_shown t n received reserved p whole)
   hand_chunks t n = at whole hand.filled
     where
-      at : (v : Option ContentHash) → IsFilled received reserved p room v → cut_chunks (if is_some v then with_length p.lens.items reserved else p.lens.items) p.bytes.items ≡ chunks_of (hand_shown t n received reserved p v)
+      at : (v : Option ContentHash) → IsFilled received reserved p room v → cut_chunks (if is_some v then with_length p.lens.items reserved else p.lens.items) p.bytes ≡ chunks_of (hand_shown t n received reserved p v)
       at None filled = refl
       at (Some v) filled =
-          let len : length p.bytes.items ≡ sum p.lens.items + reserved = omega (arith, filled.0, hand.lengths) in
-          cut_chunks-last p.lens.items p.bytes.items reserved len ∙ ap (λ k. with_chunk (cut_chunks p.lens.items p.bytes.items) (drop k p.bytes.items)) hand.lengths
+          let len : length p.bytes ≡ sum p.lens.items + reserved = omega (arith, filled.0, hand.lengths) in
+          cut_chunks-last p.lens.items p.bytes reserved len ∙ ap (λ k. with_chunk (cut_chunks p.lens.items p.bytes) (drop k p.bytes)) hand.lengths
 
   -- a chunk is filled in
-  pub hand_fill : (t n : ℕ) (new : ChunkBuffer) (w : ContentHash) (chunk : List ℕ) → (hand_shown t n received reserved p whole).last ≡ None → new.lens.items ≡ p.lens.items → new.bytes.items ≡ p.bytes.items ++ chunk →
+  pub hand_fill : (t n : ℕ) (new : ChunkBuffer) (w : ContentHash) (chunk : List ℕ) → (hand_shown t n received reserved p whole).last ≡ None → new.lens.items ≡ p.lens.items → new.bytes ≡ p.bytes ++ chunk →
       hand_shown t n received reserved new (Some w) ≡ record (hand_shown t n received reserved p whole) { last = Some chunk }
   hand_fill t n new w chunk empty lens bytes = at whole empty hand.filled
     where
       at : (v : Option ContentHash) → (hand_shown t n received reserved p v).last ≡ None → IsFilled received reserved p room v → hand_shown t n received reserved new (Some w) ≡ record (hand_shown t n received reserved p v) { last = Some chunk }
       at None none filled =
-          let chunks : cut_chunks new.lens.items new.bytes.items ≡ cut_chunks p.lens.items p.bytes.items = rw (lens, bytes) (cut_chunks-more p.lens.items p.bytes.items chunk chunks_within) in
-          let last : drop received new.bytes.items ≡ chunk = rw bytes (ap (λ k. drop k (p.bytes.items ++ chunk)) (sym filled) ∙ drop-append_seam p.bytes.items chunk) in
+          let chunks : cut_chunks new.lens.items new.bytes ≡ cut_chunks p.lens.items p.bytes = rw (lens, bytes) (cut_chunks-more p.lens.items p.bytes chunk chunks_within) in
+          let last : drop received new.bytes ≡ chunk = rw bytes (ap (λ k. drop k (p.bytes ++ chunk)) (sym filled) ∙ drop-append_seam p.bytes chunk) in
           λ i. record { key = (t, n); chunks = chunks i; reserved = reserved; last = Some (last i) }
       at (Some v) none filled = absurd cc
 
@@ -118,4 +118,4 @@ hand_fits t n received reserved p room whole hand = chunks_of-length (hand_shown
   where
     last : (w : Option ContentHash) → IsFilled received reserved p room w → IfSome (hand_shown t n received reserved p w).last (λ b. length b ≡ reserved)
     last None filled = tt
-    last (Some w) filled = omega (arith, filled.0, length-drop received p.bytes.items)
+    last (Some w) filled = omega (arith, filled.0, length-drop received p.bytes)

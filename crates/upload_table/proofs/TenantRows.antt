@@ -90,7 +90,7 @@ charged_is u = at u.content
   where
     at : (c : SessionContent) → HasConsistentBuffer c → received_of (chunks_shown c) + reserved_of (chunks_shown c) ≡ content_charge c
     at (Home p) whole =
-        let len : received_of (chunks_shown (Home p)) ≡ length p.value.bytes.items = whole_length p.value whole in
+        let len : received_of (chunks_shown (Home p)) ≡ length p.value.bytes = whole_length p.value whole in
         omega (arith, len)
     at (InHand n m) whole = refl
 

@@ -8,13 +8,18 @@ use Rattle.std.specs.FinMap as fmap
 use Rattle.std.specs.Ordering.{nat_cmp}
 use Rattle.blob_digest.specs.Digests.{algorithm_of, hash_text}
 use Rattle.blob_digest.specs.Hashing.{HashesUpload}
+use Rattle.blob_digest.specs.Digests.{is_digest_of}
+use Rattle.content_files.specs.Notes.{is_read}
 use Rattle.blob_digest.specs.Keys.{SessionNumber}
+use Rattle.blob_digest.specs.declared.algorithm.Algorithm.{Algorithm}
 use Rattle.blob_digest.specs.declared.upload_hashes.UploadHashes.{UploadHashes}
 use Rattle.spec_lib.specs.Texts.{Text, same_text}
-use Rattle.store_model.specs.Sessions.{Chunks, Session, HandRecord, charged_length}
+use Rattle.store_model.specs.Sessions.{Chunks, Session, HandRecord, charged_length, hand_content}
 use Rattle.store_model.specs.Sessions as shown
 use Rattle.upload_table.specs.Tenants.{SessionsByNumber}
 use Rattle.upload_table.specs.Uploaded.{cut_chunks, HashesIfAny}
+use Rattle.upload_table.specs.declared.hand.Unsealed.{Unsealed}
+use Rattle.upload_table.specs.declared.hand.Unsealed.TheVariants.{Differs}
 use Rattle.upload_table.specs.declared.hashed.ContentHash.{ContentHash}
 use Rattle.upload_table.specs.declared.hashed.ContentHash.TheVariants.{All, One, Missing}
 use Rattle.upload_table.specs.declared.upload.SessionContent.{SessionContent}
@@ -24,7 +29,7 @@ use Rattle.upload_table.specs.declared.upload.Upload.{Upload}
 
 -- the bytes of a buffer, cut into its chunks
 abbrev pub cut_buffer : ChunkBuffer → List Text
-cut_buffer p = cut_chunks p.lens.items p.bytes.items
+cut_buffer p = cut_chunks p.lens.items p.bytes
 
 -- the chunks of a checked-in session with this buffer
 abbrev pub home_chunks : ChunkBuffer → Chunks
@@ -32,11 +37,11 @@ home_chunks p = shown.CheckedIn (cut_buffer p)
 
 -- the chunks of a session that is checked out with this buffer, with n bytes reserved
 abbrev pub out_chunks : ChunkBuffer → ℕ → Chunks
-out_chunks p n = shown.CheckedOutWith (length p.bytes.items) n
+out_chunks p n = shown.CheckedOutWith (length p.bytes) n
 
 -- the chunks that a row shows
 abbrev pub chunks_shown : SessionContent → Chunks
-chunks_shown (Home p) = shown.CheckedIn (cut_chunks p.value.lens.items p.value.bytes.items)
+chunks_shown (Home p) = shown.CheckedIn (cut_chunks p.value.lens.items p.value.bytes)
 chunks_shown (InHand received reserved) = shown.CheckedOutWith received reserved
 
 -- the session that a row shows
@@ -53,7 +58,7 @@ HasNumber number u = nat_cmp u.number number ≡ Equal
 
 -- the session, if there is one, is charged for at least the bytes of the buffer
 abbrev pub FitsCharge : Option Session → ChunkBuffer → Type 0
-FitsCharge o p = (s : Session) → o ≡ Some s → length p.bytes.items ≤ charged_length s
+FitsCharge o p = (s : Session) → o ≡ Some s → length p.bytes ≤ charged_length s
 
 -- a row, under its number
 abbrev pub entry_of : Upload → ℕ × Session
@@ -65,9 +70,9 @@ sessions_shown next rows = record { next = next; sessions = fmap.from_entries (m
 
 -- the lengths are positive and add up to the bytes, the hashes, if there are any, are those of the bytes, and no filled chunk is pending
 pub record IsConsistentBuffer (p : ChunkBuffer) : Type 0 where
-  pub lengths : sum p.lens.items ≡ length p.bytes.items
+  pub lengths : sum p.lens.items ≡ length p.bytes
   pub positive : AllByRecursion (λ n. 0 < n) p.lens.items
-  pub hash : HashesIfAny p.hashes p.bytes.items
+  pub hash : HashesIfAny p.hashes p.bytes
   pub none : p.whole ≡ None
 
 -- the chunks of a checked-in row are whole
@@ -77,12 +82,12 @@ HasConsistentBuffer (InHand received reserved) = Unit {0}
 
 -- the number of bytes that a row has received
 abbrev pub content_received : SessionContent → ℕ
-content_received (Home p) = length p.value.bytes.items
+content_received (Home p) = length p.value.bytes
 content_received (InHand received reserved) = received
 
 -- the number of bytes that a row counts in its tenant's usage
 abbrev pub content_charge : SessionContent → ℕ
-content_charge (Home p) = length p.value.bytes.items
+content_charge (Home p) = length p.value.bytes
 content_charge (InHand received reserved) = received + reserved
 
 -- the row is checked in
@@ -122,7 +127,11 @@ empty_hand key n p = record { key = key; chunks = cut_buffer p; reserved = n; la
 
 -- the checked-out session that a hand shows
 abbrev pub hand_shown : ℕ → ℕ → ℕ → ℕ → ChunkBuffer → Option ContentHash → HandRecord
-hand_shown tenant number received reserved p whole = record { key = (tenant, number); chunks = cut_chunks p.lens.items p.bytes.items; reserved = reserved; last = option_map (λ _. drop received p.bytes.items) whole }
+hand_shown tenant number received reserved p whole = record { key = (tenant, number); chunks = cut_chunks p.lens.items p.bytes; reserved = reserved; last = option_map (λ _. drop received p.bytes) whole }
+
+-- a hand is not sealed because of another digest only if its bytes were read and lack the digest
+abbrev pub IsUnsealedFor : Unsealed → HandRecord → Text → Type 0
+IsUnsealedFor why h digest = why ≡ Differs → (is_digest_of digest (hand_content h) ≡ false) × (is_read (hand_content h) ≡ true)
 
 -- the hashes are those of these bytes, or the digest is theirs by the algorithm that it names, or there is no hash
 abbrev pub IsHashOf : ContentHash → List ℕ → Type 0
@@ -130,17 +139,29 @@ IsHashOf (All hashes) bytes = HashesUpload hashes bytes
 IsHashOf (One digest) bytes = digest ≡ hash_text (algorithm_of digest) bytes
 IsHashOf Missing bytes = Unit {0}
 
+-- whatever bytes this hash is of, this is their digest by an algorithm
+abbrev pub IsDigestOfAll : ContentHash → Algorithm → List ℕ → Type 0
+IsDigestOfAll hashed algorithm digest = (bytes : List ℕ) → IsHashOf hashed bytes → digest ≡ hash_text algorithm bytes
+
 -- the buffer has the hash of all of its bytes, which may be missing
 abbrev pub HasHashOfAll : ChunkBuffer → Type 0
-HasHashOfAll p = (w : ContentHash) × (p.whole ≡ Some w) × IsHashOf w p.bytes.items
+HasHashOfAll p = (w : ContentHash) × (p.whole ≡ Some w) × IsHashOf w p.bytes
 
 -- this hash turns the hashes of the bytes before a chunk into those of the bytes with the chunk
 abbrev pub ExtendsHashes : ContentHash → Option UploadHashes → Option UploadHashes → List ℕ → Type 0
 ExtendsHashes hashed old new chunk = (before : List ℕ) → HashesIfAny old before → IsHashOf hashed (before ++ chunk) → HashesIfAny new (before ++ chunk)
 
+-- whatever bytes the hashes before a chunk are of, this is the hash of those bytes with the chunk
+abbrev pub IsHashWith : ContentHash → Option UploadHashes → List ℕ → Type 0
+IsHashWith hashed front chunk = (before : List ℕ) → HashesIfAny front before → IsHashOf hashed (before ++ chunk)
+
+-- whatever bytes this hash is of, the hashes, if there are any, are of the same bytes
+abbrev pub GivesHashes : ContentHash → Option UploadHashes → Type 0
+GivesHashes hashed front = (bytes : List ℕ) → IsHashOf hashed bytes → HashesIfAny front bytes
+
 -- the bytes and the hash of all of them are unchanged
 abbrev pub KeepsBytes : ChunkBuffer → ChunkBuffer → Type 0
-KeepsBytes old new = (new.bytes.items ≡ old.bytes.items) × (new.whole ≡ old.whole)
+KeepsBytes old new = (new.bytes ≡ old.bytes) × (new.whole ≡ old.whole)
 
 -- the bytes and the lengths are unchanged, and the hash of all bytes is removed
 abbrev pub LosesHash : ChunkBuffer → ChunkBuffer → Type 0
@@ -148,8 +169,8 @@ LosesHash old new = (new.bytes ≡ old.bytes) × (new.lens ≡ old.lens) × (new
 
 -- if a chunk is filled, it has the reserved length, there is room for its length, and the hash is that of all bytes
 abbrev pub IsFilled : ℕ → ℕ → ChunkBuffer → ℕ → Option ContentHash → Type 0
-IsFilled received reserved p room None = length p.bytes.items ≡ received
-IsFilled received reserved p room (Some whole) = (length p.bytes.items ≡ received + reserved) × (length p.lens.items < room) × IsHashOf whole p.bytes.items
+IsFilled received reserved p room None = length p.bytes ≡ received
+IsFilled received reserved p room (Some whole) = (length p.bytes ≡ received + reserved) × (length p.lens.items < room) × IsHashOf whole p.bytes
 
 -- `IsFilled` holds with the room that the buffer's lengths have
 abbrev pub IsFilledBuffer : ℕ → ℕ → ChunkBuffer → Type 0
@@ -159,7 +180,7 @@ IsFilledBuffer received reserved p = IsFilled received reserved p (vec_capacity 
 pub record IsHand (received reserved : ℕ) (p : ChunkBuffer) (room : ℕ) (whole : Option ContentHash) : Type 0 where
   pub lengths : sum p.lens.items ≡ received
   pub positive : AllByRecursion (λ n. 0 < n) p.lens.items
-  pub hash : HashesIfAny p.hashes (take received p.bytes.items)
+  pub hash : HashesIfAny p.hashes (take received p.bytes)
   pub fits : received + reserved < 2 ^ 64
   pub filled : IsFilled received reserved p room whole
 

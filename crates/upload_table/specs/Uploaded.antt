@@ -1,5 +1,6 @@
 -- The state of a table of upload sessions, and the changes that its calls make.
-use Rattle.std.specs.Prelude.{◌≡◌, ℕ, ◌+◌, ◌^◌, ◌≤◌, nat_le, ◌||◌, not, is_ok, Bool, Option, Some, IfSome, Result, Ok, Err, IfOk, IfErr, List, [], ◌∷◌, length, map, sum, sum_by, take, drop, replicate, slice_index, slice_set, if◌then◌else◌}
+use Rattle.content_files.specs.Notes.{is_read}
+use Rattle.std.specs.Prelude.{◌≡◌, ◌≢◌, ℕ, ◌+◌, ◌^◌, ◌≤◌, nat_le, ◌||◌, not, is_ok, true, Bool, Option, Some, IfSome, Result, Ok, Err, IfOk, IfErr, List, [], ◌∷◌, length, map, sum, sum_by, take, drop, replicate, slice_index, slice_set, if◌then◌else◌}
 use Rattle.std.specs.Option.{option_map_or}
 use Rattle.std.specs.List.{list_any}
 use Rattle.std.proofs.Common.{refl}
@@ -7,14 +8,14 @@ use Rattle.std.specs.FinMap as fmap
 use Rattle.std.specs.Coded.{Coded, code_by, coded×, coded_ℕ, coded_list, coded_option}
 use Rattle.blob_digest.specs.declared.range.ByteRange.{ByteRange}
 use Rattle.blob_digest.specs.declared.refusal.Refusal.{Refusal}
-use Rattle.blob_digest.specs.declared.refusal.Refusal.TheVariants.{LimitReached, DigestInvalid}
+use Rattle.blob_digest.specs.declared.refusal.Refusal.TheVariants.{LimitReached, DigestInvalid, UploadUnknown}
 use Rattle.blob_digest.specs.declared.upload_hashes.UploadHashes.{UploadHashes}
 use Rattle.blob_digest.specs.contracts.upload_hashes.UploadHashes as upload_hashes
 use Rattle.blob_digest.specs.Hashing.{HashesUpload}
 use Rattle.spec_lib.specs.Texts.{Text}
 use Rattle.blob_digest.specs.Keys.{SessionNumber}
 use Rattle.blob_digest.specs.Digests.{is_digest_of}
-use Rattle.blob_digest.specs.Outcomes.{DoesExactly, OutcomeIn}
+use Rattle.blob_digest.specs.Outcomes.{Does, OutcomeIn}
 use Rattle.spec_lib.specs.Outcomes.{◌>>=◌, refuse}
 use Rattle.store_model.specs.Sessions.{CheckedIn, CheckedOutWith, Session, Sessions, HandRecord, after_cancel_in, chunk_length_check_in, coded_session, number_and_length, open_count_in, is_of_repo, put_back_outcome_in, session_in, sessions_of, after_take_in, session_of_hand, hand_content, with_chunks}
 
@@ -148,7 +149,16 @@ finish_upload u h digest = do
 
 -- the call has the outcome of `finish_upload`, and an error leaves the hand's session checked in without the last chunk
 abbrev pub Finishes : Result ((Text × Text) × HandRemainder) Refusal → Uploaded → Uploaded → HandRecord → Text → Type 0
-Finishes result old new h digest = DoesExactly (λ r. r.0) result (cancel_upload old h) new (finish_upload old h digest)
+Finishes result old new h digest = Does (λ r. r.0) result (cancel_upload old h) new (finish_upload old h digest)
+
+-- the hand's content was read since the start, unless the call failed for another reason than its digest
+abbrev pub WasRead : {A : Type 0} → Result A Refusal → HandRecord → Type 0
+WasRead (Ok x) h = is_read (hand_content h) ≡ true
+WasRead (Err e) h = e ≡ DigestInvalid → is_read (hand_content h) ≡ true
+
+-- an error other than `UploadUnknown` comes only for a hand whose session is checked out
+abbrev pub WasCheckedOut : Refusal → Uploaded → HandRecord → Type 0
+WasCheckedOut e u h = e ≢ UploadUnknown → is_checked_out u h ≡ true
 
 -- ---- checking a session in again from its blob
 

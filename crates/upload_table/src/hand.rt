@@ -1,16 +1,18 @@
 //! A checked-out session: its chunks, outside the table.
 
-ghost use Rattle.std.specs.Prelude.{◌≡◌, ◌≢◌, ◌+◌, ◌<◌, ◌≤◌, ◌^◌, [], Some, None, IfSome, IfOk, IfErr, OnErr, true, false, if◌then◌else◌, is_some, length, sum_by, take};
+ghost use Rattle.std.specs.Prelude.{◌≡◌, ◌≢◌, ◌+◌, ◌<◌, ◌≤◌, ◌^◌, [], Some, None, IfSome, IfOk, IfErr, true, if◌then◌else◌, is_some, length, sum_by, take};
 ghost use Rattle.std.specs.List.{AllByRecursion};
 ghost use Rattle.blob_digest.specs.Digests.{hash_text, is_digest_of};
+ghost use Rattle.content_files.specs.Notes.{is_read};
 ghost use Rattle.store_model.specs.Sessions.{chunks_of, hand_content};
 ghost use Rattle.upload_table.specs.Uploaded.{cut_chunks, total_length, BeginsWith, HashesIfAny, IsRemainderOf};
 ghost use Rattle.store_model.specs.Sessions.{HasNoOpenReserve};
-ghost use Rattle.upload_table.specs.Rows.{all_lengths, cut_buffer, empty_hand, IsFilledBuffer, IsHashOf, IsConsistentBuffer, LosesHash};
+ghost use Rattle.upload_table.specs.Rows.{all_lengths, cut_buffer, empty_hand, IsFilledBuffer, IsHashOf, IsConsistentBuffer, IsUnsealedFor, LosesHash};
 
 use crate::hashing::{Hashing, digest_after};
 use crate::upload::{ChunkBuffer, extend, sum_of};
-use blob_digest::{Algorithm, Blob, Digest};
+use blob_digest::{Algorithm, Blob, Digest, UploadHashes};
+use content_files::{Content, ContentError, ContentStore};
 use std::marker::Model;
 use std::mem;
 
@@ -69,6 +71,15 @@ impl Model for PendingClose {
     ghost invariant = { λ s. AllByRecursion (λ n. 0 < n) s.pieces.value.lens.items × (s.pieces.value.whole ≡ None) };
 }
 
+/// Why a hand is not sealed.
+#[derive(Clone, Copy, Debug, PartialEq, Eq, Drop)]
+pub(crate) enum Unsealed {
+    /// The bytes have another digest.
+    Differs,
+    /// The bytes are not in memory, and not all of them were hashed by the digest's algorithm.
+    Unhashed,
+}
+
 impl Hand {
     /// Returns the unfilled hand of a session's chunks.
     pub(crate) fn new(
@@ -79,10 +90,10 @@ impl Hand {
         pieces: Box<ChunkBuffer>,
     ) -> Hand
         requires whole { IsConsistentBuffer pieces.value }
-        requires fits { length pieces.value.bytes.items + reserved < 2 ^ 64 }
+        requires fits { length pieces.value.bytes + reserved < 2 ^ 64 }
         ensures { result ≡ empty_hand (tenant, number) reserved pieces.value }
     {
-        let received = pieces.bytes.as_slice().len() as u64;
+        let received = pieces.bytes.len();
         Hand {
             tenant,
             number,
@@ -141,18 +152,22 @@ impl Hand {
     ///
     /// # Errors
     ///
-    /// The unchanged hand: out of memory.
+    /// The cause, and the unchanged hand.
     ///
     /// # Cost
     ///
     /// Linear in `bytes`. If the session's buffer grows, also linear in the bytes received so far.
-    pub fn fill(self, bytes: &[u8]) -> Result<Hand, Hand>
+    pub fn fill<F: ContentStore>(
+        self,
+        files: &F,
+        bytes: &[u8],
+    ) -> Result<Hand, (ContentError, Hand)>
         requires len { length bytes.now ≡ self.reserved }
         requires empty { self.last ≡ None }
         ensures ok { IfOk result (λ h. h ≡ record self { last = Some bytes.now }) }
-        ensures err { IfErr result (λ h. h ≡ self) }
+        ensures err { IfErr result (λ e. e.1 ≡ self) }
     {
-        self.fill_by(bytes, Hashing::Open)
+        self.fill_by(files, bytes, Hashing::Open)
     }
 
     /// Fills the chunk as `fill` does, but hashes it by one algorithm only, for a close with that algorithm.
@@ -162,37 +177,48 @@ impl Hand {
     ///
     /// # Errors
     ///
-    /// The unchanged hand: out of memory.
+    /// The cause, and the unchanged hand.
     ///
     /// # Cost
     ///
     /// As `fill`. With SHA-512, also linear in the received bytes that have not passed through SHA-512.
-    pub fn fill_last(self, bytes: &[u8], algorithm: Algorithm) -> Result<Hand, Hand>
+    pub fn fill_last<F: ContentStore>(
+        self,
+        files: &F,
+        bytes: &[u8],
+        algorithm: Algorithm,
+    ) -> Result<Hand, (ContentError, Hand)>
         requires len { length bytes.now ≡ self.reserved }
         requires empty { self.last ≡ None }
         ensures ok { IfOk result (λ h. h ≡ record self { last = Some bytes.now }) }
-        ensures err { IfErr result (λ h. h ≡ self) }
+        ensures err { IfErr result (λ e. e.1 ≡ self) }
     {
-        self.fill_by(bytes, Hashing::Last(algorithm))
+        self.fill_by(files, bytes, Hashing::Last(algorithm))
     }
 
     /// Fills the chunk as `fill` does, but hashes the bytes as `hashing` says.
     ///
-    /// The hand can be put back or finished in any case. If its bytes were not hashed, `finish` hashes all of them.
+    /// The hand can be put back or finished in any case. If its bytes were not hashed, `finish` hashes all of them. It can do
+    /// so only if they are in memory.
     ///
     /// # Errors
     ///
-    /// The unchanged hand: out of memory.
+    /// The cause, and the unchanged hand.
     ///
     /// # Cost
     ///
     /// As `fill` or `fill_last`. With `Later`, nothing is hashed. If the earlier chunks were not hashed, they are hashed
     /// too, unless a blob has the bytes.
-    pub fn fill_by(self, bytes: &[u8], hashing: Hashing<'_>) -> Result<Hand, Hand>
+    pub fn fill_by<F: ContentStore>(
+        self,
+        files: &F,
+        bytes: &[u8],
+        hashing: Hashing<'_>,
+    ) -> Result<Hand, (ContentError, Hand)>
         requires len { length bytes.now ≡ self.reserved }
         requires empty { self.last ≡ None }
         ensures ok { IfOk result (λ h. h ≡ record self { last = Some bytes.now }) }
-        ensures err { IfErr result (λ h. h ≡ self) }
+        ensures err { IfErr result (λ e. e.1 ≡ self) }
     {
         let Hand {
             tenant,
@@ -202,7 +228,7 @@ impl Hand {
             reserved,
             mut pieces,
         } = self;
-        let filled = extend(&mut pieces, bytes, hashing);
+        let filled = extend(&mut pieces, files, bytes, hashing);
         let hand = Hand {
             tenant,
             number,
@@ -213,7 +239,7 @@ impl Hand {
         };
         match filled {
             Ok(()) => Ok(hand),
-            Err(_) => Err(hand),
+            Err(error) => Err((error, hand)),
         }
     }
 
@@ -237,20 +263,24 @@ impl Hand {
 
     /// Moves the bytes into a blob of this digest.
     ///
-    /// `place` is the session's current index. If the bytes have another digest, returns the chunks without the
-    /// filled one.
+    /// `place` is the session's current index.
+    ///
+    /// # Errors
+    ///
+    /// The cause, and the chunks without the filled one.
     pub(crate) fn seal(
         self,
         digest: &Digest,
         place: usize,
-    ) -> Result<(Blob, PendingClose), Box<ChunkBuffer>>
+    ) -> Result<(Blob, PendingClose), (Unsealed, Box<ChunkBuffer>)>
         requires full { HasNoOpenReserve self }
         ensures blob { IfOk result (λ r. r.0 ≡ (digest.now, hand_content self)) }
         ensures agrees { IfOk result (λ r. is_digest_of digest.now (hand_content self) ≡ true) }
+        ensures read { IfOk result (λ r. is_read (hand_content self) ≡ true) }
         ensures rest { IfOk result (λ r. IsRemainderOf self r.1 r.0.1) }
-        ensures other { OnErr result (is_digest_of digest.now (hand_content self) ≡ false) }
-        ensures whole { IfErr result (λ p. IsConsistentBuffer p.value) }
-        ensures chunks { IfErr result (λ p. cut_buffer p.value ≡ self.chunks) }
+        ensures other { IfErr result (λ e. IsUnsealedFor e.0 self digest.now) }
+        ensures whole { IfErr result (λ e. IsConsistentBuffer e.1.value) }
+        ensures chunks { IfErr result (λ e. cut_buffer e.1.value ≡ self.chunks) }
     {
         let Hand {
             tenant,
@@ -260,8 +290,11 @@ impl Hand {
             reserved: _,
             mut pieces,
         } = self;
-        let found = whole_digest(&mut pieces, received as usize, digest.algorithm());
-        let none = Vec::new(*pieces.bytes.allocator());
+        let Some(found) = whole_digest(&mut pieces, received as usize, digest.algorithm()) else {
+            pieces.bytes.truncate(received as usize);
+            return Err((Unsealed::Unhashed, pieces));
+        };
+        let none = Content::resident(Vec::new(*pieces.lens.allocator()));
         let bytes = mem::replace(&mut pieces.bytes, none);
         match Blob::seal_found(bytes, found, digest) {
             Ok(blob) => Ok((
@@ -276,7 +309,7 @@ impl Hand {
             Err(mut refused) => {
                 refused.truncate(received as usize);
                 pieces.bytes = refused;
-                Err(pieces)
+                Err((Unsealed::Differs, pieces))
             }
         }
     }
@@ -298,16 +331,19 @@ impl Hand {
 /// there.
 fn add_last(pieces: &mut ChunkBuffer, received: usize, len: u64)
     requires last { IsFilledBuffer received len pieces.old }
-    requires front { HashesIfAny pieces.old.hashes (take received pieces.old.bytes.items) }
+    requires front { HashesIfAny pieces.old.hashes (take received pieces.old.bytes) }
     ensures none { pieces.new.whole ≡ None }
-    ensures bytes { pieces.new.bytes.items ≡ pieces.old.bytes.items }
+    ensures bytes { pieces.new.bytes ≡ pieces.old.bytes }
     ensures lens { pieces.new.lens.items ≡ all_lengths pieces.old len }
-    ensures hash { HashesIfAny pieces.new.hashes pieces.old.bytes.items }
+    ensures hash { HashesIfAny pieces.new.hashes pieces.old.bytes }
 {
     let Some(hashed) = mem::replace(&mut pieces.whole, None) else {
         return;
     };
-    hashed.move_into(&mut pieces.hashes, &pieces.bytes[received..]);
+    match pieces.bytes.bytes() {
+        Some(bytes) => hashed.move_into(&mut pieces.hashes, &bytes[received..]),
+        None => hashed.move_without_bytes(&mut pieces.hashes),
+    }
     if len > 0 {
         match pieces.lens.push(len) {
             Ok(()) => {}
@@ -318,20 +354,54 @@ fn add_last(pieces: &mut ChunkBuffer, received: usize, len: u64)
 
 /// Returns the digest of all bytes by an algorithm, and removes the hash of all bytes.
 ///
-/// `hashes` describes the first `received` bytes.
-fn whole_digest(pieces: &mut ChunkBuffer, received: usize, algorithm: Algorithm) -> Digest
-    requires within { received ≤ length pieces.old.bytes.items }
-    requires front { HashesIfAny pieces.old.hashes (take received pieces.old.bytes.items) }
-    requires all { IfSome pieces.old.whole (λ w. IsHashOf w pieces.old.bytes.items) }
-    ensures value { result ≡ hash_text algorithm pieces.old.bytes.items }
+/// `hashes` describes the first `received` bytes. Returns `None` if not all bytes were read since the start. If they are not
+/// in memory, returns `None` unless they were hashed by this algorithm.
+fn whole_digest(pieces: &mut ChunkBuffer, received: usize, algorithm: Algorithm) -> Option<Digest>
+    requires within { received ≤ length pieces.old.bytes }
+    requires front { HashesIfAny pieces.old.hashes (take received pieces.old.bytes) }
+    requires all { IfSome pieces.old.whole (λ w. IsHashOf w pieces.old.bytes) }
+    ensures value { IfSome result (λ d. d ≡ hash_text algorithm pieces.old.bytes) }
+    ensures read { IfSome result (λ d. is_read pieces.old.bytes ≡ true) }
     ensures kept { LosesHash pieces.old pieces.new }
-    ensures same { HashesIfAny pieces.new.hashes (take received pieces.old.bytes.items) }
+    ensures same { HashesIfAny pieces.new.hashes (take received pieces.old.bytes) }
 {
     let whole = mem::replace(&mut pieces.whole, None);
-    let bytes = pieces.bytes.as_slice();
-    match whole {
-        Some(hashed) => hashed.digest(&mut pieces.hashes, bytes, received, algorithm),
-        None => digest_after(&mut pieces.hashes, bytes, received, algorithm),
+    if !pieces.bytes.is_read() {
+        return None;
+    }
+    match pieces.bytes.bytes() {
+        Some(bytes) => match whole {
+            Some(hashed) => Some(hashed.digest(&mut pieces.hashes, bytes, received, algorithm)),
+            None => Some(digest_after(&mut pieces.hashes, bytes, received, algorithm)),
+        },
+        None => match whole {
+            Some(hashed) => hashed.digest_without_bytes(algorithm),
+            None => digest_of_front(&pieces.hashes, &pieces.bytes, received, algorithm),
+        },
+    }
+}
+
+/// Returns the digest of a content by SHA-256, if `front` describes all of it.
+///
+/// `front` describes the first `received` bytes.
+fn digest_of_front(
+    front: &Option<UploadHashes>,
+    content: &Content,
+    received: usize,
+    algorithm: Algorithm,
+) -> Option<Digest>
+    requires { HashesIfAny front.now (take received content.now) }
+    ensures { IfSome result (λ d. d ≡ hash_text algorithm content.now) }
+{
+    let Some(hashes) = front else {
+        return None;
+    };
+    if content.len() != received as u64 {
+        return None;
+    }
+    match algorithm {
+        Algorithm::Sha256 => Some(hashes.sha256()),
+        Algorithm::Sha512 => None,
     }
 }
 
@@ -349,7 +419,7 @@ impl PendingClose {
             mut pieces,
         } = self;
         let received = sum_of(pieces.lens.as_slice());
-        let mut bytes = blob.into_bytes();
+        let mut bytes = blob.into_content();
         bytes.truncate(received as usize);
         pieces.bytes = bytes;
         pieces

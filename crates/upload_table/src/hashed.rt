@@ -1,12 +1,13 @@
 //! The hash of all bytes of a session, including those of a last chunk.
 
-ghost use Rattle.std.specs.Prelude.{◌≡◌, ◌≤◌, ◌++◌, ℕ, List, length, take};
+ghost use Rattle.std.specs.Prelude.{◌≡◌, ◌≤◌, IfSome, drop, length, take};
 ghost use Rattle.blob_digest.specs.Digests.{hash_text};
-ghost use Rattle.upload_table.specs.Rows.{ExtendsHashes, IsHashOf};
+ghost use Rattle.upload_table.specs.Rows.{ExtendsHashes, GivesHashes, IsDigestOfAll, IsHashOf, IsHashWith};
 ghost use Rattle.upload_table.specs.Uploaded.{HashesIfAny};
 
 use crate::hashing::{Hashing, digest_after, digest_as, hashes_of};
 use blob_digest::{Algorithm, Digest, UploadHashes};
+use content_files::Content;
 
 /// The hash of all bytes of a session, once its last chunk is filled.
 #[derive(Drop)]
@@ -20,6 +21,43 @@ pub(crate) enum ContentHash {
 }
 
 impl ContentHash {
+    /// Hashes a content that ends with `chunk`, and of which `front` describes the first `received` bytes.
+    ///
+    /// If the content is not in memory, only the chunk is hashed, by SHA-256.
+    pub(crate) fn of_content(
+        front: &mut Option<UploadHashes>,
+        content: &Content,
+        chunk: &[u8],
+        received: usize,
+        hashing: Hashing<'_>,
+    ) -> ContentHash
+        requires within { received ≤ length content.now }
+        requires chunk { drop received content.now ≡ chunk.now }
+        requires front { HashesIfAny front.old (take received content.now) }
+        ensures same { HashesIfAny front.new (take received content.now) }
+        ensures all { IsHashOf result content.now }
+    {
+        match content.bytes() {
+            Some(bytes) => ContentHash::of(front, bytes, received, hashing),
+            None => ContentHash::of_chunk(front, chunk, hashing),
+        }
+    }
+
+    /// Hashes a chunk after bytes that `front` describes and that are not in memory.
+    fn of_chunk(front: &Option<UploadHashes>, chunk: &[u8], hashing: Hashing<'_>) -> ContentHash
+        ensures { IsHashWith result front.now chunk.now }
+    {
+        let Some(hashes) = front else {
+            return ContentHash::Missing;
+        };
+        match hashing {
+            Hashing::Open | Hashing::Last(Algorithm::Sha256) => {
+                ContentHash::All(hashes.updated(chunk))
+            }
+            _ => ContentHash::Missing,
+        }
+    }
+
     /// Hashes `bytes`, of which `front` describes the first `received`.
     pub(crate) fn of(
         front: &mut Option<UploadHashes>,
@@ -59,6 +97,37 @@ impl ContentHash {
                 }
             }
             ContentHash::Missing => *front = None,
+        }
+    }
+
+    /// Turns the hashes of the bytes before the last chunk into those of all bytes, which are not in memory.
+    ///
+    /// There are no hashes if only a digest was computed, or none.
+    pub(crate) fn move_without_bytes(self, front: &mut Option<UploadHashes>)
+        ensures { GivesHashes self front.new }
+    {
+        match self {
+            ContentHash::All(all) => *front = Some(all),
+            ContentHash::One(_) | ContentHash::Missing => *front = None,
+        }
+    }
+
+    /// Returns the digest of all bytes by an algorithm, if it was computed.
+    pub(crate) fn digest_without_bytes(self, algorithm: Algorithm) -> Option<Digest>
+        ensures { IfSome result (λ d. IsDigestOfAll self algorithm d) }
+    {
+        match self {
+            ContentHash::All(all) => match algorithm {
+                Algorithm::Sha256 => Some(all.sha256()),
+                Algorithm::Sha512 => None,
+            },
+            ContentHash::One(found) => {
+                if found.algorithm() != algorithm {
+                    return None;
+                }
+                Some(found)
+            }
+            ContentHash::Missing => None,
         }
     }
 

@@ -70,8 +70,10 @@ pub(crate) fn digest_as(
     ensures value { result ≡ hash_text (algorithm_of result) bytes.now }
 {
     let digest = blob.digest();
-    if blob.bytes() == bytes {
-        return digest;
+    if let Some(known) = blob.bytes() {
+        if known == bytes {
+            return digest;
+        }
     }
     digest_after(front, bytes, received, digest.algorithm())
 }

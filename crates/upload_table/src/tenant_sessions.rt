@@ -139,7 +139,7 @@ impl TenantSessions {
         requires home { is_checked_in (fmap.get self.old.sessions number) ≡ true }
         requires room { charged_in self.old + len < 2 ^ 64 }
         ensures whole { IsConsistentBuffer result.value }
-        ensures fits { length result.value.bytes.items + len < 2 ^ 64 }
+        ensures fits { length result.value.bytes + len < 2 ^ 64 }
         ensures chunks { chunks_here self.old number ≡ Some (home_chunks result.value) }
         ensures taken { self.new ≡ with_chunks_here self.old number (out_chunks result.value len) }
     {
@@ -159,14 +159,14 @@ impl TenantSessions {
         requires there { IsSome (fmap.get self.old.sessions number) }
         requires less { FitsCharge (fmap.get self.old.sessions number) pieces.value }
         requires whole { IsConsistentBuffer pieces.value }
-        ensures len { result ≡ length pieces.value.bytes.items }
+        ensures len { result ≡ length pieces.value.bytes }
         ensures home { self.new ≡ with_chunks_here self.old number (home_chunks pieces.value) }
     {
         match place_of(self.rows.as_slice(), number, Some(place)) {
             Ok(i) => {
                 let row = &mut self.rows[i];
                 let before = charge_of(&row.content);
-                let after = pieces.bytes.as_slice().len() as u64;
+                let after = pieces.bytes.len();
                 row.content = SessionContent::Home(pieces);
                 self.charged -= before - after;
                 after

@@ -10,14 +10,15 @@ ghost use Rattle.upload_table.specs.declared.upload.SessionContent.TheVariants.{
 use crate::hashed::ContentHash;
 use crate::hashing::Hashing;
 use blob_digest::{ByteRange, Refusal, RepoName, UploadHashes};
-use std::alloc::{AllocError, Global};
+use content_files::{Content, ContentError, ContentStore};
+use std::alloc::Global;
 use std::mem;
 
-/// The chunks of a session: their concatenated bytes, their lengths, and the hashes of the bytes, unless a chunk was not
-/// hashed.
+/// The chunks of a session: their concatenated bytes, in memory or in a file, their lengths, and the hashes of the bytes,
+/// unless a chunk was not hashed.
 #[derive(Drop)]
 pub(crate) struct ChunkBuffer {
-    pub(crate) bytes: Vec<u8>,
+    pub(crate) bytes: Content,
     pub(crate) lens: Vec<u64>,
     pub(crate) hashes: Option<UploadHashes>,
     /// The hash of all bytes. It is set while the buffer ends with a filled chunk that is not yet part of `lens` and
@@ -43,14 +44,14 @@ pub(crate) struct Upload {
 }
 
 impl ChunkBuffer {
-    /// Returns a buffer without chunks. Allocates nothing.
+    /// Returns a buffer without chunks, in memory. Allocates nothing.
     pub(crate) fn new(alloc: Global) -> ChunkBuffer
         ensures whole { IsConsistentBuffer result }
         ensures none { cut_buffer result ≡ [] }
-        ensures empty { result.bytes.items ≡ [] }
+        ensures empty { result.bytes ≡ [] }
     {
         ChunkBuffer {
-            bytes: Vec::new(alloc),
+            bytes: Content::resident(Vec::new(alloc)),
             lens: Vec::new(alloc),
             hashes: Some(UploadHashes::new()),
             whole: None,
@@ -63,7 +64,7 @@ pub(crate) fn received_of(content: &SessionContent) -> u64
     ensures { result ≡ content_received content.now }
 {
     match content {
-        SessionContent::Home(pieces) => pieces.bytes.as_slice().len() as u64,
+        SessionContent::Home(pieces) => pieces.bytes.len(),
         SessionContent::InHand {
             received,
             reserved: _,
@@ -77,7 +78,7 @@ pub(crate) fn charge_of(content: &SessionContent) -> u64
     ensures { result ≡ content_charge content.now }
 {
     match content {
-        SessionContent::Home(pieces) => pieces.bytes.as_slice().len() as u64,
+        SessionContent::Home(pieces) => pieces.bytes.len(),
         SessionContent::InHand { received, reserved } => *received + *reserved,
     }
 }
@@ -145,24 +146,34 @@ pub(crate) fn length_after(
 /// Appends the bytes of a chunk, reserves room for its length, and sets the hash of all bytes.
 ///
 /// The hashes of the earlier chunks are kept, so removing the last chunk requires no new hashing.
-pub(crate) fn extend(
+///
+/// # Errors
+///
+/// The cause. The bytes are unchanged.
+pub(crate) fn extend<F: ContentStore>(
     pieces: &mut ChunkBuffer,
+    files: &F,
     chunk: &[u8],
     hashing: Hashing<'_>,
-) -> Result<(), AllocError>
-    requires { HashesIfAny pieces.old.hashes pieces.old.bytes.items }
+) -> Result<(), ContentError>
+    requires { HashesIfAny pieces.old.hashes pieces.old.bytes }
     ensures hash { OnOk result (HasHashOfAll pieces.new) }
-    ensures bytes { OnOk result (pieces.new.bytes.items ≡ pieces.old.bytes.items ++ chunk.now) }
+    ensures bytes { OnOk result (pieces.new.bytes ≡ pieces.old.bytes ++ chunk.now) }
     ensures room { OnOk result (length pieces.new.lens.items < vec_capacity pieces.new.lens) }
     ensures err { OnErr result (KeepsBytes pieces.old pieces.new) }
     ensures lens { pieces.new.lens.items ≡ pieces.old.lens.items }
-    ensures front { HashesIfAny pieces.new.hashes pieces.old.bytes.items }
+    ensures front { HashesIfAny pieces.new.hashes pieces.old.bytes }
 {
-    let received = pieces.bytes.len();
+    let received = pieces.bytes.len() as usize;
     pieces.lens.reserve(1)?;
-    pieces.bytes.extend_from_slice(chunk)?;
-    let bytes = pieces.bytes.as_slice();
-    let whole = ContentHash::of(&mut pieces.hashes, bytes, received, hashing);
+    pieces.bytes.extend(files, chunk)?;
+    let whole = ContentHash::of_content(
+        &mut pieces.hashes,
+        &pieces.bytes,
+        chunk,
+        received,
+        hashing,
+    );
     pieces.whole = Some(whole);
     Ok(())
 }

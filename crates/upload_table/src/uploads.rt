@@ -7,13 +7,13 @@ ghost use Rattle.blob_digest.specs.Digests.{is_digest_of};
 ghost use Rattle.blob_digest.specs.Outcomes.{Does, DoesExactly};
 ghost use Rattle.blob_digest.specs.declared.refusal.Refusal.TheVariants.{Memory};
 ghost use Rattle.store_model.specs.Sessions.{hand_in, checked_in_length, session_charges, is_checked_in, received_in};
-ghost use Rattle.upload_table.specs.Uploaded.{ErrIs, Finishes, FirstIs, OkIs, ReopensTo, check, has_sessions, is_checked_out, listed_sessions, open_session, repo_session};
+ghost use Rattle.upload_table.specs.Uploaded.{ErrIs, Finishes, FirstIs, OkIs, ReopensTo, WasCheckedOut, WasRead, check, has_sessions, is_checked_out, listed_sessions, open_session, repo_session};
 ghost use Rattle.upload_table.specs.Uploaded.{checked_in_with, cancel_upload, initial_uploads, put_back_upload, repo_at, start_upload, take_upload, without_upload, CanReopen, reopened_table};
 ghost use Rattle.store_model.specs.Sessions.{HasNoOpenReserve};
 ghost use Rattle.upload_table.specs.Rows.{cut_buffer, found_session, HasConsistentBuffer, FitsCharge, IsConsistentBuffer};
 ghost use Rattle.upload_table.specs.Tenants.{no_sessions};
 
-use crate::hand::{Hand, PendingClose};
+use crate::hand::{Hand, PendingClose, Unsealed};
 use crate::repo_sessions::RepoSessions;
 use crate::tenant_sessions::TenantSessions;
 use crate::upload::{ChunkBuffer, SessionContent, Upload, is_in_hand, length_after, received_of};
@@ -186,7 +186,7 @@ impl Uploads {
     {
         let (place, row) = self.session(tenant, repo, number)?;
         match &row.content {
-            SessionContent::Home(pieces) => Ok((pieces.bytes.as_slice().len() as u64, place)),
+            SessionContent::Home(pieces) => Ok((pieces.bytes.len(), place)),
             SessionContent::InHand { .. } => Err(Refusal::Busy),
         }
     }
@@ -276,6 +276,8 @@ impl Uploads {
     /// - `UploadUnknown`: no session of this table is checked out with the hand's number and lengths. The hand is
     ///   dropped, and nothing changes.
     /// - `DigestInvalid`: the bytes have another digest. The session is checked in without the filled chunk.
+    /// - `Memory`: the bytes are not in memory, and not all of them were hashed by the digest's algorithm. The session is
+    ///   checked in without the filled chunk.
     ///
     /// # Cost
     ///
@@ -291,6 +293,8 @@ impl Uploads {
         ensures agrees { IfOk result (λ r. is_digest_of r.0.0 r.0.1 ≡ true) }
         ensures key { IfOk result (λ r. r.1.key ≡ hand.key) }
         ensures restores { IfOk result (λ r. ReopensTo self.new r (cancel_upload self.old hand)) }
+        ensures taken { IfErr result (λ e. WasCheckedOut e self.old hand) }
+        ensures read { WasRead result hand }
     {
         let Some(place) = self.taken_place(&hand) else {
             hand.discard();
@@ -299,9 +303,12 @@ impl Uploads {
         let (tenant, number) = (hand.tenant(), hand.number());
         match hand.seal(digest, place) {
             Ok(sealed) => Ok(sealed),
-            Err(pieces) => {
+            Err((why, pieces)) => {
                 let _ = self.bring_home(tenant, number, place, pieces);
-                Err(Refusal::DigestInvalid)
+                match why {
+                    Unsealed::Differs => Err(Refusal::DigestInvalid),
+                    Unsealed::Unhashed => Err(Refusal::Memory),
+                }
             }
         }
     }
@@ -350,7 +357,7 @@ impl Uploads {
         requires there { IsSome (fmap.get self.old.sessions (tenant, number)) }
         requires less { FitsCharge (fmap.get self.old.sessions (tenant, number)) pieces.value }
         requires whole { IsConsistentBuffer pieces.value }
-        ensures len { result ≡ length pieces.value.bytes.items }
+        ensures len { result ≡ length pieces.value.bytes }
         ensures home { self.new ≡ checked_in_with self.old (tenant, number)
             (cut_buffer pieces.value) }
     {

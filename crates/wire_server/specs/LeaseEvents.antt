@@ -1,6 +1,6 @@
 -- The events of a table of leases.
 use Rattle.std.specs.Prelude.{◌≡◌, ℕ, true, Option, Result, MatchOption, MatchResult}
-use Rattle.blob_digest.specs.Digests.{is_digest_of}
+use Rattle.blob_digest.specs.Vouched.{has_digest}
 use Rattle.blob_digest.specs.declared.refusal.Refusal.{Refusal}
 use Rattle.blob_digest.specs.declared.refusal.Refusal.TheVariants.{Memory}
 use Rattle.spec_lib.specs.Texts.{Text}
@@ -18,7 +18,7 @@ pub data TableEvent : Type 0 where
 -- the piece is that from a start to an end, both included, of bytes that have the digest
 pub record IsPieceOf (digest : Text) (start end : ℕ) (piece : Text) : Type 0 where
   pub bytes : Text
-  pub content : is_digest_of digest bytes ≡ true
+  pub content : has_digest digest bytes ≡ true
   pub part : piece ≡ bytes_between bytes start end
 
 -- a table that is given a lease keeps it under the number, or gives it back

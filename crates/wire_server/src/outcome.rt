@@ -5,7 +5,7 @@ ghost use Rattle.wire_server.specs.Outcomes.{Sends, SendsAnswer, SendsOutcome, b
 ghost use Rattle.store_api.specs.Answers.{answer_of};
 
 use std::alloc::Global;
-use std::io::{self, Write};
+use std::io::{self, ErrorKind, Write};
 use store_api::{Piece, Reply};
 use wire_format::{write_digest, write_refusal, write_reply};
 
@@ -59,6 +59,17 @@ fn write_body<W: Write>(output: &mut W, first: u64, body: &[u8]) -> io::Result<(
     write_reply(output, 0, first, 0, b"", body)
 }
 
+/// Writes the reply of a number and a piece, without a copy of its bytes. Fails if they are not in memory, and writes nothing
+/// then.
+fn write_piece<W: Write>(output: &mut W, first: u64, piece: &Piece) -> io::Result<()>
+    ensures { Sends W.contents result output.old output.new (body_reply first piece.now) }
+{
+    match piece.bytes() {
+        Some(bytes) => write_body(output, first, bytes),
+        None => Err(io::Error::from(ErrorKind::Unsupported)),
+    }
+}
+
 /// Writes the reply that reports an answer of the store or of the table of leases.
 fn write_answer<W: Write>(alloc: Global, output: &mut W, reply: &Reply) -> io::Result<()>
     ensures { SendsAnswer W.contents result output.old output.new (answer_of reply.now) }
@@ -73,7 +84,7 @@ fn write_answer<W: Write>(alloc: Global, output: &mut W, reply: &Reply) -> io::R
             write_numbers(output, 0, 0, 0),
         Reply::Manifest(digest) => write_digest(alloc, output, 0, digest),
         Reply::Body(manifest) => write_body(output, 0, manifest.bytes()),
-        Reply::Bytes(piece) => write_body(output, 0, piece.bytes()),
+        Reply::Bytes(piece) => write_piece(output, 0, piece),
         Reply::Swept(swept) => write_numbers(
             output,
             0,
@@ -89,7 +100,7 @@ fn write_answer<W: Write>(alloc: Global, output: &mut W, reply: &Reply) -> io::R
 ///
 /// # Errors
 ///
-/// A write failed. Then a part of the reply may have been written.
+/// A write failed, or the bytes of a piece are not in memory. Then a part of the reply may have been written.
 ///
 /// # Cost
 ///
@@ -109,7 +120,7 @@ pub fn write_outcome<W: Write>(
             *size,
             u64::from(*number),
         ),
-        RequestResult::Fetched { size, piece } => write_body(output, *size, piece.bytes()),
+        RequestResult::Fetched { size, piece } => write_piece(output, *size, piece),
         RequestResult::QueryNumbers { first, second } => write_numbers(output, 0, *first, *second),
         RequestResult::NoCommand => write_numbers(output, NO_COMMAND, 0, 0),
     }

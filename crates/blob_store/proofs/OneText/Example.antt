@@ -12,7 +12,7 @@ use Rattle.spec_lib.specs.Texts.{Text}
 use Rattle.ghost_log.specs.Entries.{entry, events_by}
 use Rattle.ghost_log.specs.declared.view.Entry.{Entry}
 use Rattle.store_model.specs.Amounts.{Amounts}
-use Rattle.store_model.specs.Catalog.{Catalog, Session, Tenant, is_repo_of_tenant, opening}
+use Rattle.store_model.specs.Catalog.{Catalog, Session, Tenant, in_memory, is_repo_of_tenant, opening}
 use Rattle.store_model.specs.Commands.{with_new_session, start}
 use Rattle.store_model.specs.Histories.{LeadsTo, CommandCall, State, Step}
 use Rattle.store_model.specs.Runs.{Number as Numbered}
@@ -60,7 +60,7 @@ share t one two here there own own' = lane_is t one here own ∙ sym (lane_is t 
 -- ---- a history in which the second lane's step is the first
 
 abbrev book : Catalog
-book = opening tenants 64 10
+book = opening tenants 64 (in_memory 10)
 
 abbrev other_open : Catalog
 other_open = with_new_session book 1 (codes "other/x")
@@ -114,7 +114,7 @@ others n le = rw (ne_eqb 1 n (λ e. omega (arith, le, e)), ne_eqb 0 n (λ e. ome
 run : IsInterleaved book 2 rows answers both_open
 run = record { order = order; state = state both_open 2; legal = legal; left = refl; lanes = lanes; others = others }
 
-played : PlayedWithinLimits tenants 64 10 2 rows answers both_open
+played : PlayedWithinLimits tenants 64 (in_memory 10) 2 rows answers both_open
 unfolding run
 played = record {
   some = omega arith;
@@ -123,5 +123,5 @@ played = record {
   free = record { fair = record { run = legal; no_collision = λ d a b first second. absurd (let lt = first.1 in omega arith) }; own = (tt, (tt, tt)) };
 }
 
-pub same_for_all : (m : ℕ) (answers' : List Answer) (last' : Catalog) → PlayedWithinLimits tenants 64 10 m rows answers' last' → WriteTheSame answers answers' both_open last'
-same_for_all m answers' last' other = one_text tenants 64 10 rows share commands 2 m answers answers' both_open last' played other
+pub same_for_all : (m : ℕ) (answers' : List Answer) (last' : Catalog) → PlayedWithinLimits tenants 64 (in_memory 10) m rows answers' last' → WriteTheSame answers answers' both_open last'
+same_for_all m answers' last' other = one_text tenants 64 (in_memory 10) rows share commands 2 m answers answers' both_open last' played other

@@ -9,7 +9,7 @@ use Rattle.std.proofs.lemmas.Nat.{mod_below}
 use Rattle.std.proofs.lemmas.Slice.Zip.{firsts-zip}
 use Rattle.spec_lib.proofs.Lists.{all_weaker, filter-map}
 use Rattle.store_model.specs.BookText.{book_text}
-use Rattle.store_model.specs.Catalog.{Catalog, Tenant, is_repo_of_tenant, opening, tenant_of}
+use Rattle.store_model.specs.Catalog.{Catalog, Tenant, is_repo_of_tenant, opening, tenant_of, ContentRules}
 use Rattle.store_model.specs.Histories.{initial_state}
 use Rattle.store_model.specs.HistoryIsolation.{is_step_of, requests_of}
 use Rattle.store_model.specs.HistoryIsolation as model
@@ -96,11 +96,11 @@ module _ (tenants : List Tenant) where
 
 -- ---- workers
 
-module _ (tenants : List Tenant) (slots max_blob : ℕ) (rows : List RowView) (share : ShareNoTenant tenants rows) (commands : NeitherLeaseNorSweep rows) where
+module _ (tenants : List Tenant) (slots : ℕ) (contents : ContentRules) (rows : List RowView) (share : ShareNoTenant tenants rows) (commands : NeitherLeaseNorSweep rows) where
   abbrev book : Catalog
-  book = opening tenants slots max_blob
+  book = opening tenants slots contents
 
-  module _ (n : ℕ) (answers : List Answer) (last : Catalog) (play : PlayedWithinLimits tenants slots max_blob n rows answers last) where
+  module _ (n : ℕ) (answers : List Answer) (last : Catalog) (play : PlayedWithinLimits tenants slots contents n rows answers last) where
     abbrev lines : List Line
     lines = zip rows answers
 
@@ -161,14 +161,14 @@ module _ (tenants : List Tenant) (slots max_blob : ℕ) (rows : List RowView) (s
           subst (AreLineSteps (filter owns lines)) (sym (only_by (is_step_of tenants t) worker play.run.order no_steps))
           (subst (λ ls. AreLineSteps ls (filter (is_step_of tenants t) (events_by worker play.run.order))) (passed_all owns (own worker) lines (turns worker true (eq-eqb worker worker refl))) mine)
 
-      undisturbed : model.IsUnaffectedHistory tenants slots max_blob t (steps_of play.run.order) play.run.state play.free.fair
+      undisturbed : model.IsUnaffectedHistory tenants slots contents t (steps_of play.run.order) play.run.state play.free.fair
       undisturbed = own_of tenants t (steps_of play.run.order) (initial_state book) play.run.state play.free.fair.run play.free.own
 
       -- which they make alone, with these replies
       alone : (model.steps_of tenants t (steps_of play.run.order) ≡ (rows_alone book (filter (λ row. is_repo_of_tenant tenants t row.repo) rows)).0)
           × (answers_of (filter owns lines) ≡ (rows_alone book (filter (λ row. is_repo_of_tenant tenants t row.repo) rows)).1)
       alone =
-          let h = alone_in_histories tenants slots max_blob t (steps_of play.run.order) play.run.state play.free.fair undisturbed in
+          let h = alone_in_histories tenants slots contents t (steps_of play.run.order) play.run.state play.free.fair undisturbed in
           let is : rows_of (filter owns lines) ≡ filter (λ row. is_repo_of_tenant tenants t row.repo) rows = sym (filter-map (λ row. is_repo_of_tenant tenants t row.repo) (λ (l : Line). l.0) lines) ∙ ap (filter (λ row. is_repo_of_tenant tenants t row.repo)) rows_are in
           let k = told_alone (filter owns lines) (model.steps_of tenants t (steps_of play.run.order)) book own_steps h.replies in
           (k.0 ∙ ap (λ rs. (rows_alone book rs).0) is, k.1 ∙ ap (λ rs. (rows_alone book rs).1) is)
@@ -178,17 +178,17 @@ module _ (tenants : List Tenant) (slots max_blob : ℕ) (rows : List RowView) (s
     unknown = all_shares (IsUnknown tenants) n play.some lines (λ w lt. all_unknown tenants (filter (own w) lines) (events_by w play.run.order) (worker_steps w lt) (told_by w))
 
 pub one_text : WorkersWriteTheSame
-one_text tenants slots max_blob rows share commands n m answers answers' last last' play play' =
-    let by : (t : ℕ) → _ = λ t. alone tenants slots max_blob rows share commands n answers last play t in
-    let by' : (t : ℕ) → _ = λ t. alone tenants slots max_blob rows share commands m answers' last' play' t in
+one_text tenants slots contents rows share commands n m answers answers' last last' play play' =
+    let by : (t : ℕ) → _ = λ t. alone tenants slots contents rows share commands n answers last play t in
+    let by' : (t : ℕ) → _ = λ t. alone tenants slots contents rows share commands m answers' last' play' t in
     record {
       replies =
-          all_alike tenants rows answers answers' play.one_each play'.one_each (λ t. (by t).1 ∙ sym (by' t).1) (unknown tenants slots max_blob rows share commands n answers last play)
-          (unknown tenants slots max_blob rows share commands m answers' last' play');
+          all_alike tenants rows answers answers' play.one_each play'.one_each (λ t. (by t).1 ∙ sym (by' t).1) (unknown tenants slots contents rows share commands n answers last play)
+          (unknown tenants slots contents rows share commands m answers' last' play');
       book =
           sym (ap book_text play.run.left)
-          ∙ same_text_after tenants slots max_blob (steps_of play.run.order) (steps_of play'.run.order) play.run.state play'.run.state play.free.fair
-          (undisturbed tenants slots max_blob rows share commands n answers last play) play'.free.fair
-          (undisturbed tenants slots max_blob rows share commands m answers' last' play') (λ t. ap requests_of ((by t).0 ∙ sym (by' t).0))
+          ∙ same_text_after tenants slots contents (steps_of play.run.order) (steps_of play'.run.order) play.run.state play'.run.state play.free.fair
+          (undisturbed tenants slots contents rows share commands n answers last play) play'.free.fair
+          (undisturbed tenants slots contents rows share commands m answers' last' play') (λ t. ap requests_of ((by t).0 ∙ sym (by' t).0))
           ∙ ap book_text play'.run.left;
     }

@@ -94,15 +94,15 @@ module _ (rows : List RowView) (answers : List Answer) (size : length answers �
       ∙ sym (sum_by-map (λ (row : RowView). length row.body) (λ (p : Pair). p.0) (zip rows answers)) ∙ ap (sum_by (λ (row : RowView). length row.body)) (keys_of-zip rows answers size)
 
 pub rows_have_orders : RowsHaveOrders
-rows_have_orders tenants slots max_blob workers rows answers last sound some size few calm together =
-    let C : Catalog = opening tenants slots max_blob in
+rows_have_orders tenants slots contents workers rows answers last sound some size few calm together =
+    let C : Catalog = opening tenants slots contents in
     let steps : List Step = steps_of together.order in
     let one = ordered C workers rows answers last sound size calm together in
     let same : IsPermutation (zip rows answers) one.order = permuted (λ (p : Pair). p.0.lane % workers) workers (λ p. mod_below p.0.lane workers some) (zip rows answers) one.order one.each in
     let many = as_many rows answers size one.order same in
     let long = as_long rows answers size one.order same in
     let calm_all = calm_steps (initial_state C) steps together.state together.legal one.mild one.sound (let a = one.few in let b = few.number in omega (arith, a, b, many)) (let a = one.small in let b = few.bytes in omega (arith, a, b, long)) in
-    let run = histories_are_runs tenants slots max_blob steps together.state one.events sound together.legal calm_all one.whole one.named in
+    let run = histories_are_runs tenants slots contents steps together.state one.events sound together.legal calm_all one.whole one.named in
     let plays = told_plays workers one.order one.events C together.state.catalog no_leases (λ w. no_leases) one.told run (λ name. refl) in
     record {
       order = one.order;

@@ -36,7 +36,7 @@ module _ (L : Layers) (book : IsBook L) (key : SessionNumber) (s : Session) (chu
         rw (get_or-set_other L.links.charges key.0 v m 0 other) (omega arith)
   ]
 
-  pub IsBook-chunks : AllByRecursion (λ c. c ≢ []) (at_home chunks) → charged_length (record s { chunks = chunks }) ≤ L.max_blob → (key.0 < length L.links.tenants → used_bytes C key.0 + charged_length (record s { chunks = chunks }) ≤ quota_of C key.0 + charged_length s) →
+  pub IsBook-chunks : AllByRecursion (λ c. c ≢ []) (at_home chunks) → charged_length (record s { chunks = chunks }) ≤ L.contents.max_blob → (key.0 < length L.links.tenants → used_bytes C key.0 + charged_length (record s { chunks = chunks }) ≤ quota_of C key.0 + charged_length s) →
       IsBook (record L { links = record L.links { charges = slice_set L.links.charges key.0 m }; uploads = with_sessions L.uploads (with_chunks L.uploads.sessions key s chunks) })
   IsBook-chunks nonempty small within = record {
     sound = Sound-chunks C key s chunks found nonempty small within book.sound;

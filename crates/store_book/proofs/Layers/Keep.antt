@@ -13,7 +13,6 @@ use Rattle.std.proofs.lemmas.Map.Lookups.{exact_bytes}
 use Rattle.spec_lib.proofs.Options.{some_value, some_same}
 use Rattle.spec_lib.specs.Sets as set
 use Rattle.blob_digest.proofs.KeyOrders.{link_cmp_total, exact_link}
-use Rattle.spec_lib.proofs.Texts.{same_text_is}
 use Rattle.spec_lib.proofs.Sums.{insert_back}
 use Rattle.spec_lib.proofs.Sets.{insert_there}
 use Rattle.slot_table.specs.declared.phase.Phase.TheVariants as phase
@@ -21,19 +20,19 @@ use Rattle.slot_table.specs.Slots.{Slot, StoredBlob, SlotContent, Free, Used, Re
 use Rattle.link_table.specs.Linked.{Linked}
 use Rattle.spec_lib.specs.Texts.{Text, text_cmp}
 use Rattle.store_model.specs.Catalog.{Link, Resident, Catalog, holds}
-use Rattle.store_model.specs.Commands.{was_leased, has_same_bytes, is_full_for}
+use Rattle.store_model.specs.Commands.{was_leased, fits_stored, is_full_for, fits_content}
 use Rattle.store_model.specs.Invariant.{WellFormed}
 use Rattle.store_book.specs.Layers.{Layers, links_of, lent_marks, resident_of, catalog_from, book_catalog, IsTied}
-use Rattle.store_book.specs.Internal.Storing.{with_sized_link, with_revived_slot, IsStored, is_existing, is_added}
+use Rattle.store_book.specs.Internal.Storing.{with_sized_link, with_renewed_slot, renew, IsStored, is_existing, is_added}
 use Rattle.spec_lib.proofs.Maps.{get-insert_at}
 use Rattle.store_book.proofs.Slots.LeaseMarks.{length-marks, marks-on, marks-fill, unmarked}
-use Rattle.store_book.proofs.Slots.Changed.{resident_at, mark-KeepsTies, catalog-change, IsTied-change}
-use Rattle.store_model.proofs.Invariant.Blobs.{WellFormed-put}
+use Rattle.store_book.proofs.Slots.Changed.{resident_at, renew-KeepsTies, catalog-change, IsTied-change}
 use Rattle.store_book.proofs.Layers.Sums.{holds_is}
 use Rattle.slot_table.proofs.Finding.{held_of}
 use Rattle.store_book.proofs.Layers.Ties.{links_of-insert, catalog-relink, IsTied-link, link_up-KeepsBlob, slot_is_resident, not_resident, rooms}
 use Rattle.store_book.proofs.Slots.Filled.{stored}
 use Rattle.store_book.proofs.Slots.Placed.{catalog-fill, IsTied-fill, stored_blob_at-fill, free_slot}
+use Rattle.store_model.proofs.Commands.Fits.{fits_long, fits_same}
 use Rattle.store_model.proofs.Invariant.Links.{unlinked}
 use Rattle.store_book.proofs.Slots.Writes.{stored_blob_at-on}
 
@@ -89,13 +88,10 @@ module _ (L : Layers) (repo : Text) (blob : Text × Text) where
     pub catalog : book_catalog (record L { links = l'; slots = slots' }) ≡ keeping C repo blob
     pub tied : IsTied l' slots' (lent_marks slots') (book_catalog (record L { links = l'; slots = slots' }))
     pub links : l' ≡ with_sized_link L.links repo blob
-    pub same : has_same_bytes (get C.residents blob.0) blob.1 ≡ true
+    pub same : fits_stored C.contents (get C.residents blob.0) blob.1 ≡ true
     pub housed : is_full_for C blob.0 ≡ false
 
-  module _ (tied : IsTied L.links L.slots (lent_marks L.slots) C) (lawful : WellFormed C) (there : set.contains L.links.repos repo ≡ true) where
-    named : (k : Link) → set.contains (links_of L.links.links) k ≡ true → set.contains L.links.repos k.0 ≡ true
-    named k h = (lawful.links k h).repo
-
+  module _ (tied : IsTied L.links L.slots (lent_marks L.slots) C) (there : set.contains L.links.repos repo ≡ true) (named : (k : Link) → set.contains (links_of L.links.links) k ≡ true → set.contains L.links.repos k.0 ≡ true) where
     module _ (k : ℕ) (h : StoredBlob) (at : stored_blob_at L.slots k ≡ Some h) (digest : h.digest ≡ blob.0) (bytes : h.bytes ≡ blob.1) (live : h.condemned ≡ false) where
       resident : (b : Resident) × (get C.residents h.digest ≡ Some b) × (b.bytes ≡ h.bytes) × (b.condemned ≡ h.condemned)
       resident = slot_is_resident L.slots (lent_marks L.slots) (length-marks L.slots) tied.distinct k h at
@@ -113,8 +109,8 @@ module _ (L : Layers) (repo : Text) (blob : Text × Text) where
       size : length blob.1 ≡ length resident.0.bytes
       size = ap length (sym (resident.2 ∙ bytes))
 
-      same_there : has_same_bytes (get C.residents blob.0) blob.1 ≡ true
-      same_there = ap (λ o. has_same_bytes o blob.1) kept ∙ same_text_is resident.0.bytes blob.1 (resident.2 ∙ bytes)
+      same_there : fits_stored C.contents (get C.residents blob.0) blob.1 ≡ true
+      same_there = ap (λ o. fits_stored C.contents o blob.1) kept ∙ fits_same C.contents.on_disk resident.0.bytes blob.1 (resident.2 ∙ bytes)
 
       housed_there : is_full_for C blob.0 ≡ false
       housed_there = ap (λ o. not (is_some o) && nat_le C.slots (len C.residents + C.retired)) kept
@@ -175,6 +171,7 @@ module _ (L : Layers) (repo : Text) (blob : Text × Text) where
               housed = housed_there;
             }
 
+  module _ (tied : IsTied L.links L.slots (lent_marks L.slots) C) (lawful : WellFormed C) (there : set.contains L.links.repos repo ≡ true) where
     module _ (k : ℕ) (none : slot_of L.slots blob.0 ≡ None) (free : phase_at L.slots k ≡ phase.Free) where
       abbrev slots1 : List Slot
       slots1 = with_slot L.slots k (fill blob)
@@ -224,7 +221,7 @@ module _ (L : Layers) (repo : Text) (blob : Text × Text) where
             catalog = (λ i. catalog_from (record L { links = with_sized_link L.links repo blob; slots = slots2 }) (sym marks i)) ∙ catalog_now;
             tied = subst (λ (m : List Bool). IsTied (with_sized_link L.links repo blob) slots2 m (catalog_from (record L { links = with_sized_link L.links repo blob; slots = slots2 }) m)) marks tied_now;
             links = refl;
-            same = ap (λ o. has_same_bytes o blob.1) absent;
+            same = ap (λ o. fits_stored C.contents o blob.1) absent;
             housed = ap (λ o. not (is_some o) && nat_le C.slots (len C.residents + C.retired)) absent ∙ has_room;
           }
         where
@@ -241,25 +238,28 @@ module _ (L : Layers) (repo : Text) (blob : Text × Text) where
   B = book_catalog L
 
   module _ (tied : IsTied L.links L.slots (lent_marks L.slots) B) (lawful : WellFormed B) (there : set.contains L.links.repos repo ≡ true) where
-    module _ (k : ℕ) (h : StoredBlob) (at : stored_blob_at L.slots k ≡ Some h) (digest : h.digest ≡ blob.0) (bytes : h.bytes ≡ blob.1) where
+    module _ (k : ℕ) (h : StoredBlob) (at : stored_blob_at L.slots k ≡ Some h) (digest : h.digest ≡ blob.0) (fits : fits_content L.contents.on_disk h.bytes blob.1 ≡ true) where
+      long : length h.bytes ≡ length blob.1
+      long = fits_long L.contents.on_disk h.bytes blob.1 fits
+
       abbrev live_again : List Slot
-      live_again = with_revived_slot L.slots k
+      live_again = with_renewed_slot L.slots k blob.1
 
       abbrev live_one : Resident
-      live_one = record { bytes = h.bytes; condemned = false; lent = h.lent }
+      live_one = record { bytes = blob.1; condemned = false; lent = h.lent }
 
       -- the catalog with the blob live
       abbrev D : Catalog
       D = record B { residents = insert B.residents h.digest live_one }
 
       catalog_live_again : book_catalog (record L { slots = live_again }) ≡ D
-      catalog_live_again = catalog-change (mark false) (mark-KeepsTies false) L k h at tied
+      catalog_live_again = catalog-change (renew blob.1) (renew-KeepsTies blob.1) L k h at tied
 
       was : get B.residents h.digest ≡ Some (resident_of h.lent h)
       was = resident_at L.slots k h at tied.distinct
 
-      lawful_live_again : WellFormed (book_catalog (record L { slots = live_again }))
-      lawful_live_again = subst (λ (X : Catalog). WellFormed X) (sym catalog_live_again) (WellFormed-put B h.digest live_one refl lawful (lawful.content h.digest (resident_of h.lent h) was))
+      named : (l : Link) → set.contains (links_of L.links.links) l ≡ true → set.contains L.links.repos l.0 ≡ true
+      named l is = (lawful.links l is).repo
 
       twice : (b : Resident) → insert (insert B.residents h.digest live_one) blob.0 b ≡ insert B.residents blob.0 b
       twice b = ap (λ (d : Text). insert (insert B.residents d live_one) blob.0 b) digest ∙ insert_twice B.residents blob.0 live_one b
@@ -282,22 +282,22 @@ module _ (L : Layers) (repo : Text) (blob : Text × Text) where
             catalog = keeps.catalog ∙ keeping_live_again;
             tied = keeps.tied;
             links = keeps.links;
-            same = ap (λ o. has_same_bytes o blob.1) kept ∙ same_text_is h.bytes blob.1 bytes;
+            same = ap (λ o. fits_stored B.contents o blob.1) kept ∙ fits;
             housed = ap (λ o. not (is_some o) && nat_le B.slots (len B.residents + B.retired)) kept;
           }
 
       by_link : (b : Bool) → contains_key L.links.links (repo, blob.0) ≡ b → Keeps (record L { slots = live_again }) repo blob (with_sized_link L.links repo blob) (if b then live_again else with_slot live_again k (on_stored_blob link_up))
-      by_link true is = Keeps-old (record L { slots = live_again }) repo blob (IsTied-change (mark false) (mark-KeepsTies false) L k h at tied) lawful_live_again there k (mark false h) (stored_blob_at-on (mark false) L.slots k h at) digest bytes refl is
-      by_link false is = Keeps-new (record L { slots = live_again }) repo blob (IsTied-change (mark false) (mark-KeepsTies false) L k h at tied) lawful_live_again there k (mark false h) (stored_blob_at-on (mark false) L.slots k h at) digest bytes refl is
+      by_link true is = Keeps-old (record L { slots = live_again }) repo blob (IsTied-change (renew blob.1) (renew-KeepsTies blob.1) L k h at tied (sym long)) there named k (renew blob.1 h) (stored_blob_at-on (renew blob.1) L.slots k h at) digest refl refl is
+      by_link false is = Keeps-new (record L { slots = live_again }) repo blob (IsTied-change (renew blob.1) (renew-KeepsTies blob.1) L k h at tied (sym long)) there named k (renew blob.1 h) (stored_blob_at-on (renew blob.1) L.slots k h at) digest refl refl is
 
       Keeps-is_existing : Keeps L repo blob (with_sized_link L.links repo blob) (if contains_key L.links.links (repo, blob.0) then live_again else with_slot live_again k (on_stored_blob link_up))
       Keeps-is_existing = Keeps-live_again _ _ (by_link (contains_key L.links.links (repo, blob.0)) refl)
 
-    pub IsStored-Keeps : (l' : Linked) (slots' : List Slot) → IsStored L.links L.slots repo blob l' slots' → Keeps L repo blob l' slots'
-    IsStored-Keeps l' slots' (is_existing k h place at bytes links slots_are) =
+    pub IsStored-Keeps : (l' : Linked) (slots' : List Slot) → IsStored L.contents.on_disk L.links L.slots repo blob l' slots' → Keeps L repo blob l' slots'
+    IsStored-Keeps l' slots' (is_existing k h place at fits links slots_are) =
         let held = held_of L.slots blob.0 k place in
         let same : held.0 ≡ h = some_same (sym held.1 ∙ at) in
         let digest : h.digest ≡ blob.0 = ap (λ (x : StoredBlob). x.digest) (sym same) ∙ held.2 in
-        subst (λ (x : Linked). Keeps L repo blob x slots') (sym links) (subst (λ (x : List Slot). Keeps L repo blob (with_sized_link L.links repo blob) x) (sym slots_are) (Keeps-is_existing k h at digest bytes))
+        subst (λ (x : Linked). Keeps L repo blob x slots') (sym links) (subst (λ (x : List Slot). Keeps L repo blob (with_sized_link L.links repo blob) x) (sym slots_are) (Keeps-is_existing k h at digest fits))
     IsStored-Keeps l' slots' (is_added k none free links slots_are) =
         subst (λ (x : Linked). Keeps L repo blob x slots') (sym links) (subst (λ (x : List Slot). Keeps L repo blob (with_sized_link L.links repo blob) x) (sym slots_are) (Keeps-filled L repo blob tied lawful there k none free))

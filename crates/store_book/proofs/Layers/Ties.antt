@@ -90,7 +90,7 @@ module _ (L : Layers) (links' : FinMap link_cmp ℕ) (marks : List Bool) (k : �
   catalog-relink = λ i. record {
     tenants = L.links.tenants;
     slots = length-with_slot L.slots k (on_stored_blob g) i;
-    max_blob = L.max_blob;
+    contents = L.contents;
     repos = L.links.repos;
     links = links_of links';
     manifests = before.manifests;

@@ -3,26 +3,27 @@ use Rattle.std.proofs.Common.{◌≡◌, ℕ, ◌+◌, ◌-◌, ◌^◌, ◌<◌
 use Rattle.std.specs.Prelude.{nat_le, ◌&&◌, slice_index, slice_set, if◌then◌else◌}
 use Rattle.std.specs.FinMap.{get, remove, len}
 use Rattle.std.proofs.Math.ListN.{length-set}
-use Rattle.std.proofs.lemmas.Bool.{le-leb, false_from_ne_true, not-false}
+use Rattle.std.proofs.lemmas.Bool.{le-leb, not-false}
 use Rattle.blob_digest.specs.declared.refusal.Refusal.{Refusal}
 use Rattle.blob_digest.specs.declared.refusal.Refusal.TheVariants.{DigestInvalid, LimitReached, StoreFull, UploadUnknown}
 use Rattle.blob_digest.specs.Digests.{is_digest_of}
+use Rattle.content_files.specs.Notes.{is_read}
 use Rattle.spec_lib.specs.Sets as set
-use Rattle.spec_lib.proofs.Texts.{same_itself, text_is_same}
 use Rattle.slot_table.specs.Slots.{Slot, StoredBlob, slot_of}
 use Rattle.link_table.specs.Linked.{Linked, known_tenant, discharge, passes_share as links_pass_share}
 use Rattle.store_model.specs.Sessions.{CheckedIn, Session, HandRecord, are_of_hand, with_old_chunks, charged_length, after_cancel_in, session_of_hand, hand_content, with_chunks, HasNoOpenReserve}
 use Rattle.upload_table.specs.Uploaded.{Uploaded, finish_upload, with_sessions}
-use Rattle.spec_lib.specs.Texts.{Text, same_text}
+use Rattle.spec_lib.specs.Texts.{Text}
 use Rattle.store_book.proofs.Layers.LinkedSlots.{share_is}
 use Rattle.store_model.specs.Catalog.{Catalog, session_charges_of}
 use Rattle.spec_lib.specs.Outcomes.{◌>>=◌, refuse}
-use Rattle.store_model.specs.Commands.{finish, after_cancel, has_same_bytes, is_full_for, passes_share}
+use Rattle.store_model.specs.Commands.{finish, after_cancel, fits_stored, is_full_for, passes_share, fits_content, is_named}
 use Rattle.store_book.specs.Layers.{Layers, lent_marks, book_catalog, IsBook}
-use Rattle.store_book.specs.Internal.Storing.{CanStore, IsStored, CannotStore, HasNoOtherBytes, differs, full, past_share}
+use Rattle.store_book.specs.Internal.Storing.{CanStore, IsStored, CannotStore, HasNoOtherContent, differs, full, past_share}
 use Rattle.store_book.proofs.Layers.Keep.{Keeps, IsStored-Keeps}
 use Rattle.store_book.proofs.Slots.LeaseMarks.{length-marks}
 use Rattle.store_book.proofs.Layers.CanKeep.{CanStore-book}
+use Rattle.store_model.proofs.Commands.Fits.{named_if_read}
 use Rattle.store_model.proofs.Commands.Finish.{Sound-after_finish}
 use Rattle.store_model.proofs.Commands.Hands.{whole_long, IsProper}
 use Rattle.spec_lib.proofs.Options.{some_same}
@@ -41,8 +42,8 @@ module _ (L : Layers) (h : HandRecord) (digest : Text) where
   whole = hand_content h
 
   module _ (book : IsBook L) (proper : IsProper h) (full_h : HasNoOpenReserve h) (s : Session) (here : session_of_hand (get L.uploads.sessions h.key) h ≡ Ok s) where
-    pub finish_other_digest : is_digest_of digest whole ≡ false → finish C h digest ≡ Err DigestInvalid
-    finish_other_digest other = rw (here, other) refl
+    pub finish_other_digest : is_digest_of digest whole ≡ false → is_read whole ≡ true → finish C h digest ≡ Err DigestInvalid
+    finish_other_digest other read = rw (here, named_if_read C.contents digest whole read ∙ other) refl
 
     pub found : get L.uploads.sessions h.key ≡ Some s
     found = (session_here L h book proper s here).0
@@ -70,38 +71,41 @@ module _ (L : Layers) (h : HandRecord) (digest : Text) where
     pub reserve_charged : h.reserved ≤ slice_index L.links.charges h.key.0
     reserve_charged = let small = here_small L h book proper s here in omega arith
 
-    module _ (agrees : is_digest_of digest whole ≡ true) where
-      finish_other_bytes : has_same_bytes (get C.residents digest) whole ≡ false → finish C h digest ≡ Err DigestInvalid
-      finish_other_bytes other = rw (here, agrees, other) refl
+    module _ (agrees : is_digest_of digest whole ≡ true) (read : is_read whole ≡ true) where
+      named : is_named C.contents digest whole ≡ true
+      named = named_if_read C.contents digest whole read ∙ agrees
 
-      finish_past_share : has_same_bytes (get C.residents digest) whole ≡ true → passes_share C h.key.0 digest ≡ true → finish C h digest ≡ Err LimitReached
-      finish_past_share same past = rw (here, agrees, same, past) refl
+      finish_other_bytes : fits_stored C.contents (get C.residents digest) whole ≡ false → finish C h digest ≡ Err DigestInvalid
+      finish_other_bytes other = rw (here, named, other) refl
 
-      finish_full : has_same_bytes (get C.residents digest) whole ≡ true → passes_share C h.key.0 digest ≡ false → is_full_for C digest ≡ true → finish C h digest ≡ Err StoreFull
-      finish_full same admits is_full = rw (here, agrees, same, admits, is_full) refl
+      finish_past_share : fits_stored C.contents (get C.residents digest) whole ≡ true → passes_share C h.key.0 digest ≡ true → finish C h digest ≡ Err LimitReached
+      finish_past_share same past = rw (here, named, same, past) refl
 
-      -- no stored blob of the digest has other bytes, if its slot has none
-      same_bytes : HasNoOtherBytes L.slots (digest, whole) → has_same_bytes (get C.residents digest) whole ≡ true
+      finish_full : fits_stored C.contents (get C.residents digest) whole ≡ true → passes_share C h.key.0 digest ≡ false → is_full_for C digest ≡ true → finish C h digest ≡ Err StoreFull
+      finish_full same admits is_full = rw (here, named, same, admits, is_full) refl
+
+      -- the content fits the stored blob of the digest, if it fits the slot's
+      same_bytes : HasNoOtherContent L.contents.on_disk L.slots (digest, whole) → fits_stored C.contents (get C.residents digest) whole ≡ true
       same_bytes none_other = by (slot_of L.slots digest) refl
         where
-          by : (o : Option ℕ) → slot_of L.slots digest ≡ o → has_same_bytes (get C.residents digest) whole ≡ true
-          by None none = ap (λ o. has_same_bytes o whole) (not_resident L.slots (lent_marks L.slots) digest none)
+          by : (o : Option ℕ) → slot_of L.slots digest ≡ o → fits_stored C.contents (get C.residents digest) whole ≡ true
+          by None none = ap (λ o. fits_stored C.contents o whole) (not_resident L.slots (lent_marks L.slots) digest none)
           by (Some k) place =
               let held = held_of L.slots digest k place in
               let b = slot_is_resident L.slots (lent_marks L.slots) (length-marks L.slots) book.tied.distinct k held.0 held.1 in
               let kept : get C.residents digest ≡ Some b.0 = ap (get C.residents) (sym held.2) ∙ b.1 in
-              ap (λ o. has_same_bytes o whole) kept ∙ ap (λ (x : Text). same_text x whole) (b.2 ∙ none_other k held.0 place held.1) ∙ same_itself whole
+              ap (λ o. fits_stored C.contents o whole) kept ∙ ap (λ (x : Text). fits_content L.contents.on_disk x whole) b.2 ∙ none_other k held.0 place held.1
 
       -- a blob that cannot be linked
-      pub finish_unkept : (e : Refusal) → CannotStore L.links L.slots h.key.0 (digest, whole) e → finish C h digest ≡ Err e
+      pub finish_unkept : (e : Refusal) → CannotStore L.contents.on_disk L.links L.slots h.key.0 (digest, whole) e → finish C h digest ≡ Err e
       finish_unkept e (differs k x place at other is) =
           let held = held_of L.slots digest k place in
           let same : held.0 ≡ x = some_same (sym held.1 ∙ at) in
           let named : x.digest ≡ digest = ap (λ (y : StoredBlob). y.digest) (sym same) ∙ held.2 in
           let b = slot_is_resident L.slots (lent_marks L.slots) (length-marks L.slots) book.tied.distinct k x at in
           let kept : get C.residents digest ≡ Some b.0 = ap (get C.residents) (sym named) ∙ b.1 in
-          let no_match : has_same_bytes (get C.residents digest) whole ≡ false =
-          ap (λ o. has_same_bytes o whole) kept ∙ false_from_ne_true (has_same_bytes (Some b.0) whole) (λ match. other (sym b.2 ∙ text_is_same b.0.bytes whole match)) in
+          let no_match : fits_stored C.contents (get C.residents digest) whole ≡ false =
+          ap (λ o. fits_stored C.contents o whole) kept ∙ ap (λ (y : Text). fits_content L.contents.on_disk y whole) b.2 ∙ other in
           finish_other_bytes no_match ∙ ap Err (sym is)
       finish_unkept e (past_share none_other past is) = finish_past_share (same_bytes none_other) (sym (share_is L book h.key.0 digest) ∙ past) ∙ ap Err (sym is)
       finish_unkept e (full admits none no_slot is) =
@@ -109,9 +113,9 @@ module _ (L : Layers) (h : HandRecord) (digest : Text) where
           let sum = rooms L (lent_marks L.slots) (length-marks L.slots) book.tied.distinct in
           let crowded : nat_le C.slots (len C.residents + C.retired) ≡ true = le-leb C.slots (len C.residents + C.retired) (omega arith) in
           let no_room : is_full_for C digest ≡ true = (λ i. not (is_some (absent i)) && crowded i) in
-          finish_full (ap (λ o. has_same_bytes o whole) absent) (sym (share_is L book h.key.0 digest) ∙ admits) no_room ∙ ap Err (sym is)
+          finish_full (ap (λ o. fits_stored C.contents o whole) absent) (sym (share_is L book h.key.0 digest) ∙ admits) no_room ∙ ap Err (sym is)
 
-      module _ (l' : Linked) (slots' : List Slot) (kept : IsStored L.links L.slots s.repo (digest, whole) l' slots') (admits : links_pass_share L.links h.key.0 digest ≡ false) where
+      module _ (l' : Linked) (slots' : List Slot) (kept : IsStored L.contents.on_disk L.links L.slots s.repo (digest, whole) l' slots') (admits : links_pass_share L.links h.key.0 digest ≡ false) where
         keeps : Keeps L s.repo (digest, whole) l' slots'
         keeps = IsStored-Keeps L s.repo (digest, whole) book.tied book.sound.lawful repo_there l' slots' kept
 
@@ -128,7 +132,7 @@ module _ (L : Layers) (h : HandRecord) (digest : Text) where
         admits_here = sym (share_is L book h.key.0 digest) ∙ admits
 
         finished_as : finish C h digest ≡ Ok (length whole, C1)
-        finished_as = rw (here, agrees, keeps.same, admits_here, keeps.housed) (λ i. Ok (length whole, record (sym keeps.catalog i) { sessions = remove L.uploads.sessions h.key }))
+        finished_as = rw (here, named, keeps.same, admits_here, keeps.housed) (λ i. Ok (length whole, record (sym keeps.catalog i) { sessions = remove L.uploads.sessions h.key }))
 
         same_charges : l'.charges ≡ L.links.charges
         same_charges = ap (λ (x : Linked). x.charges) keeps.links

@@ -70,7 +70,7 @@ module _ (L : Layers) (t : ℕ) (repo digest : Text) (book : IsBook L) (known : 
     leased_book : IsBook (record L { slots = slots' })
     leased_book = record {
       sound = Sound-after_lease C C' false repo digest held.0.bytes leased book.sound;
-      tied = IsTied-change lend lend-KeepsTies L k held.0 held.1 book.tied;
+      tied = IsTied-change lend lend-KeepsTies L k held.0 held.1 book.tied refl;
       charges = record { one_each = book.charges.one_each; sums = book.charges.sums };
     }
 

@@ -135,7 +135,7 @@ module _ (L : Layers) (t : ℕ) (repo : Text) (book : IsBook L) (known : known_t
         can0 : CanStore l0 L.slots t repo blob
         can0 = CanStore-book (record L { links = l0 }) t repo blob book0 known there0 small
 
-        module _ (l' : Linked) (slots' : List Slot) (kept : IsStored l0 L.slots repo blob l' slots') where
+        module _ (l' : Linked) (slots' : List Slot) (kept : IsStored L.contents.on_disk l0 L.slots repo blob l' slots') where
           keeps : Keeps (record L { links = l0 }) repo blob l' slots'
           keeps = IsStored-Keeps (record L { links = l0 }) repo blob book0.tied book0.sound.lawful there0 l' slots' kept
 
@@ -143,7 +143,7 @@ module _ (L : Layers) (t : ℕ) (repo : Text) (book : IsBook L) (known : known_t
           C' = book_catalog (record L { links = l'; slots = slots' })
 
           left : C' ≡ with_link C repo digest
-          left = keeps.catalog ∙ (λ i. record (with_link C repo digest) { residents = same_residents (record L { links = l0 }) repo blob book0.tied book0.sound.lawful there0 k held.0 held.1 held.2 same_bytes_there source_live i })
+          left = keeps.catalog ∙ (λ i. record (with_link C repo digest) { residents = same_residents (record L { links = l0 }) repo blob book0.tied there0 (λ l is. (book0.sound.lawful.links l is).repo) k held.0 held.1 held.2 same_bytes_there source_live i })
 
           mounted : mount C repo digest from ≡ Ok (mounting.Mounted, C')
           mounted = links_it ∙ rw room (λ i. Ok (mounting.Mounted, sym left i))
@@ -176,9 +176,9 @@ module _ (L : Layers) (t : ℕ) (repo : Text) (book : IsBook L) (known : known_t
         pub can_link : CanStore l1 L.slots t repo blob
         can_link = subst (λ (x : Linked). CanStore x L.slots t repo blob) appeared_is (can0 short room1)
 
-        module _ (l' : Linked) (slots' : List Slot) (kept : IsStored l1 L.slots repo blob l' slots') where
-          kept0 : IsStored l0 L.slots repo blob l' slots'
-          kept0 = subst (λ (x : Linked). IsStored x L.slots repo blob l' slots') (sym appeared_is) kept
+        module _ (l' : Linked) (slots' : List Slot) (kept : IsStored L.contents.on_disk l1 L.slots repo blob l' slots') where
+          kept0 : IsStored L.contents.on_disk l0 L.slots repo blob l' slots'
+          kept0 = subst (λ (x : Linked). IsStored L.contents.on_disk x L.slots repo blob l' slots') (sym appeared_is) kept
 
           pub mount_ok : mount C repo digest from ≡ Ok (mounting.Mounted, book_catalog (record L { links = l'; slots = slots' }))
           mount_ok = mounted short room1 l' slots' kept0

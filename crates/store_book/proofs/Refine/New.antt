@@ -19,7 +19,7 @@ use Rattle.store_model.specs.Sessions.{Session, session_charge}
 use Rattle.upload_table.specs.Uploaded.{Uploaded}
 use Rattle.upload_table.specs.Uploaded as uploads
 use Rattle.spec_lib.specs.Texts.{Text, text_cmp}
-use Rattle.store_model.specs.Catalog.{Tenant, Resident, Catalog, link_cmp, session_number_cmp, opening}
+use Rattle.store_model.specs.Catalog.{Tenant, Resident, Catalog, link_cmp, session_number_cmp, opening, ContentRules}
 use Rattle.store_model.specs.Invariant.{Sound}
 use Rattle.atomic_table.specs.Seated.{TableId}
 use Rattle.pin_core.specs.Events.{IsOutside}
@@ -75,7 +75,7 @@ few_or n = by (nat_le n 65536) refl
     by true e = inl (leb-true n 65536 e)
     by false e = inr (leb-false n 65536 e)
 
-module _ (tenants : List Tenant) (slots first max_blob : ℕ) where
+module _ (tenants : List Tenant) (slots first : ℕ) (contents : ContentRules) where
   abbrev l : Linked
   l = links.initial_links tenants
 
@@ -83,16 +83,16 @@ module _ (tenants : List Tenant) (slots first max_blob : ℕ) where
   u = uploads.initial_uploads (length tenants) 1
 
   abbrev L : Layers
-  L = record { links = l; uploads = u; slots = new_slots slots first; max_blob = max_blob }
+  L = record { links = l; uploads = u; slots = new_slots slots first; contents = contents }
 
   abbrev C : Catalog
   C = book_catalog L
 
-  pub catalog-opening : C ≡ opening tenants slots max_blob
+  pub catalog-opening : C ≡ opening tenants slots contents
   catalog-opening = λ i. record {
     tenants = tenants;
     slots = length-replicate slots (empty_slot first) i;
-    max_blob = max_blob;
+    contents = contents;
     repos = set.empty_set;
     links = no_links i;
     manifests = empty;
@@ -102,9 +102,9 @@ module _ (tenants : List Tenant) (slots first max_blob : ℕ) where
     retired = none_retired slots first i;
   }
 
-  pub IsBook-opening : AreTenants tenants → IsSized slots max_blob → IsBook L
+  pub IsBook-opening : AreTenants tenants → IsSized slots contents.max_blob → IsBook L
   IsBook-opening are sized = record {
-    sound = subst (λ (D : Catalog). Sound D) (sym catalog-opening) (Sound-opening tenants slots max_blob are.limits.some are.limits.few are.rising sized.blobs (recursion_from_All _ tenants are.limits.quotas) (recursion_from_All _ tenants are.limits.limits) sized.some sized.few);
+    sound = subst (λ (D : Catalog). Sound D) (sym catalog-opening) (Sound-opening tenants slots contents are.limits.some are.limits.few are.rising sized.blobs (recursion_from_All _ tenants are.limits.quotas) (recursion_from_All _ tenants are.limits.limits) sized.some sized.few);
     tied = record {
       marks = length-marks (new_slots slots first);
       distinct = λ k m g h at_k at_m same. nothing (none_held slots first k) at_k;
@@ -118,32 +118,32 @@ module _ (tenants : List Tenant) (slots first max_blob : ℕ) where
   }
 
 -- the new layers make a book
-module _ (given : List Tenant) (l' : Linked) (u' : Uploaded) (p : Pinned) (t : TableId) (count first max_blob n : ℕ) (opened : Opens given l') (small : max_blob ≤ 2 ^ 40) (within : ¬ IsOutside count)
+module _ (given : List Tenant) (l' : Linked) (u' : Uploaded) (p : Pinned) (t : TableId) (count first : ℕ) (contents : ContentRules) (n : ℕ) (opened : Opens given l') (small : contents.max_blob ≤ 2 ^ 40) (within : ¬ IsOutside count)
     (made : p ≡ record { table = t; slots = replicate count (empty_slot first); bounds = replicate count 0; looks = replicate count 0 }) (uploads_are : u' ≡ uploads.initial_uploads n 1) (one_each : n ≡ length l'.tenants) where
   slots_are : new_slots count first ≡ p.slots
   slots_are = sym (ap (λ (x : Pinned). x.slots) made)
 
-  sized : IsSized count max_blob
+  sized : IsSized count contents.max_blob
   sized = record {
     some = elim (zero_or count) [ inl e ↦ absurd (within (inl e)) | inr lt ↦ lt ];
     few = elim (few_or count) [ inl le ↦ le | inr lt ↦ absurd (within (inr lt)) ];
     blobs = small;
   }
 
-  upload_is : u l'.tenants count first max_blob ≡ u'
+  upload_is : u l'.tenants count first contents ≡ u'
   upload_is = sym (uploads_are ∙ ap (λ m. uploads.initial_uploads m 1) one_each)
 
   -- the layers of a new book
   abbrev made_layers : Layers
-  made_layers = record { links = l'; uploads = u'; slots = p.slots; max_blob = max_blob }
+  made_layers = record { links = l'; uploads = u'; slots = p.slots; contents = contents }
 
-  layers_are : L l'.tenants count first max_blob ≡ made_layers
-  layers_are = λ i. record { links = sym opened.empty i; uploads = upload_is i; slots = slots_are i; max_blob = max_blob }
+  layers_are : L l'.tenants count first contents ≡ made_layers
+  layers_are = λ i. record { links = sym opened.empty i; uploads = upload_is i; slots = slots_are i; contents = contents }
 
   pub opened_book : IsBook made_layers
-  opened_book = subst (λ (x : Layers). IsBook x) layers_are (IsBook-opening l'.tenants count first max_blob opened.tenants sized)
+  opened_book = subst (λ (x : Layers). IsBook x) layers_are (IsBook-opening l'.tenants count first contents opened.tenants sized)
 
-  pub opens_book : OpensBook given count max_blob first (book_state (book_catalog made_layers) p)
+  pub opens_book : OpensBook given count contents first (book_state (book_catalog made_layers) p)
   opens_book = record {
     names = opened.names;
     limits = opened.limits;
@@ -151,7 +151,7 @@ module _ (given : List Tenant) (l' : Linked) (u' : Uploaded) (p : Pinned) (t : T
     catalog = record {
       same = opened.same;
       rising = opened.tenants.rising;
-      empty = ap book_catalog (sym layers_are) ∙ catalog-opening l'.tenants count first max_blob;
+      empty = ap book_catalog (sym layers_are) ∙ catalog-opening l'.tenants count first contents;
     };
     slots = ap slot_views_of made ∙ ap (with_looks (replicate count 0)) (slot_view-opening count first) ∙ slot_views_of-opening count _;
   }

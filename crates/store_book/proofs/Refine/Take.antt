@@ -58,7 +58,7 @@ module _ (L : Layers) (t : ℕ) (book : IsBook L) where
       let small = quota_small C book.sound.lawful t in
       omega arith
 
-  module _ (number after n : ℕ) (repo : Text) (range : Option ByteRange) (known : known_tenant L.links repo ≡ Ok t) (checked : chunk_length_check_in L.uploads.sessions L.max_blob (t, number) repo range n ≡ Ok after) where
+  module _ (number after n : ℕ) (repo : Text) (range : Option ByteRange) (known : known_tenant L.links repo ≡ Ok t) (checked : chunk_length_check_in L.uploads.sessions L.contents.max_blob (t, number) repo range n ≡ Ok after) where
     there : t < length L.links.tenants
     there = tenant_there L.links.tenants repo t (some_of_ok (tenant_of L.links.tenants repo) NameUnknown t known)
 

@@ -1,4 +1,4 @@
--- After a change of a stored blob that keeps its digest, its bytes and its links, the catalog has the changed blob and the layers agree.
+-- After a change of a stored blob that keeps its digest, its length and its links, the catalog has the changed blob and the layers agree.
 use Rattle.std.proofs.Common.{◌≡◌, ℕ, Bool, true, false, cond, List, [], ◌∷◌, length, Option, Some, refl, sym, ap, ◌∙◌, subst, arith, inl, inr}
 use Prim.Native.Nat.{zero, suc}
 use Rattle.std.specs.Option.{option_map_or}
@@ -11,6 +11,7 @@ use Rattle.std.proofs.lemmas.Map.Lookups.{exact_bytes}
 use Rattle.slot_table.specs.Slots.{Slot, StoredBlob, SlotContent, Free, Used, Retired, stored_blob_at, stored_blob_in, IsDistinct, with_slot, on_stored_blob, content_with, mark, lend}
 use Rattle.spec_lib.specs.Texts.{Text, text_cmp}
 use Rattle.store_model.specs.Catalog.{Link, Resident, Catalog, link_count}
+use Rattle.store_book.specs.Internal.Storing.{renew}
 use Rattle.store_book.specs.Layers.{Layers, resident_of, with_resident, resident_rows, residents_of, lent_marks, book_catalog, IsTied}
 use Rattle.store_book.proofs.Layers.Sums.{IsDistinct-rest}
 use Rattle.store_book.proofs.Slots.Filled.{swapped}
@@ -49,17 +50,19 @@ resident_row (s ∷ slots) (suc k) h at distinct = by_content (resident_row slot
 pub resident_at : (slots : List Slot) (k : ℕ) (h : StoredBlob) → stored_blob_at slots k ≡ Some h → IsDistinct slots → get (residents_of slots (lent_marks slots)) h.digest ≡ Some (resident_of h.lent h)
 resident_at slots k h at distinct = get-from_entries nat_list_cmp_total (rows_of slots) h.digest ∙ resident_row slots k h at distinct
 
--- a change keeps the digest, the bytes and the links
+-- a change keeps the digest and the links
 pub record KeepsTies (g : StoredBlob → StoredBlob) : Type 0 where
   pub digest : (h : StoredBlob) → (g h).digest ≡ h.digest
-  pub bytes : (h : StoredBlob) → (g h).bytes ≡ h.bytes
   pub links : (h : StoredBlob) → (g h).links ≡ h.links
 
 pub mark-KeepsTies : (b : Bool) → KeepsTies (mark b)
-mark-KeepsTies b = record { digest = λ h. refl; bytes = λ h. refl; links = λ h. refl }
+mark-KeepsTies b = record { digest = λ h. refl; links = λ h. refl }
 
 pub lend-KeepsTies : KeepsTies lend
-lend-KeepsTies = record { digest = λ h. refl; bytes = λ h. refl; links = λ h. refl }
+lend-KeepsTies = record { digest = λ h. refl; links = λ h. refl }
+
+pub renew-KeepsTies : (content : Text) → KeepsTies (renew content)
+renew-KeepsTies content = record { digest = λ h. refl; links = λ h. refl }
 
 module _ (g : StoredBlob → StoredBlob) (keeps : KeepsTies g) where
   abbrev marked : StoredBlob → Resident
@@ -124,21 +127,21 @@ module _ (g : StoredBlob → StoredBlob) (keeps : KeepsTies g) where
     origin : (m : ℕ) (x : StoredBlob) → stored_blob_at slots' m ≡ Some x → (y : StoredBlob) × (stored_blob_at L.slots m ≡ Some y) × (x.digest ≡ y.digest) × (x.links ≡ y.links)
     origin m x here = let o = held_before g (λ x y. (x.digest ≡ y.digest) × (x.links ≡ y.links)) (λ x. (keeps.digest x, keeps.links x)) (λ x. (refl, refl)) L.slots k h at m x here in (o.0, o.1, o.2.0, o.2.1)
 
-    sized : (key : Link) (n : ℕ) → get L.links.links key ≡ Some n → (b : Resident) × (get after.residents key.1 ≡ Some b) × (n ≡ length b.bytes)
-    sized key n found =
+    sized : length (g h).bytes ≡ length h.bytes → (key : Link) (n : ℕ) → get L.links.links key ≡ Some n → (b : Resident) × (get after.residents key.1 ≡ Some b) × (n ≡ length b.bytes)
+    sized long key n found =
         let b = tied.sizes key n found in
         elim (cases_key nat_list_cmp_total exact_bytes key.1 h.digest) [
           | inl e ↦
               let is : b.0 ≡ resident_of h.lent h = some_same (sym b.1 ∙ ap (get C.residents) e ∙ resident_at L.slots k h at tied.distinct) in
-              (marked h, ap (get after.residents) e ∙ get-insert_at nat_list_cmp_total exact_bytes C.residents h.digest (marked h), b.2 ∙ ap (λ (x : Resident). length x.bytes) is ∙ ap length (sym (keeps.bytes h)))
+              (marked h, ap (get after.residents) e ∙ get-insert_at nat_list_cmp_total exact_bytes C.residents h.digest (marked h), b.2 ∙ ap (λ (x : Resident). length x.bytes) is ∙ sym long)
           | inr differ ↦ (b.0, get-insert_other nat_list_cmp_total exact_bytes C.residents h.digest (marked h) key.1 differ ∙ b.1, b.2)
         ]
 
     -- the layers agree then
-    pub IsTied-change : IsTied L.links slots' (lent_marks slots') (book_catalog (record L { slots = slots' }))
-    IsTied-change = subst (λ (D : Catalog). IsTied L.links slots' (lent_marks slots') D) (sym catalog-change) (record {
+    pub IsTied-change : length (g h).bytes ≡ length h.bytes → IsTied L.links slots' (lent_marks slots') (book_catalog (record L { slots = slots' }))
+    IsTied-change long = subst (λ (D : Catalog). IsTied L.links slots' (lent_marks slots') D) (sym catalog-change) (record {
       marks = length-marks slots';
       distinct = λ a b x y at_a at_b same. (let o = origin a x at_a in let p = origin b y at_b in tied.distinct a b o.0 p.0 o.1 p.1 (sym o.2 ∙ same ∙ p.2));
-      sizes = sized;
+      sizes = sized long;
       counts = λ m x here. (let o = origin m x here in o.3 ∙ tied.counts m o.0 o.1 ∙ ap (link_count after) (sym o.2));
     })

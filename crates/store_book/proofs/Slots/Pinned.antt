@@ -14,7 +14,7 @@ use Rattle.pin_core.specs.Events.{IsNew, given_row, in_phase}
 use Rattle.pin_core.specs.World.{row, no_row}
 use Rattle.pin_table.specs.Rule.{with_added}
 use Rattle.slot_table.specs.declared.phase.Phase.TheVariants as phase
-use Rattle.slot_table.specs.Slots.{initial_slots, Slot, StoredBlob, SlotContent, Free, Used, Retired, stored_blob_in, stored_blob_at, phase_in, phase_at, slot_of, with_slot, on_stored_blob, content_with, fill, mark, link_up, link_down, lend, empty_slot}
+use Rattle.slot_table.specs.Slots.{initial_slots, Slot, StoredBlob, SlotContent, Free, Used, Retired, stored_blob_in, stored_blob_at, phase_in, phase_at, slot_of, with_slot, on_stored_blob, content_with, fill, mark, link_up, link_down, lend, with_content, empty_slot}
 use Rattle.blob_digest.specs.declared.refusal.Refusal.{Refusal}
 use Rattle.blob_digest.specs.declared.refusal.Refusal.TheVariants.{LimitReached}
 use Rattle.store_book.specs.BookState.{SlotView}
@@ -184,6 +184,14 @@ pub link_up-row : (s : Slot) → row_of (on_stored_blob link_up s) ≡ row_of s
 link_up-row s = by_content s.content
   where
     by_content : (c : SlotContent) → row_of (record { generation = s.generation; content = content_with link_up c }) ≡ row_of (record { generation = s.generation; content = c })
+    by_content Free = refl
+    by_content (Used h) = refl
+    by_content Retired = refl
+
+pub with_content-row : (content : Text) (s : Slot) → row_of (on_stored_blob (with_content content) s) ≡ row_of s
+with_content-row content s = by_content s.content
+  where
+    by_content : (c : SlotContent) → row_of (record { generation = s.generation; content = content_with (with_content content) c }) ≡ row_of (record { generation = s.generation; content = c })
     by_content Free = refl
     by_content (Used h) = refl
     by_content Retired = refl

@@ -25,6 +25,19 @@ with_slot-twice (s ∷ slots) (suc k) f g =
     ap (λ xs. with_slot xs (suc k) g) (with_slot-suc s slots k f) ∙ with_slot-suc s (with_slot slots k f) k g
     ∙ ap (λ xs. s ∷ xs) (with_slot-twice slots k f g) ∙ sym (with_slot-suc s slots k (λ x. g (f x)))
 
+-- two changes of the blob of one slot
+pub with_slot-both : (slots : List Slot) (k : ℕ) (f g : StoredBlob → StoredBlob) → with_slot (with_slot slots k (on_stored_blob f)) k (on_stored_blob g) ≡ with_slot slots k (on_stored_blob (λ h. g (f h)))
+with_slot-both slots k f g = with_slot-twice slots k (on_stored_blob f) (on_stored_blob g) ∙ at (slice_get slots k)
+  where
+    by_content : (c : SlotContent) → content_with g (content_with f c) ≡ content_with (λ h. g (f h)) c
+    by_content Free = refl
+    by_content (Used h) = refl
+    by_content Retired = refl
+
+    at : (o : Option Slot) → option_map_or (λ s. write slots k (on_stored_blob g (on_stored_blob f s))) o slots ≡ option_map_or (λ s. write slots k (on_stored_blob (λ h. g (f h)) s)) o slots
+    at None = refl
+    at (Some s) = λ i. write slots k (record { generation = s.generation; content = by_content s.content i })
+
 pub length-with_slot : (slots : List Slot) (k : ℕ) (f : Slot → Slot) → length (with_slot slots k f) ≡ length slots
 length-with_slot [] k f = refl
 length-with_slot (s ∷ slots) zero f = refl
@@ -83,6 +96,19 @@ phase_live slots k h at live =
     by_content Free e = cc
     by_content (Used g) e = let same : g ≡ h = cc in ap (λ b. cond b phase.Condemned phase.Live) (ap (λ (x : StoredBlob). x.condemned) same ∙ live)
     by_content Retired e = cc
+
+-- two changes that are alike for the slot's blob
+pub with_slot-alike : (slots : List Slot) (k : ℕ) (f g : StoredBlob → StoredBlob) (h : StoredBlob) → stored_blob_at slots k ≡ Some h → f h ≡ g h → with_slot slots k (on_stored_blob f) ≡ with_slot slots k (on_stored_blob g)
+with_slot-alike slots k f g h at same =
+    let s = slot_of_held slots k h at in
+    ap (λ o. option_map_or (λ x. write slots k (on_stored_blob f x)) o slots) s.1
+    ∙ (λ i. write slots k (record { generation = s.0.generation; content = by_content s.0.content s.2 i }))
+    ∙ sym (ap (λ o. option_map_or (λ x. write slots k (on_stored_blob g x)) o slots) s.1)
+  where
+    by_content : (c : SlotContent) → stored_blob_in c ≡ Some h → content_with f c ≡ content_with g c
+    by_content Free e = refl
+    by_content (Used x) e = let is : x ≡ h = some_same e in ap Used (ap f is ∙ same ∙ ap g (sym is))
+    by_content Retired e = refl
 
 -- ---- a change of a slot's content
 

@@ -71,7 +71,7 @@ checked_length C t number repo range n after p h =
     let f = session_found (get C.sessions (t, number)) repo a.0 a.1 in
     let b = bound_ok (not_busy a.0.chunks) _ after a.2 in
     let same : a.0 ≡ p.s = let e : Some a.0 ≡ Some p.s = sym f.0 ∙ p.found in cc in
-    length_is C.max_blob (received_length a.0) n after range b.2 ∙ ap (λ (s : Session). received_length s + n) same
+    length_is C.contents.max_blob (received_length a.0) n after range b.2 ∙ ap (λ (s : Session). received_length s + n) same
 
 module _ (C C1 : Catalog) (repo : Text) (number len : ℕ) (range : Option ByteRange) (hand : HandRecord) (stepped : take C repo number range len ≡ Ok (hand, C1)) where
   abbrev by : TookIn C C1 repo number len range hand stepped

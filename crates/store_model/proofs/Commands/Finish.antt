@@ -6,14 +6,12 @@ use Rattle.std.specs.FinMap.{get, insert, len}
 use Rattle.std.proofs.lemmas.Bool.{cases_eq, leb-false, not-false, and_parts}
 use Rattle.std.proofs.lemmas.Map.Lookups.{exact_bytes}
 use Rattle.blob_digest.specs.declared.refusal.Refusal.TheVariants.{DigestInvalid}
-use Rattle.blob_digest.specs.Digests.{is_digest_of}
 use Rattle.spec_lib.specs.Sets as set
 use Rattle.spec_lib.specs.Texts.{Text}
-use Rattle.store_model.specs.Catalog.{Session, Resident, Catalog, HandRecord, charged_length, tenant_of, tenant_holds, held_count, held_digests, used_bytes, quota_of, share_of}
-use Rattle.store_model.specs.Commands.{check_share, finish, has_slot, is_full_for, passes_share, is_digest_accepted, has_same_bytes, with_stored_blob, session_of_hand, was_leased, hand_content}
+use Rattle.store_model.specs.Catalog.{Session, Resident, Catalog, HandRecord, charged_length, tenant_of, tenant_holds, held_count, held_digests, used_bytes, quota_of, share_of, ContentRules}
+use Rattle.store_model.specs.Commands.{check_share, finish, has_slot, is_full_for, passes_share, is_digest_accepted, fits_stored, with_stored_blob, session_of_hand, was_leased, hand_content, is_named}
 use Rattle.spec_lib.specs.Outcomes.{refuse}
 use Rattle.store_model.specs.Invariant.{WellFormed, KeepsQuotas, KeepsShares, FitsSlots, Sound}
-use Rattle.spec_lib.proofs.Texts.{text_is_same}
 use Rattle.spec_lib.proofs.Maps.{get-insert_at}
 use Rattle.store_model.proofs.Invariant.Repos.{is_own, is_no_other}
 use Rattle.store_model.proofs.Invariant.Blobs.{WellFormed-put, used_bytes-put, FitsSlots-put}
@@ -24,16 +22,17 @@ use Rattle.store_model.proofs.Invariant.DistinctUse.{contains-held_digests}
 use Rattle.store_model.proofs.Invariant.Shares.{held_count-link, held_other-link}
 use Rattle.store_model.proofs.Commands.Hands.{taken_found, whole_long, IsProper}
 use Rattle.spec_lib.proofs.Outcomes.{bound_ok, not_refused}
+use Rattle.store_model.proofs.Commands.Fits.{fits_long}
 use Rattle.store_model.proofs.Commands.Accepted.{left_by, answer_by}
 use Rattle.store_model.proofs.Invariant.SessionTenants.{session_owner, session_tenant}
 use Rattle.store_model.specs.Sessions.{HasNoOpenReserve}
 
--- a stored blob of this digest has these bytes
-bytes_kept : (x : Option Resident) (bytes : Text) → has_same_bytes x bytes ≡ true → (old : Resident) → x ≡ Some old → length old.bytes ≡ length bytes
-bytes_kept None bytes same old e = absurd cc
-bytes_kept (Some b) bytes same old e = let is : b ≡ old = cc in ap (λ (y : Resident). length y.bytes) (sym is) ∙ ap length (text_is_same b.bytes bytes same)
+-- a content that fits the stored blob is as long
+bytes_kept : (rules : ContentRules) (x : Option Resident) (bytes : Text) → fits_stored rules x bytes ≡ true → (old : Resident) → x ≡ Some old → length old.bytes ≡ length bytes
+bytes_kept rules None bytes same old e = absurd cc
+bytes_kept rules (Some b) bytes same old e = let is : b ≡ old = cc in ap (λ (y : Resident). length y.bytes) (sym is) ∙ fits_long rules.on_disk b.bytes bytes same
 
-module _ (C : Catalog) (t number : ℕ) (repo digest whole : Text) (s : Session) (lawful : WellFormed C) (known : tenant_of C.tenants repo ≡ Some t) (found : get C.sessions (t, number) ≡ Some s) (of_repo : s.repo ≡ repo) (same : has_same_bytes (get C.residents digest) whole ≡ true) where
+module _ (C : Catalog) (t number : ℕ) (repo digest whole : Text) (s : Session) (lawful : WellFormed C) (known : tenant_of C.tenants repo ≡ Some t) (found : get C.sessions (t, number) ≡ Some s) (of_repo : s.repo ≡ repo) (same : fits_stored C.contents (get C.residents digest) whole ≡ true) where
   abbrev blob : Resident
   blob = record { bytes = whole; condemned = false; lent = was_leased (get C.residents digest) }
 
@@ -52,21 +51,21 @@ module _ (C : Catalog) (t number : ℕ) (repo digest whole : Text) (s : Session)
   now_kept : get put.residents digest ≡ Some blob
   now_kept = get-insert_at nat_list_cmp_total exact_bytes C.residents digest blob
 
-  module _ (is_digest : is_digest_of digest whole ≡ true) where
+  module _ (is_digest : is_named C.contents digest whole ≡ true) where
     pub WellFormed-close : WellFormed after
     WellFormed-close = WellFormed-gone linked (t, number) (WellFormed-link put repo digest (WellFormed-put C digest blob refl lawful is_digest) there blob now_kept refl)
 
   -- the session's length is removed, and the blob's is added if the tenant did not have it
   pub used_bytes-close : used_bytes after t + charged_length s + (if tenant_holds C t digest then length whole else 0) ≡ used_bytes C t + length whole
   used_bytes-close =
-      let a : used_bytes put t ≡ used_bytes C t = used_bytes-put C digest blob lawful (bytes_kept (get C.residents digest) whole same) t in
+      let a : used_bytes put t ≡ used_bytes C t = used_bytes-put C digest blob lawful (bytes_kept C.contents (get C.residents digest) whole same) t in
       let b : used_bytes linked t + (if tenant_holds C t digest then length whole else 0) ≡ used_bytes put t + length whole = used_bytes-link put t repo digest blob there (is_own C t repo known) now_kept in
       let c : used_bytes linked t ≡ used_bytes after t + charged_length s = used_bytes-gone linked (t, number) s found in
       omega arith
 
   pub used_other-close : (u : ℕ) → u ≢ t → used_bytes after u ≡ used_bytes C u
   used_other-close u other =
-      let a : used_bytes put u ≡ used_bytes C u = used_bytes-put C digest blob lawful (bytes_kept (get C.residents digest) whole same) u in
+      let a : used_bytes put u ≡ used_bytes C u = used_bytes-put C digest blob lawful (bytes_kept C.contents (get C.residents digest) whole same) u in
       let b : used_bytes linked u ≡ used_bytes put u = used_other-link put repo digest u (is_no_other C t u repo known other) in
       let c : used_bytes linked u ≡ used_bytes after u = used_other-gone linked (t, number) s found u other in
       omega arith
@@ -124,7 +123,7 @@ module _ (C C' : Catalog) (h : HandRecord) (digest : Text) (n : ℕ) (proper : I
   Sound-after_finish sound =
       let p = finished in
       let f = taken_found (get C.sessions h.key) h p.s p.here in
-      let both = and_parts (is_digest_of digest (hand_content h)) (has_same_bytes (get C.residents digest) (hand_content h)) p.named in
+      let both = and_parts (is_named C.contents digest (hand_content h)) (fits_stored C.contents (get C.residents digest) (hand_content h)) p.named in
       let known = session_owner C sound.lawful h.key p.s f.0 in
       let there = session_tenant C sound.lawful h.key p.s f.0 in
       let counts : charged_length p.s ≡ length (hand_content h) = rw f.1 (sym (whole_long h proper full)) in

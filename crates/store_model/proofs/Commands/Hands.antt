@@ -23,7 +23,7 @@ pub record Checked (C : Catalog) (t number : ℕ) (repo : Text) (n : ℕ) : Type
   pub of_repo : s.repo ≡ repo
   pub chunks : List Text
   pub home : s.chunks ≡ CheckedIn chunks
-  pub fits : received_length s + n ≤ C.max_blob
+  pub fits : received_length s + n ≤ C.contents.max_blob
 
 pub home_chunks : (c : Chunks) (u : Unit {0}) → not_busy c ≡ Ok u → (chunks : List Text) × (c ≡ CheckedIn chunks)
 home_chunks (CheckedIn chunks) u h = (chunks, refl)
@@ -35,7 +35,7 @@ checked_home C t number repo range n after h =
     let f = session_found (get C.sessions (t, number)) repo a.0 a.1 in
     let b = bound_ok (not_busy a.0.chunks) _ after a.2 in
     let home = home_chunks a.0.chunks b.0 b.1 in
-    record { s = a.0; found = f.0; of_repo = f.1; chunks = home.0; home = home.1; fits = length_fits C.max_blob (received_length a.0) n after range b.2 }
+    record { s = a.0; found = f.0; of_repo = f.1; chunks = home.0; home = home.1; fits = length_fits C.contents.max_blob (received_length a.0) n after range b.2 }
 
 -- a checked-in session counts the bytes that it has received
 pub home_charged : (s : Session) (chunks : List Text) → s.chunks ≡ CheckedIn chunks → charged_length s ≡ received_length s

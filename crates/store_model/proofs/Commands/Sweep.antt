@@ -1,4 +1,5 @@
 -- A sweep keeps the catalog well-formed, every use unchanged, and the blobs and retired slots within the slots.
+use Rattle.store_model.specs.Commands.{is_named}
 use Rattle.std.proofs.Common.{◌≡◌, ℕ, ◌+◌, true, false, cond, length, Option, Some, None, refl, sym, ap, ◌∙◌, subst, arith}
 use Rattle.std.specs.Prelude.{is_none}
 use Rattle.std.specs.List.{sum_by}
@@ -6,7 +7,6 @@ use Rattle.std.specs.Cmp.Lexicographic.{nat_list_cmp_total}
 use Rattle.std.specs.FinMap.{entries, get, len, len-entries}
 use Rattle.std.proofs.lemmas.Bool.{true≢false, eqb-true}
 use Rattle.std.proofs.lemmas.Map.Lookups.{exact_bytes}
-use Rattle.blob_digest.specs.Digests.{is_digest_of}
 use Rattle.spec_lib.specs.Sets as set
 use Rattle.spec_lib.specs.Texts.{Text}
 use Rattle.store_model.specs.Catalog.{Link, Resident, Catalog, tenant_holds, link_count, blob_share, used_bytes}
@@ -34,11 +34,11 @@ module _ (C C' : Catalog) (swept : Swept) (sweep : IsSweep C swept C') (lawful :
         | false ↦ λ o left. left
       ] refl (sweep.orphans l.1 b found)
 
-  content_from : (d : Text) (now : Resident) (x : Option Resident) → get C.residents d ≡ x → get C'.residents d ≡ Some now → is_digest_of d now.bytes ≡ true
+  content_from : (d : Text) (now : Resident) (x : Option Resident) → get C.residents d ≡ x → get C'.residents d ≡ Some now → is_named C.contents d now.bytes ≡ true
   content_from d now None none h = absurd (let e : Some now ≡ None = sym h ∙ sweep.no_others d none in cc)
   content_from d now (Some b) found h =
       let same = left_bytes (is_orphan C d) b now (subst (λ (x : Option Resident). IsAfterSweep (is_orphan C d) b x) h (sweep.orphans d b found)) in
-      ap (is_digest_of d) (sym same) ∙ lawful.content d b found
+      ap (is_named C.contents d) (sym same) ∙ lawful.content d b found
 
   lawful_after : WellFormed after
   lawful_after = record {

@@ -6,7 +6,7 @@ use Rattle.std.specs.FinMap.{empty, get}
 use Rattle.blob_digest.specs.declared.refusal.Refusal.{Refusal}
 use Rattle.spec_lib.specs.Texts.{Text}
 use Rattle.spec_lib.proofs.Outcomes.{bound_ok}
-use Rattle.store_model.specs.Catalog.{Catalog, HandRecord, Session}
+use Rattle.store_model.specs.Catalog.{Catalog, HandRecord, Session, ContentRules}
 use Rattle.store_model.specs.Commands
 use Rattle.store_model.specs.Commands.{Outcome, after_cancel, finish, has_slot, put_back, put_back_outcome_in, session_of_hand, take}
 use Rattle.store_model.specs.Durable.{Agrees, AreReturnedAsTaken, DurableState, IsReturnedAsTaken, TakenChunks, after_changes, change_of, changes_of, taken_after_step, taken_after_steps}
@@ -31,11 +31,11 @@ use Rattle.store_model.proofs.Noninterference.LocalRespect.{Leaves, abandon_leav
 -- ---- slots and the limit on blobs
 
 abbrev pub SameSetting : Catalog → Catalog → Type 0
-SameSetting C X = (X.slots ≡ C.slots) × (X.max_blob ≡ C.max_blob)
+SameSetting C X = (X.slots ≡ C.slots) × (X.contents ≡ C.contents)
 
 -- a command also retires no slot
 abbrev pub SameSlots : Catalog → Catalog → Type 0
-SameSlots C X = (X.slots ≡ C.slots) × (X.max_blob ≡ C.max_blob) × (X.retired ≡ C.retired)
+SameSlots C X = (X.slots ≡ C.slots) × (X.contents ≡ C.contents) × (X.retired ≡ C.retired)
 
 pub command_setting : (C : Catalog) (command : Command) → Leaves (SameSlots C) (outcome false C command)
 command_setting C (runs.Start r) = answers_leave (SameSlots C) runs.Number _ (start_leaves (SameSlots C) C r (λ t _. (refl, refl, refl)))
@@ -121,9 +121,9 @@ stores_survive_crashes D C done later s kept lost opens sound run returned right
     let there = steps_sound (done ++ cut.first) empty D (initial_state C) cut.at opens sound cut.leads
     (first_returned (done ++ cut.first) cut.rest empty (subst (λ xs. AreReturnedAsTaken empty xs) both returned)) (first_right (done ++ cut.first) cut.rest (subst (λ xs. AllByRecursion IsWellFormedStep xs) both right)) in
     let slots_are : cut.at.catalog.slots ≡ C.slots = there.1.0 in
-    let limit_is : cut.at.catalog.max_blob ≡ C.max_blob = there.1.1 in
+    let limit_is : cut.at.catalog.contents ≡ C.contents = there.1.1 in
     record {
       cut = cut;
-      restored = stores_restart (taken_after_steps empty (done ++ cut.first)) (after_changes D (changes_of D.tenants done ++ kept)) cut.at.catalog cut.agrees there.0 C.slots C.max_blob
-          (omega arith) sound.slots.few (omega arith) sound.lawful.limits.max_blob;
+      restored = stores_restart (taken_after_steps empty (done ++ cut.first)) (after_changes D (changes_of D.tenants done ++ kept)) cut.at.catalog cut.agrees there.0 C.slots C.contents
+          (omega arith) sound.slots.few (let same = ap (λ (r : ContentRules). r.max_blob) limit_is in omega arith) sound.lawful.limits.max_blob (sym (ap (λ (r : ContentRules). r.on_disk) limit_is));
     }

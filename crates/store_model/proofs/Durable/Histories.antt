@@ -15,7 +15,7 @@ use Rattle.spec_lib.specs.Texts.{Text}
 use Rattle.spec_lib.proofs.Maps.{get-insert_at, get-insert_other}
 use Rattle.spec_lib.proofs.Options.{no_member}
 use Rattle.spec_lib.proofs.Outcomes.{bound_ok, ok_pair}
-use Rattle.store_model.specs.Catalog.{Catalog, CheckedIn, CheckedOutWith, Chunks, HandRecord, Resident, Session, SessionNumber, Tenant, link_cmp, opening, received_length, session_number_cmp}
+use Rattle.store_model.specs.Catalog.{Catalog, CheckedIn, CheckedOutWith, Chunks, HandRecord, Resident, Session, SessionNumber, Tenant, link_cmp, opening, received_length, session_number_cmp, ContentRules}
 use Rattle.store_model.specs.Commands.{check_share, after_cancel, finish, has_slot, is_digest_accepted, put_back, take, was_leased, with_stored_blob}
 use Rattle.store_model.specs.Durable.{Agrees, AgreesOnChunks, AgreesOnSession, AreReturnedAsTaken, Change, DurableState, IsReturnedAsTaken, LogsAgree, LogsExtend, ManifestPut, SessionSealed, TakenChunks, after_change, after_changes, after_seal, change_of, changes_of, chunk_change, filled_chunk, initial_durable, taken_after_step, taken_after_steps}
 use Rattle.store_model.specs.Histories.{AreSteps, CommandCall, FinishCall, MayLeadTo, PutBackCall, State, Step, SweepCall, TakeCall, initial_state}
@@ -169,8 +169,8 @@ steps_agree tenants (step ∷ steps) taken D s s' a known run returned =
     (steps_agree tenants steps (taken_after_step taken step) (after_record D (change_of tenants step)) mid s' moved (after_record_tenants D (change_of tenants step) ∙ known) run.2 returned.1)
 
 -- the initial durable state agrees with the catalog of a new store
-pub new_stores_agree : (tenants : List Tenant) (slots max_blob : ℕ) → Agrees empty (initial_durable tenants) (opening tenants slots max_blob)
-new_stores_agree tenants slots max_blob = record {
+pub new_stores_agree : (tenants : List Tenant) (slots : ℕ) (contents : ContentRules) → Agrees empty (initial_durable tenants) (opening tenants slots contents)
+new_stores_agree tenants slots contents = record {
   tenants = refl;
   repos = refl;
   links = refl;
@@ -186,4 +186,4 @@ pub logs_extend : LogsExtend
 logs_extend taken D s steps s' a run returned = steps_agree D.tenants steps taken D s s' a refl run returned
 
 pub logs_agree : LogsAgree
-logs_agree tenants slots max_blob steps s run returned = logs_extend empty (initial_durable tenants) (initial_state (opening tenants slots max_blob)) steps s (new_stores_agree tenants slots max_blob) run returned
+logs_agree tenants slots contents steps s run returned = logs_extend empty (initial_durable tenants) (initial_state (opening tenants slots contents)) steps s (new_stores_agree tenants slots contents) run returned

@@ -1,6 +1,6 @@
 -- The log of a history has a replay by commands and sweeps: after a sweep each change has room.
 use Rattle.std.proofs.Common.{◌≡◌, ◌≢◌, ℕ, ◌+◌, ◌-◌, ◌<◌, ◌≤◌, Bool, true, false, cond, not, List, [], ◌∷◌, ◌++◌, length, Option, Some, None, Ok, Err, refl, sym, ap, ◌∙◌, subst, arith}
-use Rattle.std.specs.Prelude.{◌&&◌, nat_le}
+use Rattle.std.specs.Prelude.{◌==◌, if◌then◌else◌, ◌&&◌, nat_le}
 use Rattle.std.specs.Option.{option_map_or}
 use Rattle.std.specs.List.{AllByRecursion, concat, cons_option, list_any, sum_by}
 use Rattle.std.specs.Cmp.Lexicographic.{nat_list_cmp_total}
@@ -9,7 +9,6 @@ use Rattle.std.proofs.lemmas.Bool.{and_parts, eqb-false, leb-false, lt-leb, lt-l
 use Rattle.std.proofs.lemmas.Map.Lookups.{exact_bytes}
 use Rattle.blob_digest.specs.declared.range.ByteRange.{ByteRange}
 use Rattle.blob_digest.specs.declared.refusal.Refusal.TheVariants.{DigestInvalid, NameUnknown, StoreFull}
-use Rattle.blob_digest.specs.Digests.{is_digest_of}
 use Rattle.spec_lib.specs.Outcomes.{refuse}
 use Rattle.spec_lib.specs.Sets as set
 use Rattle.spec_lib.specs.Texts.{Text, same_text}
@@ -17,8 +16,8 @@ use Rattle.spec_lib.proofs.Lists.{list_any_count, sum_by-ones, witness}
 use Rattle.spec_lib.proofs.Maps.{get-remove_other, term}
 use Rattle.spec_lib.proofs.Options.{nothing, some_none, some_same}
 use Rattle.spec_lib.proofs.Outcomes.{bound_ok, not_refused, some_of_ok}
-use Rattle.store_model.specs.Catalog.{Catalog, CheckedIn, HandRecord, Resident, SessionNumber, Tenant, holds, link_count, opening, tenant_of}
-use Rattle.store_model.specs.Commands.{check_share, check_quota, chunk_length_check, close, finish, has_same_bytes, has_slot, is_digest_accepted, is_full_for, mount, session_of_hand, start, tenant}
+use Rattle.store_model.specs.Catalog.{Catalog, CheckedIn, HandRecord, Resident, SessionNumber, Tenant, holds, link_count, opening, tenant_of, ContentRules}
+use Rattle.store_model.specs.Commands.{check_share, check_quota, chunk_length_check, close, finish, fits_stored, has_slot, is_digest_accepted, is_full_for, mount, session_of_hand, start, tenant, is_named}
 use Rattle.store_model.specs.Durable.{Agrees, AreReturnedAsTaken, Change, DurableState, IsReturnedAsTaken, SessionSealed, TakenChunks, after_change, change_of, changes_of, chunk_change, command_change, filled_chunk, initial_durable, mount_change, session_key, taken_after_step}
 use Rattle.store_model.specs.Histories.{AreSteps, CommandCall, FinishCall, MayLeadTo, PutBackCall, State, Step, SweepCall, TakeCall, initial_state}
 use Rattle.store_model.specs.Invariant.{Sound}
@@ -109,27 +108,27 @@ module _ (taken : TakenChunks) (D : DurableState) (C : Catalog) (a : Agrees take
             let left = left_over free in
             rw found (lt-leb R.slots (len (kept R) + (R.retired + 0)) (omega arith))
 
-    bytes_remain : (whole : Text) → has_same_bytes (get C.residents digest) whole ≡ true → has_same_bytes (get (kept R) digest) whole ≡ true
-    bytes_remain whole same = by (get (kept R) digest) refl
+    bytes_remain : R.contents ≡ C.contents → (whole : Text) → fits_stored C.contents (get C.residents digest) whole ≡ true → fits_stored R.contents (get (kept R) digest) whole ≡ true
+    bytes_remain rules whole same = by (get (kept R) digest) refl
       where
-        by : (o : Option Resident) → get (kept R) digest ≡ o → has_same_bytes o whole ≡ true
+        by : (o : Option Resident) → get (kept R) digest ≡ o → fits_stored R.contents o whole ≡ true
         by None found = refl
         by (Some x) found =
             let was = same_blob digest x found in
-            ap (λ (y : Text). same_text y whole) was.2 ∙ ap (λ o. has_same_bytes o whole) (sym was.1) ∙ same
+            ap (λ r. fits_stored r (Some x) whole) rules ∙ ap (λ (y : Text). if C.contents.on_disk then length y == length whole else same_text y whole) was.2 ∙ ap (λ o. fits_stored C.contents o whole) (sym was.1) ∙ same
 
 -- ---- each change has room after a sweep
 
-module _ (taken : TakenChunks) (D : DurableState) (s : State) (a : Agrees taken D s.catalog) (sound : Sound s.catalog) (R : Catalog) (b : Agrees empty D R) (slots_are : R.slots ≡ s.catalog.slots) (none_retired : R.retired ≡ 0) where
+module _ (taken : TakenChunks) (D : DurableState) (s : State) (a : Agrees taken D s.catalog) (sound : Sound s.catalog) (R : Catalog) (b : Agrees empty D R) (slots_are : R.slots ≡ s.catalog.slots) (none_retired : R.retired ≡ 0) (rules : R.contents ≡ s.catalog.contents) where
   abbrev C : Catalog
   C = s.catalog
 
   -- a seal of a session with these chunks has room
-  sealed_room : (key : SessionNumber) (repo : Text) (chunks : List Text) (d last : Text) → get D.sessions key ≡ Some (record { repo = repo; chunks = CheckedIn chunks }) → has_slot C d ≡ Ok tt → has_same_bytes (get C.residents d) (concat chunks ++ last) ≡ true →
+  sealed_room : (key : SessionNumber) (repo : Text) (chunks : List Text) (d last : Text) → get D.sessions key ≡ Some (record { repo = repo; chunks = CheckedIn chunks }) → has_slot C d ≡ Ok tt → fits_stored C.contents (get C.residents d) (concat chunks ++ last) ≡ true →
       HasRoomFor D (after R) (SessionSealed key d last)
   sealed_room key repo chunks d last found free same =
       let whole : content_in D.sessions key last ≡ concat chunks ++ last = ap (λ o. concat (option_map_or (λ x. at_home x.chunks) o []) ++ last) found in
-      (slot_remains taken D C a sound R b slots_are none_retired d (not_refused _ _ _ free), bytes_remain taken D C a sound R b slots_are none_retired d (content_in D.sessions key last) (ap (has_same_bytes (get C.residents d)) whole ∙ same))
+      (slot_remains taken D C a sound R b slots_are none_retired d (not_refused _ _ _ free), bytes_remain taken D C a sound R b slots_are none_retired d rules (content_in D.sessions key last) (ap (fits_stored C.contents (get C.residents d)) whole ∙ same))
 
   close_room : (r : Text) (n : ℕ) (d : Text) (g : Option ByteRange) (bytes : Text) (m : ℕ) (X : Catalog) → close C r n d g bytes ≡ Ok (m, X) → HasRoomFor D (after R) (SessionSealed (session_key D.tenants r n) d bytes)
   close_room r n d g bytes m X is =
@@ -142,9 +141,9 @@ module _ (taken : TakenChunks) (D : DurableState) (s : State) (a : Agrees taken 
       let known = some_of_ok (tenant_of C.tenants r) NameUnknown t.0 t.1 in
       let k = checked_home C t.0 n r g (length bytes) c.0 c.1 in
       let kept_is = durable_checked_in taken D C a t.0 n r (length bytes) k in
-      let same = (and_parts (is_digest_of d (content_in C.sessions (t.0, n) bytes)) (has_same_bytes (get C.residents d) (content_in C.sessions (t.0, n) bytes)) (not-false _ (not_refused _ _ _ e.1))).1 in
+      let same = (and_parts (is_named C.contents d (content_in C.sessions (t.0, n) bytes)) (fits_stored C.contents (get C.residents d) (content_in C.sessions (t.0, n) bytes)) (not-false _ (not_refused _ _ _ e.1))).1 in
       let whole : content_in C.sessions (t.0, n) bytes ≡ concat k.chunks ++ bytes = ap (λ o. concat (option_map_or (λ x. at_home x.chunks) o []) ++ bytes) k.found ∙ ap (λ x. concat (at_home x) ++ bytes) k.home in
-      named t.0 known (sealed_room (t.0, n) k.s.repo k.chunks d bytes kept_is.0 f.1 (ap (has_same_bytes (get C.residents d)) (sym whole) ∙ same))
+      named t.0 known (sealed_room (t.0, n) k.s.repo k.chunks d bytes kept_is.0 f.1 (ap (fits_stored C.contents (get C.residents d)) (sym whole) ∙ same))
     where
       named : (t : ℕ) → tenant_of C.tenants r ≡ Some t → HasRoomFor D (after R) (SessionSealed (t, n) d bytes) → HasRoomFor D (after R) (SessionSealed (session_key D.tenants r n) d bytes)
       named t known room = subst (λ key. HasRoomFor D (after R) (SessionSealed key d bytes)) (sym (ap (λ o. (option_map_or (λ x. x) o 0, n)) (ap (λ ts. tenant_of ts r) a.tenants ∙ known))) room
@@ -156,7 +155,7 @@ module _ (taken : TakenChunks) (D : DurableState) (s : State) (a : Agrees taken 
       let share = bound_ok (check_share C h.key.0 d) _ (n, X) e.2 in
       let f = bound_ok (has_slot C d) _ (n, X) share.2 in
       let kept_is = durable_hand taken D C a h returned c.0 c.1 in
-      let same = (and_parts (is_digest_of d (hand_content h)) (has_same_bytes (get C.residents d) (hand_content h)) (not-false _ (not_refused _ _ _ e.1))).1 in
+      let same = (and_parts (is_named C.contents d (hand_content h)) (fits_stored C.contents (get C.residents d) (hand_content h)) (not-false _ (not_refused _ _ _ e.1))).1 in
       sealed_room h.key c.0.repo h.chunks d (filled_chunk h) kept_is.1 f.1 same
 
   -- every other change has room
@@ -205,7 +204,7 @@ record IsAlike (D : DurableState) (C R : Catalog) : Type 0 where
   agrees : Agrees empty D R
   sound : Sound R
   slots : R.slots ≡ C.slots
-  limit : R.max_blob ≡ C.max_blob
+  limit : R.contents ≡ C.contents
   retired : R.retired ≡ 0
 
 -- the replay of a log: a sweep, the command of the first change, and the replay of the rest
@@ -248,7 +247,7 @@ steps_replayed tenants (step ∷ steps) taken D s s' a known sound run returned 
         let records : change_of D.tenants step ≡ Some change = ap (λ ts. change_of ts step) known ∙ is in
         let clean : Agrees empty D (after R) = sweeps empty D R (after R) (swept R) alike.agrees (some_sweep R) in
         let clean_sound : Sound (after R) = Sound-sweep R (after R) (swept R) (some_sweep R) alike.sound.lawful alike.sound.quotas alike.sound.shares alike.sound.slots in
-        let free = step_room taken D s a sound R alike.agrees alike.slots alike.retired step mid.catalog run.1.leaves returned.0 change records in
+        let free = step_room taken D s a sound R alike.agrees alike.slots alike.retired alike.limit step mid.catalog run.1.leaves returned.0 change records in
         let one : HasReplay D (after R) change = changes_have_replays taken D s step mid.catalog change
         (record { agrees = a; sound = sound; leaves = run.1.leaves; returned = returned.0; well_formed = right.0; records = records }) (after R) clean clean_sound alike.limit free in
         let same = left_ok (SameSlots (after R)) (outcome false (after R) one.command) one.answer one.catalog (command_setting (after R) one.command) one.accepted in
@@ -260,6 +259,6 @@ steps_replayed tenants (step ∷ steps) taken D s s' a known sound run returned 
         (record { agrees = one.agrees; sound = one.sound; slots = same.0 ∙ alike.slots ∙ sym setting.0; limit = same.1 ∙ alike.limit ∙ sym setting.1; retired = omega arith })))
 
 pub logs_have_replays : LogsHaveReplays
-logs_have_replays tenants slots max_blob steps s sound run returned right =
-    steps_replayed tenants steps empty (initial_durable tenants) (initial_state (opening tenants slots max_blob)) s (new_stores_agree tenants slots max_blob) refl sound run returned right (opening tenants slots max_blob)
-    (record { agrees = new_stores_agree tenants slots max_blob; sound = sound; slots = refl; limit = refl; retired = refl })
+logs_have_replays tenants slots contents steps s sound run returned right =
+    steps_replayed tenants steps empty (initial_durable tenants) (initial_state (opening tenants slots contents)) s (new_stores_agree tenants slots contents) refl sound run returned right (opening tenants slots contents)
+    (record { agrees = new_stores_agree tenants slots contents; sound = sound; slots = refl; limit = refl; retired = refl })

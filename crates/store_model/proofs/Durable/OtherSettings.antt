@@ -9,7 +9,7 @@ use Rattle.std.proofs.lemmas.List.{length-map}
 use Rattle.spec_lib.specs.Sets as set
 use Rattle.spec_lib.specs.Texts.{Text, same_text, text_cmp}
 use Rattle.spec_lib.proofs.Rows.{position-map}
-use Rattle.store_model.specs.Catalog.{Catalog, Session, SessionNumber, Tenant, charged_length, is_repo_of_tenant, tenant_name, tenant_of}
+use Rattle.store_model.specs.Catalog.{Catalog, Session, SessionNumber, Tenant, charged_length, is_repo_of_tenant, tenant_name, tenant_of, ContentRules}
 use Rattle.store_model.specs.Durable.{Agrees, DurableState, TakenChunks}
 use Rattle.store_model.specs.Invariant.{AreWellFormedNumbers, AreWellFormedRepositories, AreWithinLimits, Sound, WellFormed, WellFormedSession}
 use Rattle.store_model.specs.Recovery.{CanRestore, StoresRestartWithOtherSettings, restored_blob, restored_blobs, restored_catalog, with_tenants}
@@ -56,15 +56,15 @@ module _ (ts us : List Tenant) (names : map (λ t. t.name) ts ≡ map (λ t. t.n
 
 -- ---- the restored catalog
 
-module _ (taken : TakenChunks) (D : DurableState) (C : Catalog) (a : Agrees taken D C) (lawful : WellFormed C) (tenants : List Tenant) (slots max_blob : ℕ) (can : CanRestore D tenants slots max_blob) where
+module _ (taken : TakenChunks) (D : DurableState) (C : Catalog) (a : Agrees taken D C) (lawful : WellFormed C) (tenants : List Tenant) (slots : ℕ) (contents : ContentRules) (can : CanRestore D tenants slots contents) (place : contents.on_disk ≡ C.contents.on_disk) where
   abbrev R : Catalog
-  R = record C { tenants = tenants; slots = slots; max_blob = max_blob; sessions = D.sessions; residents = restored_blobs D; retired = 0 }
+  R = record C { tenants = tenants; slots = slots; contents = contents; sessions = D.sessions; residents = restored_blobs D; retired = 0 }
 
-  is_restored : R ≡ restored_catalog (with_tenants D tenants) slots max_blob
+  is_restored : R ≡ restored_catalog (with_tenants D tenants) slots contents
   is_restored = λ i. record {
     tenants = tenants;
     slots = slots;
-    max_blob = max_blob;
+    contents = contents;
     repos = sym a.repos i;
     links = sym a.links i;
     manifests = sym a.manifests i;
@@ -78,7 +78,7 @@ module _ (taken : TakenChunks) (D : DurableState) (C : Catalog) (a : Agrees take
   names = can.names ∙ ap (λ ts. map (λ (t : Tenant). t.name) ts) a.tenants
 
   agrees : Agrees empty (with_tenants D tenants) R
-  agrees = let there = agrees_there taken D C a slots max_blob in record {
+  agrees = let there = agrees_there taken D C a slots contents in record {
     tenants = refl;
     repos = there.repos;
     links = there.links;
@@ -98,25 +98,25 @@ module _ (taken : TakenChunks) (D : DurableState) (C : Catalog) (a : Agrees take
         repo = old.repo;
         tenant = same_owner tenants C.tenants names key.0 was.0.repo ∙ old.tenant;
         chunks = was.4;
-        small = subst (λ (x : Session). charged_length x ≤ max_blob) was.3 (can.small key s found);
+        small = subst (λ (x : Session). charged_length x ≤ contents.max_blob) was.3 (can.small key s found);
         positive = old.positive;
         number = old.number;
       })
 
   is_lawful : WellFormed R
   is_lawful = record {
-    content = content taken D C a slots max_blob lawful;
+    content = content taken D C a slots contents lawful place;
     links = λ l h. let k = kept_blob taken D C a l h in record { repo = a.linked_in l h; kept = (restored_blob k.0.bytes, k.3, refl) };
     manifests = lawful.manifests;
     sessions = session;
     repositories = repositories tenants C.tenants names C.repos lawful.repositories;
     numbering = numbers tenants C.tenants names C.next lawful.numbering;
-    limits = limits tenants C.tenants names C.max_blob max_blob can.limit can.quotas can.limits lawful.limits;
+    limits = limits tenants C.tenants names C.contents.max_blob contents.max_blob can.limit can.quotas can.limits lawful.limits;
     few_sessions = λ t. let less = open_less taken D C a t in let few = lawful.few_sessions t in omega arith;
     few_manifests = lawful.few_manifests;
   }
 
-  is_sound : Sound (restored_catalog (with_tenants D tenants) slots max_blob)
+  is_sound : Sound (restored_catalog (with_tenants D tenants) slots contents)
   is_sound = record {
     lawful = subst (λ X. WellFormed X) is_restored is_lawful;
     quotas = can.uses;
@@ -125,5 +125,5 @@ module _ (taken : TakenChunks) (D : DurableState) (C : Catalog) (a : Agrees take
   }
 
 pub stores_restart_with_other_settings : StoresRestartWithOtherSettings
-stores_restart_with_other_settings taken D C a lawful tenants slots max_blob can =
-    (is_sound taken D C a lawful tenants slots max_blob can, subst (λ X. Agrees empty (with_tenants D tenants) X) (is_restored taken D C a lawful tenants slots max_blob can) (agrees taken D C a lawful tenants slots max_blob can))
+stores_restart_with_other_settings taken D C a lawful tenants slots contents can place =
+    (is_sound taken D C a lawful tenants slots contents can place, subst (λ X. Agrees empty (with_tenants D tenants) X) (is_restored taken D C a lawful tenants slots contents can place) (agrees taken D C a lawful tenants slots contents can place))

@@ -7,7 +7,7 @@ use Rattle.std.specs.FinMap.{FinMap, empty, get, remove}
 use Rattle.std.proofs.lemmas.Bool.{and_from, and_parts, le-ltb, leb-false, leb-true, not-false, or_parts}
 use Rattle.blob_digest.specs.declared.range.ByteRange.{ByteRange}
 use Rattle.blob_digest.specs.declared.refusal.Refusal.TheVariants.{DigestInvalid, LimitReached, ManifestInvalid, NameUnknown, RepoInUse, SizeInvalid}
-use Rattle.blob_digest.specs.Digests.{is_digest_of, sha256_text}
+use Rattle.blob_digest.specs.Digests.{sha256_text}
 use Rattle.blob_digest.proofs.KeyOrders.{number_cmp_total, exact_number}
 use Rattle.oci_manifest.specs.Manifests.{max_manifest, refs_of}
 use Rattle.spec_lib.specs.Outcomes.{refuse}
@@ -17,9 +17,9 @@ use Rattle.spec_lib.proofs.Maps.{get-insert_at}
 use Rattle.spec_lib.proofs.Options.{some_none, some_same}
 use Rattle.spec_lib.proofs.Outcomes.{bound_ok, not_refused, some_of_ok}
 use Rattle.spec_lib.proofs.Texts.{same_itself}
-use Rattle.store_model.specs.Catalog.{Catalog, CheckedIn, HandRecord, Resident, Session, SessionNumber, charged_length, next_number_of, open_sessions, quota_of, received_length, tenant_holds, tenant_of, used_bytes, limits_of}
+use Rattle.store_model.specs.Catalog.{Catalog, CheckedIn, HandRecord, Resident, Session, SessionNumber, charged_length, next_number_of, open_sessions, quota_of, received_length, tenant_holds, tenant_of, used_bytes, limits_of, ContentRules}
 use Rattle.store_model.specs.Commands
-use Rattle.store_model.specs.Commands.{check_share, add_manifest, after_append_in, append, cannot_open, check_all_links, check_link, check_no_referrer, check_quota, check_repo, chunk_length_check, close, content_in, delete, finish, has_links, has_manifest, has_manifests, has_same_bytes, has_sessions, has_slot, has_source, is_digest_accepted, is_full_of_manifests, is_in_use, lacks_room_for, manifest, mounted_outcome, not_busy, put_back, put_back_outcome_in, referrer, session, session_in, session_of_hand, start, started_outcome, tenant, with_link, with_manifest, with_new_session, with_stored_blob, without_repo, without_session}
+use Rattle.store_model.specs.Commands.{check_share, add_manifest, after_append_in, append, cannot_open, check_all_links, check_link, check_no_referrer, check_quota, check_repo, chunk_length_check, close, content_in, delete, finish, has_links, has_manifest, has_manifests, fits_stored, has_sessions, has_slot, has_source, is_digest_accepted, is_full_of_manifests, is_in_use, lacks_room_for, manifest, mounted_outcome, not_busy, put_back, put_back_outcome_in, referrer, session, session_in, session_of_hand, start, started_outcome, tenant, with_link, with_manifest, with_new_session, with_stored_blob, without_repo, without_session, is_named}
 use Rattle.store_model.specs.Durable.{Agrees, BlobLinked, BlobUnlinked, Change, DurableState, IsReturnedAsTaken, ManifestDeleted, ManifestPut, RepoRemoved, SessionDropped, SessionOpened, SessionSealed, TakenChunks, change_of, chunk_change, command_change, filled_chunk, mount_change, session_key}
 use Rattle.store_model.specs.Histories.{CommandCall, FinishCall, MayLeadTo, PutBackCall, State, Step, SweepCall, TakeCall}
 use Rattle.store_model.specs.Invariant.{Sound}
@@ -101,7 +101,7 @@ module _ (D : DurableState) (R : Catalog) (b : Agrees empty D R) (sound : Sound 
 
     -- a chunk with which the durable state agrees with a sound catalog is within its limit on blobs, and within the quota
     room : (taken : TakenChunks) (X : Catalog) (bytes : Text) → AllByRecursion (λ c. c ≢ []) chunks → Agrees taken (after_record D (chunk_change key bytes)) X → Sound X →
-        (sum_by length chunks + length bytes ≤ X.max_blob) × (used_bytes R key.0 + length bytes ≤ quota_of R key.0)
+        (sum_by length chunks + length bytes ≤ X.contents.max_blob) × (used_bytes R key.0 + length bytes ≤ quota_of R key.0)
     room taken X bytes pieces a sound_there =
         let small = (sound_there.lawful.sessions key was.0 was.2).small in
         let more : charged_length longer ≤ charged_length was.0 = was.5 in
@@ -135,9 +135,9 @@ module _ (D : DurableState) (R : Catalog) (b : Agrees empty D R) (sound : Sound 
 
     -- ---- commands with a chunk that has room
 
-    module _ (bytes : Text) (fits : sum_by length chunks + length bytes ≤ R.max_blob) (within : used_bytes R key.0 + length bytes ≤ quota_of R key.0) where
-      length_ok : length_after R.max_blob (received_length s) None (length bytes) ≡ Ok (received_length s + length bytes)
-      length_ok = rw (le-ltb R.max_blob (received_length s + length bytes) fits) refl
+    module _ (bytes : Text) (fits : sum_by length chunks + length bytes ≤ R.contents.max_blob) (within : used_bytes R key.0 + length bytes ≤ quota_of R key.0) where
+      length_ok : length_after R.contents.max_blob (received_length s) None (length bytes) ≡ Ok (received_length s + length bytes)
+      length_ok = rw (le-ltb R.contents.max_blob (received_length s + length bytes) fits) refl
 
       check_ok : chunk_length_check R key.0 repo key.1 None (length bytes) ≡ Ok (received_length s + length bytes)
       check_ok = rw session_ok length_ok
@@ -152,7 +152,7 @@ module _ (D : DurableState) (R : Catalog) (b : Agrees empty D R) (sound : Sound 
       chunk_replayed change is = done change (runs.Append repo key.1 None bytes) (runs.Number (received_length s + length bytes)) (record R { sessions = after_append_in R.sessions key bytes }) (chunk_names bytes change is)
           (ap (map_outcome runs.Number) append_ok) (ap (λ k. chunk_change k bytes) key_is ∙ is) short
 
-      seal_replayed : (digest : Text) → is_digest_of digest (content_in D.sessions key bytes) ≡ true → check_share R key.0 digest ≡ Ok tt → HasRoomFor D R (SessionSealed key digest bytes) → HasReplay D R (SessionSealed key digest bytes)
+      seal_replayed : (digest : Text) → is_named R.contents digest (content_in D.sessions key bytes) ≡ true → check_share R key.0 digest ≡ Ok tt → HasRoomFor D R (SessionSealed key digest bytes) → HasReplay D R (SessionSealed key digest bytes)
       seal_replayed digest named admits room = done (SessionSealed key digest bytes) (runs.Close repo key.1 digest None bytes) (runs.Number (length whole)) (with_stored_blob R key.0 repo key.1 digest whole)
           (ap (option_map (λ x. runs.Close x.repo key.1 digest None bytes)) found) (ap (map_outcome runs.Number) accepted) (ap (λ k. Some (SessionSealed k digest bytes)) key_is) short
         where
@@ -163,22 +163,22 @@ module _ (D : DurableState) (R : Catalog) (b : Agrees empty D R) (sound : Sound 
           same = ap (λ m. content_in m key bytes) (sym (sessions_are empty D R b R b))
 
           digest_ok : is_digest_accepted R digest whole ≡ true
-          digest_ok = and_from (is_digest_of digest whole) (has_same_bytes (get R.residents digest) whole) (ap (is_digest_of digest) (sym same) ∙ named) (ap (has_same_bytes (get R.residents digest)) (sym same) ∙ room.1)
+          digest_ok = and_from (is_named R.contents digest whole) (fits_stored R.contents (get R.residents digest) whole) (ap (is_named R.contents digest) (sym same) ∙ named) (ap (fits_stored R.contents (get R.residents digest)) (sym same) ∙ room.1)
 
           accepted : close R repo key.1 digest None bytes ≡ Ok (length whole, with_stored_blob R key.0 repo key.1 digest whole)
           accepted = rw (tenant_ok, check_ok, quota_ok, digest_ok, admits, room.0) refl
 
     -- ---- a chunk that is accepted in one store is accepted in the other
 
-    module _ (taken : TakenChunks) (X : Catalog) (bytes : Text) (pieces : AllByRecursion (λ c. c ≢ []) chunks) (a : Agrees taken (after_record D (chunk_change key bytes)) X) (sound_there : Sound X) (limit : X.max_blob ≡ R.max_blob) where
-      has_room : (sum_by length chunks + length bytes ≤ R.max_blob) × (used_bytes R key.0 + length bytes ≤ quota_of R key.0)
-      has_room = let r = room taken X bytes pieces a sound_there in (subst (λ n. sum_by length chunks + length bytes ≤ n) limit r.0, r.1)
+    module _ (taken : TakenChunks) (X : Catalog) (bytes : Text) (pieces : AllByRecursion (λ c. c ≢ []) chunks) (a : Agrees taken (after_record D (chunk_change key bytes)) X) (sound_there : Sound X) (limit : X.contents ≡ R.contents) where
+      has_room : (sum_by length chunks + length bytes ≤ R.contents.max_blob) × (used_bytes R key.0 + length bytes ≤ quota_of R key.0)
+      has_room = let r = room taken X bytes pieces a sound_there in (subst (λ (k : ContentRules). sum_by length chunks + length bytes ≤ k.max_blob) limit r.0, r.1)
 
       pub chunk_accepted : (change : Change) → chunk_change key bytes ≡ Some change → HasReplay D R change
       chunk_accepted change is = chunk_replayed bytes has_room.0 has_room.1 change is
 
-      pub seal_accepted : (digest : Text) → is_digest_of digest (concat chunks ++ bytes) ≡ true → check_share R key.0 digest ≡ Ok tt → HasRoomFor D R (SessionSealed key digest bytes) → HasReplay D R (SessionSealed key digest bytes)
-      seal_accepted digest named admits free = seal_replayed bytes has_room.0 has_room.1 digest (ap (λ o. is_digest_of digest (concat (option_map_or (λ x. at_home x.chunks) o []) ++ bytes)) found ∙ named) admits free
+      pub seal_accepted : (digest : Text) → is_named R.contents digest (concat chunks ++ bytes) ≡ true → check_share R key.0 digest ≡ Ok tt → HasRoomFor D R (SessionSealed key digest bytes) → HasReplay D R (SessionSealed key digest bytes)
+      seal_accepted digest named admits free = seal_replayed bytes has_room.0 has_room.1 digest (ap (λ o. is_named R.contents digest (concat (option_map_or (λ x. at_home x.chunks) o []) ++ bytes)) found ∙ named) admits free
 
 -- ---- repositories, links and manifests
 
@@ -189,10 +189,10 @@ few k n m less is = by (nat_le k m) refl
     by false e = refl
     by true e = absurd (let more = leb-true k m e in let small = leb-false k n is in omega arith)
 
-module _ (taken : TakenChunks) (D : DurableState) (C : Catalog) (a : Agrees taken D C) (slots max_blob retired : ℕ) (residents : FinMap text_cmp Resident) where
+module _ (taken : TakenChunks) (D : DurableState) (C : Catalog) (a : Agrees taken D C) (slots : ℕ) (contents : ContentRules) (retired : ℕ) (residents : FinMap text_cmp Resident) where
   -- the store in which the change is made again
   abbrev target : Catalog
-  target = record C { slots = slots; max_blob = max_blob; sessions = D.sessions; residents = residents; retired = retired }
+  target = record C { slots = slots; contents = contents; sessions = D.sessions; residents = residents; retired = retired }
 
   module _ (b : Agrees empty D target) (sound : Sound target) where
     replayed : (change : Change) (command : Command) (x : Answer) (left : Catalog) → replay_command D change ≡ Some command → outcome false target command ≡ Ok (x, left) → command_change D.tenants command x ≡ Some change →
@@ -347,7 +347,7 @@ module _ (taken : TakenChunks) (D : DurableState) (C : Catalog) (a : Agrees take
 -- ---- steps
 
 -- the two stores have the same tenants and limits
-module _ (taken : TakenChunks) (D : DurableState) (s : State) (a : Agrees taken D s.catalog) (sound : Sound s.catalog) (R : Catalog) (b : Agrees empty D R) (sound_here : Sound R) (limit : R.max_blob ≡ s.catalog.max_blob) where
+module _ (taken : TakenChunks) (D : DurableState) (s : State) (a : Agrees taken D s.catalog) (sound : Sound s.catalog) (R : Catalog) (b : Agrees empty D R) (sound_here : Sound R) (limit : R.contents ≡ s.catalog.contents) where
   abbrev C : Catalog
   C = s.catalog
 
@@ -393,11 +393,11 @@ module _ (taken : TakenChunks) (D : DurableState) (s : State) (a : Agrees taken 
       let accepted : outcome false C (runs.Append r n g bytes) ≡ Ok (runs.Number c.0, X2) = ap (map_outcome runs.Number) (append_is t.0 c.0 r n g bytes t.1 c.1 q.1) in
       let there : Agrees taken (after_record D (chunk_change (t.0, n) bytes)) X2 =
       subst (λ key. Agrees taken (after_record D (chunk_change key bytes)) X2) (ap (λ ts. session_key ts r n) (sym a.tenants) ∙ key_there r t.0 n known) (command_agrees taken D C a (runs.Append r n g bytes) (runs.Number c.0) X2 accepted) in
-      let named = (and_parts (is_digest_of d (content_in C.sessions (t.0, n) bytes)) (has_same_bytes (get C.residents d) (content_in C.sessions (t.0, n) bytes)) (not-false _ (not_refused _ _ _ e.1))).0 in
+      let named = (and_parts (is_named C.contents d (content_in C.sessions (t.0, n) bytes)) (fits_stored C.contents (get C.residents d) (content_in C.sessions (t.0, n) bytes)) (not-false _ (not_refused _ _ _ e.1))).0 in
       let whole : content_in C.sessions (t.0, n) bytes ≡ concat k.chunks ++ bytes = ap (λ o. concat (option_map_or (λ x. at_home x.chunks) o []) ++ bytes) k.found ∙ ap (λ x. concat (at_home x) ++ bytes) k.home in
       subst (λ key. HasReplay D R (SessionSealed key d bytes)) (sym (key_there r t.0 n known))
       (seal_accepted D R b sound_here (t.0, n) k.s.repo k.chunks kept.0 taken X2 bytes kept.1 there (Sound-case C X2 (runs.Append r n g bytes) (Ok (runs.Number c.0)) short_name accepted sound) (sym limit) d
-      (ap (is_digest_of d) (sym whole) ∙ named) (sym (share_there t.0 d) ∙ share.1) (subst (λ key. HasRoomFor D R (SessionSealed key d bytes)) (key_there r t.0 n known) free))
+      (ap (λ r. is_named r d (concat k.chunks ++ bytes)) limit ∙ ap (is_named C.contents d) (sym whole) ∙ named) (sym (share_there t.0 d) ∙ share.1) (subst (λ key. HasRoomFor D R (SessionSealed key d bytes)) (key_there r t.0 n known) free))
     where
       append_is : (t after : ℕ) (r : Text) (n : ℕ) (g : Option ByteRange) (bytes : Text) → tenant C r ≡ Ok t → chunk_length_check C t r n g (length bytes) ≡ Ok after → check_quota C t (length bytes) ≡ Ok tt →
           append C r n g bytes ≡ Ok (after, record C { sessions = after_append_in C.sessions (t, n) bytes })
@@ -430,9 +430,9 @@ module _ (taken : TakenChunks) (D : DurableState) (s : State) (a : Agrees taken 
         let kept = durable_hand taken D C a h returned c.0 c.1 in
         let X2 : Catalog = record C { sessions = with_chunks C.sessions h.key c.0 (CheckedIn (chunks_of h)) } in
         let back : put_back C h ≡ Ok (sum_by length (chunks_of h), X2) = back_is c.0 c.1 in
-        let named = (and_parts (is_digest_of d (hand_content h)) (has_same_bytes (get C.residents d) (hand_content h)) (not-false _ (not_refused _ _ _ e.1))).0 in
+        let named = (and_parts (is_named C.contents d (hand_content h)) (fits_stored C.contents (get C.residents d) (hand_content h)) (not-false _ (not_refused _ _ _ e.1))).0 in
         seal_accepted D R b sound_here h.key c.0.repo h.chunks kept.1 taken X2 (filled_chunk h) kept.2 (puts_back taken D C a h returned (sum_by length (chunks_of h)) X2 back)
-        (sound_put_back taken D C a sound h returned fills (sum_by length (chunks_of h)) X2 back) (sym limit) d named (sym (share_there h.key.0 d) ∙ share.1) free
+        (sound_put_back taken D C a sound h returned fills (sum_by length (chunks_of h)) X2 back) (sym limit) d (ap (λ r. is_named r d (hand_content h)) limit ∙ named) (sym (share_there h.key.0 d) ∙ share.1) free
       where
         back_is : (x : Session) → session_of_hand (get C.sessions h.key) h ≡ Ok x → put_back C h ≡ Ok (sum_by length (chunks_of h), record C { sessions = with_chunks C.sessions h.key x (CheckedIn (chunks_of h)) })
         back_is x here = rw here refl
@@ -444,7 +444,7 @@ module _ (taken : TakenChunks) (D : DurableState) (s : State) (a : Agrees taken 
       let h = answered_ok runs.Number (start C r) x X is in
       subst (λ y. command_change D.tenants (runs.Start r) y ≡ Some change → HasReplay D R change) h.2
       (λ e. subst (λ y. HasReplay D R y) (some_same e)
-      (by_parts (SessionOpened r (session_key D.tenants r h.0)) (λ b0 sound0. starts taken D C a R.slots R.max_blob R.retired R.residents b0 sound0 r h.0 X h.1 short_name))) records
+      (by_parts (SessionOpened r (session_key D.tenants r h.0)) (λ b0 sound0. starts taken D C a R.slots R.contents R.retired R.residents b0 sound0 r h.0 X h.1 short_name))) records
   command_replayed (runs.Status r n) x X is short_name change records free = some_none (sym records)
   command_replayed (runs.Append r n g bytes) x X is short_name change records free = let h = answered_ok runs.Number (append C r n g bytes) x X is in appended r n g bytes h.0 X h.1 short_name change records
   command_replayed (runs.Close r n d g bytes) x X is short_name change records free =
@@ -457,24 +457,24 @@ module _ (taken : TakenChunks) (D : DurableState) (s : State) (a : Agrees taken 
       let h = answered_ok runs.Mounting (Commands.mount C r d from) x X is in
       subst (λ y. command_change D.tenants (runs.Mount r d from) y ≡ Some change → HasReplay D R change) h.2
       (λ e. subst (λ y. HasReplay D R y) (some_same e)
-      (by_parts (mount_change D.tenants r d h.0) (λ b0 sound0. mounted taken D C a R.slots R.max_blob R.retired R.residents b0 sound0 r d from h.0 X h.1 short_name))) records
+      (by_parts (mount_change D.tenants r d h.0) (λ b0 sound0. mounted taken D C a R.slots R.contents R.retired R.residents b0 sound0 r d from h.0 X h.1 short_name))) records
   command_replayed (runs.Delete r d) x X is short_name change records free =
       let h = answered_ok (λ _. runs.Done) (delete C r d) x X is in
-      subst (λ y. HasReplay D R y) (some_same records) (by_parts (BlobUnlinked r d) (λ b0 sound0. deletes taken D C a R.slots R.max_blob R.retired R.residents b0 sound0 r d X h.1 short_name))
+      subst (λ y. HasReplay D R y) (some_same records) (by_parts (BlobUnlinked r d) (λ b0 sound0. deletes taken D C a R.slots R.contents R.retired R.residents b0 sound0 r d X h.1 short_name))
   command_replayed (runs.PutManifest r bytes) x X is short_name change records free =
       let h = answered_ok runs.Bytes (Commands.put_manifest C r bytes) x X is in
-      subst (λ y. HasReplay D R y) (some_same records) (by_parts (ManifestPut r bytes) (λ b0 sound0. describes taken D C a R.slots R.max_blob R.retired R.residents b0 sound0 r bytes h.0 X h.1 short_name))
+      subst (λ y. HasReplay D R y) (some_same records) (by_parts (ManifestPut r bytes) (λ b0 sound0. describes taken D C a R.slots R.contents R.retired R.residents b0 sound0 r bytes h.0 X h.1 short_name))
   command_replayed (runs.GetManifest r m) x X is short_name change records free = some_none (sym records)
   command_replayed (runs.DeleteManifest r m) x X is short_name change records free =
       let h = answered_ok (λ _. runs.Done) (Commands.delete_manifest C r m) x X is in
-      subst (λ y. HasReplay D R y) (some_same records) (by_parts (ManifestDeleted r m) (λ b0 sound0. forgets taken D C a R.slots R.max_blob R.retired R.residents b0 sound0 r m X h.1 short_name))
+      subst (λ y. HasReplay D R y) (some_same records) (by_parts (ManifestDeleted r m) (λ b0 sound0. forgets taken D C a R.slots R.contents R.retired R.residents b0 sound0 r m X h.1 short_name))
   command_replayed (runs.RemoveRepo r) x X is short_name change records free =
       let h = answered_ok (λ _. runs.Done) (Commands.remove_repo C r) x X is in
-      subst (λ y. HasReplay D R y) (some_same records) (by_parts (RepoRemoved r) (λ b0 sound0. removes taken D C a R.slots R.max_blob R.retired R.residents b0 sound0 r X h.1 short_name))
+      subst (λ y. HasReplay D R y) (some_same records) (by_parts (RepoRemoved r) (λ b0 sound0. removes taken D C a R.slots R.contents R.retired R.residents b0 sound0 r X h.1 short_name))
   command_replayed (runs.Lease r d) x X is short_name change records free = some_none (sym records)
 
 step_replayed : (taken : TakenChunks) (D : DurableState) (s : State) (step : Step) (X : Catalog) (change : Change) (R : Catalog) → Agrees taken D s.catalog → Sound s.catalog → MayLeadTo s step X →
-    IsReturnedAsTaken taken step → IsWellFormedStep step → change_of D.tenants step ≡ Some change → Agrees empty D R → Sound R → R.max_blob ≡ s.catalog.max_blob → HasRoomFor D R change → HasReplay D R change
+    IsReturnedAsTaken taken step → IsWellFormedStep step → change_of D.tenants step ≡ Some change → Agrees empty D R → Sound R → R.contents ≡ s.catalog.contents → HasRoomFor D R change → HasReplay D R change
 step_replayed taken D s (CommandCall command (Ok x)) X change R a sound leaves returned right records b sound_here limit free =
     command_replayed taken D s a sound R b sound_here limit command x X leaves right change records free
 step_replayed taken D s (PutBackCall h (Ok n)) X change R a sound leaves returned right records b sound_here limit free =

@@ -31,9 +31,9 @@ module _ (D : DurableState) (C : Catalog) (a : Agrees empty D C) where
   home k (CheckedOutWith n m) chunks is = nothing (get-empty session_number_cmp k) is.1
 
   all_home : AtHome empty C C.sessions
-  all_home k = subst (λ o. AreOne C.tenants C.max_blob k (get C.sessions k) o (get C.sessions k)) (sym (get-empty session_number_cmp k)) (by (get C.sessions k) (a.sessions k))
+  all_home k = subst (λ o. AreOne C.tenants C.contents.max_blob k (get C.sessions k) o (get C.sessions k)) (sym (get-empty session_number_cmp k)) (by (get C.sessions k) (a.sessions k))
     where
-      by : (o : Option Session) → AgreesOnSession (get {R = session_number_cmp} empty k) (get D.sessions k) o → AreOne C.tenants C.max_blob k o None o
+      by : (o : Option Session) → AgreesOnSession (get {R = session_number_cmp} empty k) (get D.sessions k) o → AreOne C.tenants C.contents.max_blob k o None o
       by None is = refl
       by (Some s) is = (home k s.chunks is.0 is.3, refl)
 

@@ -1,4 +1,8 @@
 -- The restored catalog is sound, agrees with the durable state, and no tenant uses more than before.
+use Rattle.std.specs.Prelude.{if◌then◌else◌}
+use Rattle.blob_digest.specs.Digests.{is_digest_of}
+use Rattle.blob_digest.specs.Vouched.{has_digest}
+use Rattle.store_model.specs.Commands.{is_named}
 use Rattle.std.proofs.Common.{◌≡◌, ℕ, ◌≤◌, ◌^◌, Bool, true, false, cond, map, Option, Some, None, refl, sym, ap, ◌∙◌, subst, arith}
 use Rattle.std.specs.Option.{option_map}
 use Rattle.std.specs.Ordering.{eq_by_cmp}
@@ -6,7 +10,6 @@ use Rattle.std.specs.Cmp.Lexicographic.{nat_list_cmp_total}
 use Rattle.std.specs.List.{sum_by}
 use Rattle.std.specs.FinMap.{contains_key-keys, empty, entries, get, get-entries, get-from_entries, get-retain_keys, len, len-entries}
 use Rattle.std.proofs.lemmas.Map.Lookups.{exact_bytes}
-use Rattle.blob_digest.specs.Digests.{is_digest_of}
 use Rattle.spec_lib.specs.Sets as set
 use Rattle.spec_lib.specs.Texts.{Text, text_cmp}
 use Rattle.spec_lib.proofs.Lists.{list_any_weaker, sum_by-ones, witness}
@@ -14,7 +17,7 @@ use Rattle.spec_lib.proofs.Mapped.{find-over, map_none}
 use Rattle.spec_lib.proofs.Maps.{term}
 use Rattle.spec_lib.proofs.Options.{nothing, some_same}
 use Rattle.spec_lib.proofs.Texts.{tied_text}
-use Rattle.store_model.specs.Catalog.{Catalog, Link, Resident, Session, SessionNumber, charged_length, session_number_cmp, used_bytes}
+use Rattle.store_model.specs.Catalog.{Catalog, Link, Resident, Session, SessionNumber, charged_length, session_number_cmp, used_bytes, ContentRules}
 use Rattle.store_model.specs.Durable.{Agrees, AgreesOnSession, DurableState, TakenChunks}
 use Rattle.store_model.specs.Invariant.{Sound, WellFormed, WellFormedSession}
 use Rattle.store_model.proofs.Durable.Uses.{open_less, sum_within, used_within, was_open}
@@ -60,16 +63,16 @@ module _ (taken : TakenChunks) (D : DurableState) (C : Catalog) (a : Agrees take
           (w.0, k.0, here, k.1, some_same (sym k.3 ∙ found))
       by false is = nothing (get-blobs D d ∙ ap (λ b. cond b (option_map restored_blob (get D.contents d)) None) is) found
 
-  module _ (slots max_blob : ℕ) where
+  module _ (slots : ℕ) (contents : ContentRules) where
     -- the original catalog with the restored settings, sessions and blobs
     abbrev R : Catalog
-    R = record C { slots = slots; max_blob = max_blob; sessions = D.sessions; residents = restored_blobs D; retired = 0 }
+    R = record C { slots = slots; contents = contents; sessions = D.sessions; residents = restored_blobs D; retired = 0 }
 
-    is_restored : R ≡ restored_catalog D slots max_blob
+    is_restored : R ≡ restored_catalog D slots contents
     is_restored = λ i. record {
       tenants = sym a.tenants i;
       slots = slots;
-      max_blob = max_blob;
+      contents = contents;
       repos = sym a.repos i;
       links = sym a.links i;
       manifests = sym a.manifests i;
@@ -116,10 +119,12 @@ module _ (taken : TakenChunks) (D : DurableState) (C : Catalog) (a : Agrees take
 
     -- ---- soundness
 
-    pub content : WellFormed C → (d : Text) (x : Resident) → get (restored_blobs D) d ≡ Some x → is_digest_of d x.bytes ≡ true
-    content lawful d x found = let was = was_kept d x found in subst (λ (y : Resident). is_digest_of d y.bytes ≡ true) was.4 (lawful.content d was.1 was.3)
+    pub content : WellFormed C → contents.on_disk ≡ C.contents.on_disk → (d : Text) (x : Resident) → get (restored_blobs D) d ≡ Some x → is_named contents d x.bytes ≡ true
+    content lawful place d x found =
+        let was = was_kept d x found in
+        ap (λ b. if b then has_digest d x.bytes else is_digest_of d x.bytes) place ∙ subst (λ (y : Resident). is_named C.contents d y.bytes ≡ true) was.4 (lawful.content d was.1 was.3)
 
-    module _ (sound : Sound C) (more_slots : C.slots ≤ slots) (few_slots : slots ≤ 65536) (more_bytes : C.max_blob ≤ max_blob) (few_bytes : max_blob ≤ 2 ^ 40) where
+    module _ (sound : Sound C) (more_slots : C.slots ≤ slots) (few_slots : slots ≤ 65536) (more_bytes : C.contents.max_blob ≤ contents.max_blob) (few_bytes : contents.max_blob ≤ 2 ^ 40) (place : contents.on_disk ≡ C.contents.on_disk) where
       abbrev lawful : WellFormed C
       lawful = sound.lawful
 
@@ -133,14 +138,14 @@ module _ (taken : TakenChunks) (D : DurableState) (C : Catalog) (a : Agrees take
             repo = old.repo;
             tenant = old.tenant;
             chunks = was.4;
-            small = subst (λ (x : Session). charged_length x ≤ max_blob) was.3 (omega arith);
+            small = subst (λ (x : Session). charged_length x ≤ contents.max_blob) was.3 (omega arith);
             positive = old.positive;
             number = old.number;
           })
 
       is_lawful : WellFormed R
       is_lawful = record {
-        content = content lawful;
+        content = content lawful place;
         links = λ l h. let k = kept_blob l h in record { repo = a.linked_in l h; kept = (restored_blob k.0.bytes, k.3, refl) };
         manifests = lawful.manifests;
         sessions = session;
@@ -160,10 +165,10 @@ module _ (taken : TakenChunks) (D : DurableState) (C : Catalog) (a : Agrees take
       }
 
 pub stores_restart : StoresRestart
-stores_restart taken D C a sound slots max_blob more_slots few_slots more_bytes few_bytes =
-    let is = is_restored taken D C a slots max_blob in
+stores_restart taken D C a sound slots contents more_slots few_slots more_bytes few_bytes place =
+    let is = is_restored taken D C a slots contents in
     record {
-      sound = subst (λ X. Sound X) is (is_sound taken D C a slots max_blob sound more_slots few_slots more_bytes few_bytes);
-      agrees = subst (λ X. Agrees empty D X) is (agrees taken D C a slots max_blob);
-      uses = λ t. subst (λ X. used_bytes X t ≤ used_bytes C t) is (used_less taken D C a slots max_blob t);
+      sound = subst (λ X. Sound X) is (is_sound taken D C a slots contents sound more_slots few_slots more_bytes few_bytes place);
+      agrees = subst (λ X. Agrees empty D X) is (agrees taken D C a slots contents);
+      uses = λ t. subst (λ X. used_bytes X t ≤ used_bytes C t) is (used_less taken D C a slots contents t);
     }

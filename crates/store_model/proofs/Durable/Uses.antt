@@ -94,13 +94,13 @@ module _ (taken : TakenChunks) (D : DurableState) (C : Catalog) (a : Agrees take
 
     -- the other catalog with the slots, limit, sessions and blobs of this one
     abbrev pub as_was : Catalog
-    as_was = record C { slots = R.slots; max_blob = R.max_blob; sessions = D.sessions; residents = R.residents; retired = R.retired }
+    as_was = record C { slots = R.slots; contents = R.contents; sessions = D.sessions; residents = R.residents; retired = R.retired }
 
     pub as_was_is : as_was ≡ R
     as_was_is = λ i. record {
       tenants = (sym a.tenants ∙ b.tenants) i;
       slots = R.slots;
-      max_blob = R.max_blob;
+      contents = R.contents;
       repos = (sym a.repos ∙ b.repos) i;
       links = (sym a.links ∙ b.links) i;
       manifests = (sym a.manifests ∙ b.manifests) i;

@@ -9,7 +9,7 @@ use Rattle.spec_lib.specs.Sets as set
 use Rattle.store_model.specs.Sessions.{Session, after_append_in}
 use Rattle.store_model.specs.declared.mount.Mount.TheVariants as mounting
 use Rattle.spec_lib.specs.Texts.{Text}
-use Rattle.store_model.specs.Catalog.{Tenant, Catalog, Resident, used_bytes, link_count, opening}
+use Rattle.store_model.specs.Catalog.{Tenant, Catalog, Resident, used_bytes, link_count, opening, in_memory}
 use Rattle.store_model.specs.Commands.{start, append, with_new_session, mount, with_link, delete}
 use Rattle.store_model.specs.BookText.{book_text}
 use Rattle.store_model.specs.Queries.{stat, stat_manifest, usage, slot_use, repo_count, free_slots}
@@ -19,7 +19,7 @@ use Rattle.blob_digest.specs.Tenants.{usual_limits}
 
 -- two tenants of 1,000 and 5 bytes, as they are printed before anything is done
 abbrev two_tenants : Catalog
-two_tenants = opening (record { name = codes "acme"; quota = 1000; share = 4294967295; limits = usual_limits } ∷ record { name = codes "zeta"; quota = 5; share = 4294967295; limits = usual_limits } ∷ []) 64 1048576
+two_tenants = opening (record { name = codes "acme"; quota = 1000; share = 4294967295; limits = usual_limits } ∷ record { name = codes "zeta"; quota = 5; share = 4294967295; limits = usual_limits } ∷ []) 64 (in_memory 1048576)
 
 opening_text : book_text two_tenants ≡ codes "book\ntenant acme used 0 quota 1000 next 1\ntenant zeta used 0 quota 5 next 1\nend\n"
 unfolding digits
@@ -36,7 +36,7 @@ two = codes "acme/two"
 
 -- a tenant of 3 bytes in a store of blobs of at most 10
 abbrev empty_book : Catalog
-empty_book = opening acme 64 10
+empty_book = opening acme 64 (in_memory 10)
 
 unknown_tenant : start empty_book (codes "nobody/x") ≡ Err NameUnknown
 unknown_tenant = refl

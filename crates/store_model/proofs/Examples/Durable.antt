@@ -6,7 +6,7 @@ use Rattle.std.specs.Cmp.Lexicographic.{nat_list_cmp_total}
 use Rattle.blob_digest.proofs.KeyOrders.{number_cmp_total, link_cmp_total}
 use Rattle.spec_lib.specs.Sets as set
 use Rattle.spec_lib.specs.Texts.{Text}
-use Rattle.store_model.specs.Catalog.{Catalog, CheckedIn, HandRecord, Session, Tenant}
+use Rattle.store_model.specs.Catalog.{Catalog, CheckedIn, HandRecord, Session, Tenant, in_memory}
 use Rattle.store_model.specs.Commands.{put_back}
 use Rattle.store_model.specs.Durable.{Agrees, AreReturnedAsTaken, ChunkReceived, DurableState, SessionOpened, SessionSealed, after_changes, changes_of, initial_durable, taken_after_steps}
 use Rattle.store_model.specs.Histories.{TakeCall}
@@ -28,7 +28,7 @@ returned = (tt, (tt, (simp (get-insert {X = List Text} number_cmp_total) refl, (
 
 -- the theorem about a log, for this history
 agrees : Agrees (taken_after_steps empty steps) (after_changes (initial_durable tenants) (SessionOpened repo (0, 1) ∷ ChunkReceived (0, 1) abc_bytes ∷ SessionSealed (0, 1) abc [] ∷ [])) closed
-agrees = logs_agree tenants 1 10 steps (record { catalog = closed; totals = record { commands = 3; received = 3; closed = 3; abandoned = 0 } }) legal returned
+agrees = logs_agree tenants 1 (in_memory 10) steps (record { catalog = closed; totals = record { commands = 3; received = 3; closed = 3; abandoned = 0 } }) legal returned
 
 -- if the last record is lost, the session has its bytes
 abbrev torn : DurableState

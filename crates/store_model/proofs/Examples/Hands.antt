@@ -10,7 +10,7 @@ use Rattle.spec_lib.specs.Sets as set
 use Rattle.blob_digest.proofs.KeyOrders.{number_cmp_total}
 use Rattle.spec_lib.proofs.Rows.{entries-empty}
 use Rattle.spec_lib.specs.Texts.{Text}
-use Rattle.store_model.specs.Catalog.{Catalog, CheckedIn, Session, HandRecord, opening, used_bytes}
+use Rattle.store_model.specs.Catalog.{Catalog, CheckedIn, Session, HandRecord, opening, used_bytes, in_memory}
 use Rattle.store_model.specs.Commands.{abandon, append, after_append_in, close, after_cancel, put_back, status, take, after_take_in}
 use Rattle.store_model.specs.BookText.{book_text}
 use Rattle.blob_digest.specs.Tenants.{usual_limits}
@@ -20,7 +20,7 @@ one = codes "acme/one"
 
 -- a tenant with a quota of 5 bytes: session 1 has two bytes, and session 2 none
 abbrev book : Catalog
-book = record (opening (record { name = codes "acme"; quota = 5; share = 4294967295; limits = usual_limits } ∷ []) 64 10) {
+book = record (opening (record { name = codes "acme"; quota = 5; share = 4294967295; limits = usual_limits } ∷ []) 64 (in_memory 10)) {
   repos = set.insert set.empty_set one;
   sessions = insert (insert empty (0, 1) (record { repo = one; chunks = CheckedIn (codes "ab" ∷ []) })) (0, 2) (record { repo = one; chunks = CheckedIn [] });
   next = 3 ∷ [];

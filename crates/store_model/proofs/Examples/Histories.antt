@@ -6,7 +6,7 @@ use Rattle.std.specs.Cmp.Lexicographic.{nat_list_cmp_total}
 use Rattle.blob_digest.proofs.KeyOrders.{number_cmp_total, link_cmp_total}
 use Rattle.spec_lib.proofs.Rows.{entries-empty}
 use Rattle.spec_lib.specs.Texts.{Text}
-use Rattle.store_model.specs.Catalog.{Catalog, Chunks, CheckedIn, CheckedOutWith, Resident, Session, HandRecord, opening}
+use Rattle.store_model.specs.Catalog.{Catalog, Chunks, CheckedIn, CheckedOutWith, Resident, Session, HandRecord, opening, in_memory}
 use Rattle.store_model.specs.Commands.{finish, with_new_session, put_back, start, with_stored_blob, take, was_leased}
 use Rattle.store_model.specs.Histories.{Step, CommandCall, SweepCall, TakeCall, PutBackCall, FinishCall, State, AreSteps, LeadsTo}
 use Rattle.store_model.specs.Runs.{Start, Number}
@@ -20,7 +20,7 @@ abbrev pub repo : Text
 repo = codes "acme/one"
 
 abbrev pub empty_store : Catalog
-empty_store = opening (record { name = codes "acme"; quota = 9; share = 4294967295; limits = usual_limits } ∷ []) 1 10
+empty_store = opening (record { name = codes "acme"; quota = 9; share = 4294967295; limits = usual_limits } ∷ []) 1 (in_memory 10)
 
 abbrev opened : Catalog
 opened = with_new_session empty_store 0 repo

@@ -12,7 +12,7 @@ use Rattle.blob_digest.proofs.KeyOrders.{number_cmp_total, exact_number, link_cm
 use Rattle.spec_lib.proofs.Sums.{entries-remove, get-remove_same}
 use Rattle.spec_lib.proofs.Rows.{entries-empty}
 use Rattle.store_model.specs.declared.mount.Mount.TheVariants as mounting
-use Rattle.store_model.specs.Catalog.{Tenant, Session, Resident, Catalog, opening}
+use Rattle.store_model.specs.Catalog.{Tenant, Session, Resident, Catalog, opening, in_memory}
 use Rattle.store_model.specs.Commands.{with_new_session, with_stored_blob, with_link}
 use Rattle.store_model.specs.Runs.{Command, Event, CommandEvent, SweepEvent, Start, Close, Mount, Delete, Number, Mounting, Done, outcome, IsRun}
 use Rattle.store_model.specs.declared.swept.Swept.{Swept as SweptCounts}
@@ -37,7 +37,7 @@ abbrev x : Text
 x = codes "other/x"
 
 abbrev empty_book : Catalog
-empty_book = opening tenants 64 10
+empty_book = opening tenants 64 (in_memory 10)
 
 -- ---- the first tenant's isolated run
 
@@ -212,13 +212,13 @@ both_run = (
   ),
 )
 
-brought_first : uploaded_pair abc (close_content other_open x 1 abc_bytes) ≡ (abc, abc_bytes) ∷ []
+brought_first : uploaded_pair other_open.contents abc (close_content other_open x 1 abc_bytes) ≡ (abc, abc_bytes) ∷ []
 brought_first = simp (get-insert {X = Session} number_cmp_total) (rw abc_named refl)
 
-brought_second : uploaded_pair obj (close_content other_again x 2 obj_bytes) ≡ (obj, obj_bytes) ∷ []
+brought_second : uploaded_pair other_again.contents obj (close_content other_again x 2 obj_bytes) ≡ (obj, obj_bytes) ∷ []
 brought_second = simp (get-insert {X = Session} number_cmp_total) (rw obj_named refl)
 
-brought_third : uploaded_pair abc (close_content both_open one 1 abc_bytes) ≡ (abc, abc_bytes) ∷ []
+brought_third : uploaded_pair both_open.contents abc (close_content both_open one 1 abc_bytes) ≡ (abc, abc_bytes) ∷ []
 brought_third = simp (get-insert {X = Session} number_cmp_total) (rw abc_named refl)
 
 abbrev all_brought : List (Text × Text)
@@ -239,15 +239,15 @@ brought_with d whole (suc (suc (suc n)), lt, is) = absurd (omega arith)
 
 -- ---- the premises of the theorem, and its conclusion
 
-fair : IsCollisionFreeRun tenants 64 10 called both_mounted
+fair : IsCollisionFreeRun tenants 64 (in_memory 10) called both_mounted
 fair = record { run = both_run; no_collision = subst NoCollision (sym is_brought) (λ d a b first second. sym (brought_with d a first) ∙ brought_with d b second) }
 
 uncrowded : AllByRecursion IsUnaffectedByOthers (events_of tenants 0 called)
 uncrowded = (tt, (tt, (tt, tt)))
 
 -- the first tenant's replies and view are those of its isolated run
-first_alone : IsIsolated tenants 64 10 0 called both_mounted
-first_alone = isolated tenants 64 10 0 called both_mounted fair uncrowded
+first_alone : IsIsolated tenants 64 (in_memory 10) 0 called both_mounted
+first_alone = isolated tenants 64 (in_memory 10) 0 called both_mounted fair uncrowded
 
 same_part : tenant_view both_mounted 0 ≡ tenant_view alone_mounted 0
 same_part = first_alone.tenant_view ∙ ap (λ C. tenant_view C 0) own_left_alone

@@ -10,7 +10,7 @@ use Rattle.oci_manifest.specs.Manifests.{refs_of, max_manifest}
 use Rattle.store_model.specs.declared.mount.Mount.TheVariants as mounting
 use Rattle.spec_lib.proofs.Rows.{entries-empty}
 use Rattle.spec_lib.specs.Texts.{Text}
-use Rattle.store_model.specs.Catalog.{Tenant, Catalog, opening, tenant_of, open_sessions, next_number_of, repos_of, manifests_of, limits_of}
+use Rattle.store_model.specs.Catalog.{Tenant, Catalog, opening, tenant_of, open_sessions, next_number_of, repos_of, manifests_of, limits_of, in_memory}
 use Rattle.store_model.specs.Commands.{start, with_new_session, mount, has_source, with_link, put_manifest, with_manifest, has_manifest}
 use Rattle.blob_digest.specs.Tenants.{usual_limits}
 
@@ -72,7 +72,7 @@ abbrev one : Text
 one = codes "acme/one"
 
 abbrev all_given : Catalog
-all_given = record (opening acme 64 10) { repos = set.insert set.empty_set one; next = 2 ^ 32 ∷ [] }
+all_given = record (opening acme 64 (in_memory 10)) { repos = set.insert set.empty_set one; next = 2 ^ 32 ∷ [] }
 
 is_there : set.contains all_given.repos one ≡ true
 is_there = simp (get-insert {X = Unit {0}} nat_list_cmp_total) refl

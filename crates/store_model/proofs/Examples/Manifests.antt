@@ -21,7 +21,7 @@ use Rattle.json.specs.Text.{content}
 use Rattle.json.specs.Word.{after_number, word}
 use Rattle.fast_float.specs.Text.{scan}
 use Rattle.spec_lib.specs.Texts.{Text}
-use Rattle.store_model.specs.Catalog.{Catalog, opening}
+use Rattle.store_model.specs.Catalog.{Catalog, opening, in_memory}
 use Rattle.store_model.specs.Commands.{put_manifest, get_manifest, delete_manifest, with_manifest, delete}
 use Rattle.store_model.specs.BookText.{manifest_text, manifest_line}
 use Rattle.spec_lib.proofs.Maps.{get-insert_at, remove-insert_new}
@@ -36,7 +36,7 @@ fresh = codes "acme/new"
 
 -- a tenant of 1,000 bytes
 abbrev empty_book : Catalog
-empty_book = opening (record { name = codes "acme"; quota = 1000; share = 4294967295; limits = usual_limits } ∷ []) 64 10
+empty_book = opening (record { name = codes "acme"; quota = 1000; share = 4294967295; limits = usual_limits } ∷ []) 64 (in_memory 10)
 
 abbrev one_linked : Catalog
 one_linked = record empty_book {

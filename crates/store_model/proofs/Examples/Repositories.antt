@@ -8,7 +8,7 @@ use Rattle.blob_digest.proofs.KeyOrders.{link_cmp_total, number_cmp_total}
 use Rattle.spec_lib.specs.Sets as set
 use Rattle.spec_lib.specs.Texts.{Text}
 use Rattle.spec_lib.proofs.Rows.{entries-empty}
-use Rattle.store_model.specs.Catalog.{Catalog, CheckedIn, CheckedOutWith, Session, Tenant, next_number_of, opening, repos_of, tenant_of, limits_of}
+use Rattle.store_model.specs.Catalog.{Catalog, CheckedIn, CheckedOutWith, Session, Tenant, next_number_of, opening, repos_of, tenant_of, limits_of, in_memory}
 use Rattle.store_model.specs.Commands.{cannot_open, remove_repo, start, with_new_session, without_repo}
 use Rattle.store_model.specs.Durable.{RepoRemoved, SessionDropped, SessionOpened, changes_of}
 use Rattle.store_model.specs.Histories.{CommandCall}
@@ -27,7 +27,7 @@ tenants = record { name = codes "acme"; quota = 1000; share = 4294967295; limits
 
 -- a store with two repositories
 abbrev unused : Catalog
-unused = record (opening tenants 64 10) { repos = set.insert (set.insert set.empty_set one) two }
+unused = record (opening tenants 64 (in_memory 10)) { repos = set.insert (set.insert set.empty_set one) two }
 
 removed : remove_repo unused one ≡ Ok (tt, without_repo unused one)
 removed = simp (get-insert {X = Unit {0}} nat_list_cmp_total, entries-empty) refl

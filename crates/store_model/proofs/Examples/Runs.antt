@@ -4,7 +4,7 @@ use Rattle.std.specs.Prelude.{codes}
 use Rattle.std.specs.FinMap.{get-empty, get-insert, entries-insert}
 use Rattle.blob_digest.specs.declared.refusal.Refusal.TheVariants.{Quota}
 use Rattle.spec_lib.specs.Texts.{Text}
-use Rattle.store_model.specs.Catalog.{Tenant, Session, Catalog, opening}
+use Rattle.store_model.specs.Catalog.{Tenant, Session, Catalog, opening, in_memory}
 use Rattle.store_model.specs.Runs.{Event, CommandEvent, SweepEvent, Start, Append, Mount, Number, Mounting}
 use Rattle.store_model.specs.declared.mount.Mount.TheVariants as mounting
 use Rattle.store_model.specs.Noninterference.{events_of, commands_of, replies, isolated_replies}
@@ -16,7 +16,7 @@ abbrev two : List Tenant
 two = record { name = codes "acme"; quota = 3; share = 4294967295; limits = usual_limits } ∷ record { name = codes "other"; quota = 9; share = 4294967295; limits = usual_limits } ∷ []
 
 abbrev empty_book : Catalog
-empty_book = opening two 64 10
+empty_book = opening two 64 (in_memory 10)
 
 abbrev one : Text
 one = codes "acme/one"

@@ -8,7 +8,7 @@ use Rattle.blob_digest.proofs.KeyOrders.{number_cmp_total, link_cmp_total}
 use Rattle.spec_lib.specs.Sets as set
 use Rattle.spec_lib.specs.Texts.{Text}
 use Rattle.spec_lib.proofs.Rows.{entries-empty}
-use Rattle.store_model.specs.Catalog.{Catalog, CheckedIn, Resident, Tenant, held_count, opening, share_of, tenant_holds}
+use Rattle.store_model.specs.Catalog.{Catalog, CheckedIn, Resident, Tenant, held_count, opening, share_of, tenant_holds, in_memory}
 use Rattle.store_model.specs.Commands.{check_share, close, with_stored_blob}
 use Rattle.store_model.specs.Sessions.{Session}
 use Rattle.store_model.proofs.Examples.Digests.{abc, abc_bytes, abc_named, obj, obj_bytes, obj_named}
@@ -35,7 +35,7 @@ one = codes "acme/one"
 
 -- the tenant has uploaded some bytes to session 2
 abbrev uploading : Text → Catalog
-uploading bytes = record (opening tenants 8 10) {
+uploading bytes = record (opening tenants 8 (in_memory 10)) {
   repos = set.insert set.empty_set one;
   links = set.insert set.empty_set (one, abc);
   residents = insert empty abc (record { bytes = abc_bytes; condemned = false; lent = false });

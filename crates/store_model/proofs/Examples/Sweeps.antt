@@ -11,7 +11,7 @@ use Rattle.spec_lib.proofs.Sums.{entries-remove}
 use Rattle.spec_lib.proofs.Rows.{entries-empty}
 use Rattle.store_model.specs.Sessions.{Session}
 use Rattle.spec_lib.specs.Texts.{Text, text_cmp}
-use Rattle.store_model.specs.Catalog.{Catalog, CheckedIn, Resident, opening}
+use Rattle.store_model.specs.Catalog.{Catalog, CheckedIn, Resident, opening, in_memory}
 use Rattle.store_model.specs.Commands.{lease, with_leased, delete, close, with_stored_blob}
 use Rattle.store_model.specs.declared.swept.Swept.{Swept}
 use Rattle.store_model.specs.Sweep.{is_orphan, IsAfterSweep, IsSweep}
@@ -33,7 +33,7 @@ abbrev with_blob : Bool → Bool → FinMap text_cmp Resident
 with_blob condemned lent = insert empty abc (record { bytes = abc_bytes; condemned = condemned; lent = lent })
 
 abbrev kept : Catalog
-kept = record (opening (record { name = codes "acme"; quota = 1000; share = 4294967295; limits = usual_limits } ∷ []) 1 10) {
+kept = record (opening (record { name = codes "acme"; quota = 1000; share = 4294967295; limits = usual_limits } ∷ []) 1 (in_memory 10)) {
   repos = set.insert set.empty_set one;
   links = set.insert set.empty_set (one, abc);
   residents = with_blob false false;

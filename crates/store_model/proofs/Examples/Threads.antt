@@ -10,7 +10,7 @@ use Rattle.blob_digest.proofs.KeyOrders.{number_cmp_total, exact_number}
 use Rattle.spec_lib.proofs.Maps.{remove-insert_new}
 use Rattle.spec_lib.proofs.Rows.{entries-empty}
 use Rattle.spec_lib.specs.Texts.{Text}
-use Rattle.store_model.specs.Catalog.{Catalog, Chunks, CheckedIn, CheckedOutWith, SessionNumber, Session, HandRecord, Tenant, session_number_cmp, opening}
+use Rattle.store_model.specs.Catalog.{Catalog, Chunks, CheckedIn, CheckedOutWith, SessionNumber, Session, HandRecord, Tenant, session_number_cmp, opening, in_memory}
 use Rattle.store_model.specs.Commands.{abandon, with_new_session, put_back, start, take}
 use Rattle.store_model.specs.Histories.{AreSteps, IsUncountable, LeadsTo, CommandCall, PutBackCall, State, Step, TakeCall}
 use Rattle.store_model.specs.HistoryIsolation.{Perform, Return, Take, IsIsolatedInHistory, IsCollisionFreeHistory, IsOwnRefusal, IsUnaffectedHistory, requests_of, isolated_steps, steps_of}
@@ -39,7 +39,7 @@ abbrev with : Catalog → SessionNumber → Text → Chunks → Catalog
 with C key repo chunks = record C { sessions = insert C.sessions key (record { repo = repo; chunks = chunks }) }
 
 abbrev book : Catalog
-book = opening tenants 64 10
+book = opening tenants 64 (in_memory 10)
 
 abbrev first_open : Catalog
 first_open = with_new_session book 0 one
@@ -139,10 +139,10 @@ legal = opened (TakeCall one 2 None 2 (Err (Quota 2 3)) ∷ CommandCall (Abandon
 
 -- ---- the premises of the theorem, and its conclusion
 
-fair : IsCollisionFreeHistory tenants 64 10 steps (state both_back 5 6)
+fair : IsCollisionFreeHistory tenants 64 (in_memory 10) steps (state both_back 5 6)
 fair = record { run = legal; no_collision = λ d a b first second. absurd (let lt = first.1 in omega arith) }
 
-undisturbed : IsUnaffectedHistory tenants 64 10 0 steps (state both_back 5 6) fair
+undisturbed : IsUnaffectedHistory tenants 64 (in_memory 10) 0 steps (state both_back 5 6) fair
 unfolding fair legal opened
 undisturbed = ((λ _. tt), ((λ _. tt), ((λ _. tt), ((λ _. tt), ((λ _. tt), ((λ _. quota (state both_out 3 0)), ((λ _. busy_session (state both_out 3 0)), ((λ _. tt), ((λ _. tt), tt)))))))))
   where
@@ -156,8 +156,8 @@ own_requests : requests_of (steps_of tenants 0 steps) ≡
     Perform (Start one) ∷ Perform (Start one) ∷ Take one 1 None 2 ∷ Take one 2 None 2 ∷ Perform (Abandon one 1) ∷ Return (record hand { last = Some (codes "ab") }) ∷ []
 own_requests = refl
 
-first_alone : IsIsolatedInHistory tenants 64 10 0 steps (state both_back 5 6)
-first_alone = alone_in_histories tenants 64 10 0 steps (state both_back 5 6) fair undisturbed
+first_alone : IsIsolatedInHistory tenants 64 (in_memory 10) 0 steps (state both_back 5 6)
+first_alone = alone_in_histories tenants 64 (in_memory 10) 0 steps (state both_back 5 6) fair undisturbed
 
 -- in its isolated history the tenant gets `Quota`, with the same numbers, and `Busy` too
 same_replies : isolated_steps book (requests_of (steps_of tenants 0 steps)) ≡
@@ -211,8 +211,8 @@ whole = (_, _, empty, (refl, refl), refl, (_, _, empty, (refl, refl), refl, (_, 
 
 sound : Sound book
 unfolding IsStrictlySortedBy
-sound = Sound-opening tenants 64 10 (omega arith) (omega arith) ((refl, tt), (tt, tt)) (omega arith) (omega arith, (omega arith, tt)) (usual_supported, (usual_supported, tt)) (omega arith) (omega arith)
+sound = Sound-opening tenants 64 (in_memory 10) (omega arith) (omega arith) ((refl, tt), (tt, tt)) (omega arith) (omega arith, (omega arith, tt)) (usual_supported, (usual_supported, tt)) (omega arith) (omega arith)
 
 is_run : IsRun book commands both_back
-is_run = histories_are_runs tenants 64 10 calm_steps (state both_back 5 6) commands sound (opened backs (state both_back 5 6) back) (tt, (tt, (tt, (tt, (tt, (tt, (tt, tt))))))) whole
+is_run = histories_are_runs tenants 64 (in_memory 10) calm_steps (state both_back 5 6) commands sound (opened backs (state both_back 5 6) back) (tt, (tt, (tt, (tt, (tt, (tt, (tt, tt))))))) whole
     (omega arith, (omega arith, (omega arith, (omega arith, (omega arith, tt)))))

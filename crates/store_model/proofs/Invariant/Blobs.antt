@@ -1,9 +1,9 @@
 -- Storing a blob keeps the catalog well-formed and every use unchanged.
+use Rattle.store_model.specs.Commands.{is_named}
 use Rattle.std.proofs.Common.{◌≡◌, ℕ, ◌+◌, ◌<◌, ◌≤◌, true, false, cond, length, Some, None, refl, ap, ◌∙◌, subst, arith, inl, inr, ⊎_elim}
 use Rattle.std.specs.Cmp.Lexicographic.{nat_list_cmp_total}
 use Rattle.std.specs.FinMap.{get, insert, len, contains_key, len-insert}
 use Rattle.std.proofs.lemmas.Map.Lookups.{exact_bytes}
-use Rattle.blob_digest.specs.Digests.{is_digest_of}
 use Rattle.spec_lib.specs.Texts.{Text}
 use Rattle.store_model.specs.Catalog.{Resident, Catalog, tenant_holds, blob_share, used_bytes}
 use Rattle.store_model.specs.Invariant.{WellFormed, FitsSlots}
@@ -22,10 +22,10 @@ module _ (C : Catalog) (d : Text) (b : Resident) where
       | inr differ ↦ (k.0, get-insert_other nat_list_cmp_total exact_bytes C.residents d b x differ ∙ k.1, k.2)
     ]
 
-    pub WellFormed-put : WellFormed C → is_digest_of d b.bytes ≡ true → WellFormed after
+    pub WellFormed-put : WellFormed C → is_named C.contents d b.bytes ≡ true → WellFormed after
     WellFormed-put lawful is_digest = record {
       content = λ x now h. ⊎_elim
-          (λ e. subst (λ (y : Resident). is_digest_of x y.bytes ≡ true) e.1 (ap (λ (q : Text). is_digest_of q b.bytes) e.0 ∙ is_digest))
+          (λ e. subst (λ (y : Resident). is_named C.contents x y.bytes ≡ true) e.1 (ap (λ (q : Text). is_named C.contents q b.bytes) e.0 ∙ is_digest))
           (lawful.content x now)
           (got-insert nat_list_cmp_total exact_bytes C.residents d b x now h);
       links = λ l h. let k = lawful.links l h in record { repo = k.repo; kept = kept_now l.1 k.kept };

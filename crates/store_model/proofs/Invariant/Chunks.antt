@@ -44,7 +44,7 @@ module _ (C : Catalog) (key : SessionNumber) (s : Session) (chunks : Chunks) (fo
   kept : (q : SessionNumber) (x : Session) → WellFormedSession C q x → WellFormedSession after q x
   kept q x k = record { repo = k.repo; tenant = k.tenant; chunks = k.chunks; small = k.small; positive = k.positive; number = k.number }
 
-  module _ (nonempty : AllByRecursion (λ c. c ≢ []) (at_home chunks)) (small : charged_length new ≤ C.max_blob) where
+  module _ (nonempty : AllByRecursion (λ c. c ≢ []) (at_home chunks)) (small : charged_length new ≤ C.contents.max_blob) where
     lawful_session : WellFormed C → (q : SessionNumber) (x : Session) → cond (eq_by_cmp session_number_cmp q key) (Some new) (get C.sessions q) ≡ Some x → WellFormedSession after q x
     lawful_session lawful q x h =
         elim (eq_by_cmp session_number_cmp q key) as (λ b. eq_by_cmp session_number_cmp q key ≡ b → cond b (Some new) (get C.sessions q) ≡ Some x → WellFormedSession after q x) [

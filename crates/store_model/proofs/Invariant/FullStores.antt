@@ -184,7 +184,7 @@ other_length max_blob before n range =
     other_bind (refuse (starts_elsewhere range before) (RangeInvalid before)) _ (other_refusal _ (RangeInvalid before) (λ e. absurd cc)) (λ _ h. absurd cc))
 
 other_check : (C : Catalog) (t : ℕ) (repo : Text) (number : ℕ) (range : Option ByteRange) (n : ℕ) → IsOther (chunk_length_check C t repo number range n)
-other_check C t repo number range n = other_bind (session_in (get C.sessions (t, number)) repo) _ (other_session (get C.sessions (t, number)) repo) (λ s. other_bind (not_busy s.chunks) _ (other_busy s.chunks) (λ _. other_length C.max_blob (received_length s) n range))
+other_check C t repo number range n = other_bind (session_in (get C.sessions (t, number)) repo) _ (other_session (get C.sessions (t, number)) repo) (λ s. other_bind (not_busy s.chunks) _ (other_busy s.chunks) (λ _. other_length C.contents.max_blob (received_length s) n range))
 
 other_hand : (o : Option Session) (h : HandRecord) → IsOther (session_of_hand o h)
 other_hand None h is = absurd cc

@@ -16,12 +16,12 @@ use Rattle.std.proofs.lemmas.Map.Lookups.{exact_bytes}
 use Rattle.blob_digest.specs.declared.range.ByteRange.{ByteRange}
 use Rattle.blob_digest.specs.declared.refusal.Refusal.{Refusal}
 use Rattle.blob_digest.specs.declared.refusal.Refusal.TheVariants.{NameUnknown}
-use Rattle.blob_digest.specs.Digests.{sha256_text, is_digest_of}
+use Rattle.blob_digest.specs.Digests.{sha256_text}
 use Rattle.spec_lib.specs.Sets as kept_set
 use Rattle.spec_lib.specs.Texts.{Text, text_cmp}
 use Rattle.store_model.specs.Commands
 use Rattle.spec_lib.specs.Outcomes.{◌>>=◌}
-use Rattle.store_model.specs.Commands.{Outcome, session_in, length_after, with_new_session, after_append_in, content_in, is_digest_accepted, has_same_bytes, with_stored_blob, has_source, with_link, with_manifest, with_leased, check_quota, has_slot, is_in_use, without_repo}
+use Rattle.store_model.specs.Commands.{Outcome, session_in, length_after, with_new_session, after_append_in, content_in, is_digest_accepted, fits_stored, with_stored_blob, has_source, with_link, with_manifest, with_leased, check_quota, has_slot, is_in_use, without_repo, is_named}
 use Rattle.store_model.specs.Runs as runs
 use Rattle.store_model.specs.Runs.{Command, outcome}
 use Rattle.store_model.specs.Noninterference.{always_has_slot, isolated_outcome, close_content, uploaded_pair, uploads_of_command}
@@ -179,12 +179,12 @@ module _ (content : Text → Text) (C : Catalog) (consistent : Consistent conten
   consistent_lease : (d : Text) (b : Resident) → get C.residents d ≡ Some b → Consistent content (with_leased C d b)
   consistent_lease d b found = with_blob content C consistent d (record b { lent = true }) (consistent.bytes d b found)
 
-  consistent_close : (housed : Catalog → Text → Result (Unit {0}) Refusal) (n : ℕ) (d : Text) (g : Option ByteRange) (b : Text) → Fits content (uploaded_pair d (close_content C r n b)) →
+  consistent_close : (housed : Catalog → Text → Result (Unit {0}) Refusal) (n : ℕ) (d : Text) (g : Option ByteRange) (b : Text) → Fits content (uploaded_pair C.contents d (close_content C r n b)) →
       Leaves (Consistent content) (Commands.close_by housed C r n d g b)
   consistent_close housed n d g b fits = close_leaves (Consistent content) C r housed n d g b (λ t after known checked is.
       consistent_stored t n d (content_in C.sessions (t, n) b) (repo_there _ (t, n) (get C.sessions (t, n)) after refl checked)
       (fits_whole content C t r d b n (length b) after g (ap (λ o. ok_or o NameUnknown) known) checked fits
-      (and_parts (is_digest_of d (content_in C.sessions (t, n) b)) (has_same_bytes (get C.residents d) (content_in C.sessions (t, n) b)) is).0))
+      (and_parts (is_named C.contents d (content_in C.sessions (t, n) b)) (fits_stored C.contents (get C.residents d) (content_in C.sessions (t, n) b)) is).0))
 
 -- the catalogs after an accepted command, with other tenants present and in the isolated run
 pub consistent_command : (content : Text → Text) (C : Catalog) → Consistent content C → (command : Command) → Fits content (uploads_of_command C command) → Leaves (Consistent content) (outcome false C command) × Leaves (Consistent content) (isolated_outcome C command)

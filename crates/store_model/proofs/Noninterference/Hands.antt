@@ -8,7 +8,6 @@ use Rattle.std.proofs.lemmas.Bool.{and_parts, eqb-true, leb-true, not-false}
 use Rattle.blob_digest.specs.declared.range.ByteRange.{ByteRange}
 use Rattle.blob_digest.specs.declared.refusal.Refusal.{Refusal}
 use Rattle.blob_digest.specs.declared.refusal.Refusal.TheVariants.{DigestInvalid, StoreFull}
-use Rattle.blob_digest.specs.Digests.{is_digest_of}
 use Rattle.blob_digest.proofs.KeyOrders.{number_cmp_total, exact_number, link_cmp_total, exact_link}
 use Rattle.spec_lib.specs.Outcomes.{◌>>=◌, refuse}
 use Rattle.spec_lib.specs.Sets as kept_set
@@ -17,7 +16,7 @@ use Rattle.spec_lib.proofs.Agreement.{agree_insert, agree_remove, unseen_insert,
 use Rattle.spec_lib.proofs.Maps.{got-insert, got-remove}
 use Rattle.spec_lib.proofs.Outcomes.{not_refused}
 use Rattle.store_model.specs.Catalog.{Catalog, Chunks, CheckedIn, CheckedOutWith, SessionNumber, Session, HandRecord, is_repo_of, received_length, tenant_of}
-use Rattle.store_model.specs.Commands.{Outcome, OutcomeIn, after_cancel, chunk_length_check, finish, has_slot, is_digest_accepted, is_full_for, put_back, has_same_bytes, with_stored_blob, take, check_quota, check_share}
+use Rattle.store_model.specs.Commands.{Outcome, OutcomeIn, after_cancel, chunk_length_check, finish, has_slot, is_digest_accepted, is_full_for, put_back, fits_stored, with_stored_blob, take, check_quota, check_share, is_named}
 use Rattle.store_model.specs.HistoryIsolation.{with_slot}
 use Rattle.store_model.specs.Noninterference.{uploaded_pair}
 use Rattle.store_model.specs.Sessions.{Sessions, at_home, with_old_chunks, chunks_of, after_take_in, session_of_hand, hand_content, with_chunks}
@@ -149,10 +148,10 @@ module _ (content : Text → Text) (C : Catalog) (consistent : Consistent conten
     pub consistent_cancel : Consistent content (after_cancel C h)
     consistent_cancel = cancel_leaves (Consistent content) C h consistent (λ s found. consistent_chunks h.key s (CheckedIn h.chunks) found)
 
-    pub consistent_finish : (d : Text) → Fits content (uploaded_pair d (Ok (hand_content h))) → Leaves (Consistent content) (finish C h d)
+    pub consistent_finish : (d : Text) → Fits content (uploaded_pair C.contents d (Ok (hand_content h))) → Leaves (Consistent content) (finish C h d)
     consistent_finish d fits = finish_leaves (Consistent content) C h d (λ s found accepted.
         consistency.consistent_stored content C consistent s.repo h.key.0 h.key.1 d (hand_content h) (consistent.sessions h.key s found)
-        (fits_named content d (hand_content h) fits (and_parts (is_digest_of d (hand_content h)) (has_same_bytes (get C.residents d) (hand_content h)) accepted).0))
+        (fits_named content C.contents d (hand_content h) fits (and_parts (is_named C.contents d (hand_content h)) (fits_stored C.contents (get C.residents d) (hand_content h)) accepted).0))
 
 -- ---- a tenant's own steps, with other tenants present and in the isolated run
 
@@ -196,15 +195,15 @@ module _ (content : Text → Text) (t : ℕ) (C D : Catalog) (alike : Alike t C 
         at (Ok s) = home_alike s (CheckedIn h.chunks)
         at (Err e) = alike
 
-    pub own_finish : (d : Text) → Fits content (uploaded_pair d (Ok (hand_content h))) → Matches t (finish C h d) (finish (with_slot D) h d)
+    pub own_finish : (d : Text) → Fits content (uploaded_pair C.contents d (Ok (hand_content h))) → Matches t (finish C h d) (finish (with_slot D) h d)
     own_finish d fits = same_check t _ _ here _ _ (λ s _.
         same_check t (refuse (not (is_digest_accepted C d (hand_content h))) DigestInvalid) (refuse (not (is_digest_accepted D d (hand_content h))) DigestInvalid)
-        (ap (λ x. refuse (not x) DigestInvalid) (names_alone content C d (hand_content h) consistent_C brings ∙ sym (names_alone content D d (hand_content h) consistent_D brings))) _ _ (λ _ _.
+        (ap (λ x. refuse (not x) DigestInvalid) (names_alone content C d (hand_content h) consistent_C brings ∙ ap (λ r. is_named r d (hand_content h)) alike.contents ∙ sym (names_alone content D d (hand_content h) consistent_D (λ is. brings (ap (λ r. is_named r d (hand_content h)) alike.contents ∙ is))))) _ _ (λ _ _.
         same_check t (check_share C h.key.0 d) (check_share D h.key.0 d) (subst (λ k. check_share C k d ≡ check_share D k d) (sym (eqb-true h.key.0 t own)) (share_check_same t C D alike d)) _ _ (λ _ _.
         subst (λ y. Matches t (ending C s (has_slot C d)) (ending (with_slot D) s y)) (sym (finds_slot D d)) (full s (is_full_for C d)))))
       where
-        brings : is_digest_of d (hand_content h) ≡ true → content d ≡ hand_content h
-        brings = fits_named content d (hand_content h) fits
+        brings : is_named C.contents d (hand_content h) ≡ true → content d ≡ hand_content h
+        brings = fits_named content C.contents d (hand_content h) fits
 
         ending : Catalog → Session → Result (Unit {0}) Refusal → Outcome ℕ
         ending X s room = room >>= λ _. Ok (length (hand_content h), with_stored_blob X h.key.0 s.repo h.key.1 d (hand_content h))

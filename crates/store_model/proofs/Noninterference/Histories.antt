@@ -7,7 +7,7 @@ use Rattle.blob_digest.specs.declared.range.ByteRange.{ByteRange}
 use Rattle.blob_digest.specs.declared.refusal.Refusal.{Refusal}
 use Rattle.spec_lib.specs.Texts.{Text}
 use Rattle.spec_lib.proofs.Options.{nothing}
-use Rattle.store_model.specs.Catalog.{Catalog, CheckedIn, HandRecord, Tenant, is_repo_of, next_number_of, session_number_cmp, opening, tenant_of}
+use Rattle.store_model.specs.Catalog.{Catalog, CheckedIn, HandRecord, Tenant, is_repo_of, next_number_of, session_number_cmp, opening, tenant_of, ContentRules}
 use Rattle.store_model.specs.Commands
 use Rattle.store_model.specs.Commands.{Outcome, after_cancel, finish, has_slot, put_back, take}
 use Rattle.store_model.specs.Histories.{AreSteps, SweepCall, FinishCall, MayLeadTo, CommandCall, PutBackCall, State, Step, TakeCall, initial_state}
@@ -157,11 +157,11 @@ module _ (content : Text → Text) (t : ℕ) where
           let k = denied mid D e (put_back D h) free (subst (λ x. Matches t x (put_back D h)) leaves.0 (own_put_back content t s.catalog D alike c d h own)) (unchanged leaves.1) d in
           record { same = ap (λ x. PutBackCall h x) k.replies; alike = k.alike; consistent = k.consistent }
 
-      module _ (digest : Text) (fits : Fits content (uploaded_pair digest (Ok (hand_content h)))) where
+      module _ (digest : Text) (fits : Fits content (uploaded_pair s.catalog.contents digest (Ok (hand_content h)))) where
         own_finished : (x : Result ℕ Refusal) → MayLeadTo s (FinishCall h digest x) mid → IsOwnReply s (FinishCall h digest x) → Same D mid (FinishCall h digest x) (Finish h digest)
         own_finished (Ok n) leaves free =
             let k = accepted mid (after_cancel D h) n (finish (with_slot D) h digest)
-            (subst (λ x. Matches t x (finish (with_slot D) h digest)) leaves (own_finish content t s.catalog D alike c d h own digest fits)) (consistent_finish content (with_slot D) d h digest fits) in
+            (subst (λ x. Matches t x (finish (with_slot D) h digest)) leaves (own_finish content t s.catalog D alike c d h own digest fits)) (consistent_finish content (with_slot D) d h digest (subst (λ r. Fits content (uploaded_pair r digest (Ok (hand_content h)))) alike.contents fits)) in
             record { same = ap (λ x. FinishCall h digest x) k.replies; alike = k.alike; consistent = k.consistent }
         own_finished (Err e) leaves free =
             let k = denied mid (after_cancel D h) e (finish (with_slot D) h digest) free
@@ -227,38 +227,38 @@ module _ (content : Text → Text) (tenants : List Tenant) (t : ℕ) where
 
 -- ---- the theorems
 
-owned_opening : (tenants : List Tenant) (slots max_blob : ℕ) → Owned (opening tenants slots max_blob)
-owned_opening tenants slots max_blob k s h = nothing (get-empty session_number_cmp k) h
+owned_opening : (tenants : List Tenant) (slots : ℕ) (contents : ContentRules) → Owned (opening tenants slots contents)
+owned_opening tenants slots contents k s h = nothing (get-empty session_number_cmp k) h
 
-module _ (tenants : List Tenant) (slots max_blob : ℕ) (steps : List Step) (s : State) (fair : IsCollisionFreeHistory tenants slots max_blob steps s) where
+module _ (tenants : List Tenant) (slots : ℕ) (contents : ContentRules) (steps : List Step) (s : State) (fair : IsCollisionFreeHistory tenants slots contents steps s) where
   abbrev start : Catalog
-  start = opening tenants slots max_blob
+  start = opening tenants slots contents
 
   -- the content that was uploaded with a digest
   abbrev content : Text → Text
   content = content_of (uploads_of_history (initial_state start) steps s fair.run)
 
-  followed : (t : ℕ) → IsUnaffectedHistory tenants slots max_blob t steps s fair → Follows content t s.catalog start (steps_of tenants t steps)
+  followed : (t : ℕ) → IsUnaffectedHistory tenants slots contents t steps s fair → Follows content t s.catalog start (steps_of tenants t steps)
   followed t free =
-      let c = consistent_opening content tenants slots max_blob in
+      let c = consistent_opening content tenants slots contents in
       follows content tenants t steps (initial_state start) s start refl fair.run (fits_content (uploads_of_history (initial_state start) steps s fair.run) fair.no_collision)
-      (alike_itself t start) c (owned_opening tenants slots max_blob) c free
+      (alike_itself t start) c (owned_opening tenants slots contents) c free
 
 pub alone_in_histories : TenantsAreIsolatedInHistories
-alone_in_histories tenants slots max_blob t steps s fair free =
-    let h = followed tenants slots max_blob steps s fair t free in
-    record { replies = h.replies; tenant_view = same_part (content tenants slots max_blob steps s fair) t s.catalog (catalog_after_requests (opening tenants slots max_blob) (requests_of (steps_of tenants t steps))) h.alike h.consistent h.consistent_alone }
+alone_in_histories tenants slots contents t steps s fair free =
+    let h = followed tenants slots contents steps s fair t free in
+    record { replies = h.replies; tenant_view = same_part (content tenants slots contents steps s fair) t s.catalog (catalog_after_requests (opening tenants slots contents) (requests_of (steps_of tenants t steps))) h.alike h.consistent h.consistent_alone }
 
 pub same_text_after : HistoriesLeaveTheSameText
-same_text_after tenants slots max_blob one two s s' fair free fair' free' same =
-    let a : (t : ℕ) → _ = λ t. followed tenants slots max_blob one s fair t (free t) in
-    let b : (t : ℕ) → _ = λ t. followed tenants slots max_blob two s' fair' t (free' t) in
-    let alone_a : (t : ℕ) → Catalog = λ t. catalog_after_requests (opening tenants slots max_blob) (requests_of (steps_of tenants t one)) in
-    let alone_b : (t : ℕ) → Catalog = λ t. catalog_after_requests (opening tenants slots max_blob) (requests_of (steps_of tenants t two)) in
-    let alone_same : (t : ℕ) → alone_a t ≡ alone_b t = λ t. ap (catalog_after_requests (opening tenants slots max_blob)) (same t) in
+same_text_after tenants slots contents one two s s' fair free fair' free' same =
+    let a : (t : ℕ) → _ = λ t. followed tenants slots contents one s fair t (free t) in
+    let b : (t : ℕ) → _ = λ t. followed tenants slots contents two s' fair' t (free' t) in
+    let alone_a : (t : ℕ) → Catalog = λ t. catalog_after_requests (opening tenants slots contents) (requests_of (steps_of tenants t one)) in
+    let alone_b : (t : ℕ) → Catalog = λ t. catalog_after_requests (opening tenants slots contents) (requests_of (steps_of tenants t two)) in
+    let alone_same : (t : ℕ) → alone_a t ≡ alone_b t = λ t. ap (catalog_after_requests (opening tenants slots contents)) (same t) in
     let alike : (t : ℕ) → Alike t s.catalog s'.catalog = λ t. alike_through t s.catalog (alone_a t) s'.catalog (a t).alike (subst (λ X. Alike t X s'.catalog) (sym (alone_same t)) (alike_back t s'.catalog (alone_b t) (b t).alike)) in
     let blobs : (t : ℕ) → blobs_of s.catalog t ≡ blobs_of s'.catalog t = λ t.
-    ap (λ p. p.blobs) (alone_in_histories tenants slots max_blob t one s fair (free t)).tenant_view
+    ap (λ p. p.blobs) (alone_in_histories tenants slots contents t one s fair (free t)).tenant_view
     ∙ ap (λ X. blobs_of X t) (alone_same t)
-    ∙ sym (ap (λ p. p.blobs) (alone_in_histories tenants slots max_blob t two s' fair' (free' t)).tenant_view) in
-    same_text_of (content tenants slots max_blob one s fair) (content tenants slots max_blob two s' fair') s.catalog s'.catalog (a 0).consistent (b 0).consistent alike blobs
+    ∙ sym (ap (λ p. p.blobs) (alone_in_histories tenants slots contents t two s' fair' (free' t)).tenant_view) in
+    same_text_of (content tenants slots contents one s fair) (content tenants slots contents two s' fair') s.catalog s'.catalog (a 0).consistent (b 0).consistent alike blobs

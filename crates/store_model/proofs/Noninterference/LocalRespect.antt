@@ -17,7 +17,7 @@ use Rattle.spec_lib.specs.Texts.{Text}
 use Rattle.store_model.specs.Catalog.{SessionNumber, CheckedIn, Session, Resident, Catalog, session_number_cmp, tenant_of, is_repo_of, next_number_of}
 use Rattle.store_model.specs.Commands
 use Rattle.spec_lib.specs.Outcomes.{◌>>=◌, refuse}
-use Rattle.store_model.specs.Commands.{Outcome, tenant, session_in, not_busy, length_after, with_new_session, after_append_in, content_in, is_digest_accepted, has_same_bytes, with_stored_blob, has_source, with_link, with_manifest, with_leased, check_link, linked_blob, lacks_room_for, cannot_open, has_manifest, is_full_of_manifests, check_all_links, check_no_referrer, check_quota, check_repo, check_share, has_slot, is_in_use, without_repo}
+use Rattle.store_model.specs.Commands.{Outcome, tenant, session_in, not_busy, length_after, with_new_session, after_append_in, content_in, is_digest_accepted, fits_stored, with_stored_blob, has_source, with_link, with_manifest, with_leased, check_link, linked_blob, lacks_room_for, cannot_open, has_manifest, is_full_of_manifests, check_all_links, check_no_referrer, check_quota, check_repo, check_share, has_slot, is_in_use, without_repo}
 use Rattle.store_model.specs.declared.mount.Mount.TheVariants as mounting
 use Rattle.store_model.specs.Runs as runs
 use Rattle.store_model.specs.Runs.{Command, Answer, map_outcome, reading_outcome, outcome, repo_of}
@@ -104,7 +104,7 @@ module _ (P : Catalog → Type 0) where
 pub alike_itself : (t : ℕ) (C : Catalog) → Alike t C C
 alike_itself t C = record {
   tenants = refl;
-  max_blob = refl;
+  contents = refl;
   numbers = refl;
   next = refl;
   repos = λ q is. refl;
@@ -116,7 +116,7 @@ alike_itself t C = record {
 pub alike_through : (t : ℕ) (B C D : Catalog) → Alike t B C → Alike t C D → Alike t B D
 alike_through t B C D b c = record {
   tenants = b.tenants ∙ c.tenants;
-  max_blob = b.max_blob ∙ c.max_blob;
+  contents = b.contents ∙ c.contents;
   numbers = b.numbers ∙ c.numbers;
   next = b.next ∙ c.next;
   repos = λ q is. b.repos q is ∙ c.repos q (sym (of_same t B C b q) ∙ is);
@@ -142,7 +142,7 @@ module _ (C : Catalog) (u : ℕ) (r : Text) (other : is_repo_of C u r ≡ false)
   unseen_new : (t : ℕ) → tenant_of C.tenants r ≡ Some t → Unseen (with_new_session C t r)
   unseen_new t k = record {
     tenants = refl;
-    max_blob = refl;
+    contents = refl;
     numbers = length-set C.next t (next_number_of C t + 1);
     next = get_or-set_other C.next t u (next_number_of C t + 1) 0 (λ e. eqb-false t u (apart t k) (sym e));
     repos = unseen_insert nat_list_cmp_total exact_bytes (is_repo_of C u) C.repos r tt other;

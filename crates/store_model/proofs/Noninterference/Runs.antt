@@ -15,7 +15,7 @@ use Rattle.std.proofs.lemmas.Map.Lookups.{exact_bytes}
 use Rattle.blob_digest.specs.declared.refusal.Refusal.{Refusal}
 use Rattle.blob_digest.specs.declared.refusal.Refusal.TheVariants.{Memory, StoreFull, TooManyReaders}
 use Rattle.spec_lib.specs.Texts.{Text, text_cmp}
-use Rattle.store_model.specs.Catalog.{Tenant, Resident, Catalog, link_cmp, session_number_cmp, is_repo_of_tenant, is_repo_of, opening}
+use Rattle.store_model.specs.Catalog.{Tenant, Resident, Catalog, link_cmp, session_number_cmp, is_repo_of_tenant, is_repo_of, opening, ContentRules}
 use Rattle.store_model.specs.Commands
 use Rattle.store_model.specs.Commands.{Outcome, tenant, content_in, linked_blob, with_leased}
 use Rattle.spec_lib.specs.Outcomes.{◌>>=◌, refuse}
@@ -96,10 +96,10 @@ module _ (content : Text → Text) where
 
 -- the content of a tenant's close, with other tenants present and in the isolated run
 pub brought_same : (t : ℕ) (C D : Catalog) → Alike t C D → (command : Command) → is_repo_of C t (repo_of command) ≡ true → uploads_of_command C command ≡ uploads_of_command D command
-brought_same t C D alike (runs.Close r n d g b) own = ap (uploaded_pair d) (
+brought_same t C D alike (runs.Close r n d g b) own = (λ i. uploaded_pair (alike.contents i) d ((
     ap (λ x. x >>= λ u. Commands.session C u r n >>= λ _. Ok (content_in C.sessions (u, n) b)) (known C t r own)
     ∙ (λ i. session_same t C D alike r n i >>= λ _. Ok (whole_same t C D alike n b i))
-    ∙ sym (ap (λ x. x >>= λ u. Commands.session D u r n >>= λ _. Ok (content_in D.sessions (u, n) b)) (known D t r (sym (of_same t C D alike r) ∙ own))))
+    ∙ sym (ap (λ x. x >>= λ u. Commands.session D u r n >>= λ _. Ok (content_in D.sessions (u, n) b)) (known D t r (sym (of_same t C D alike r) ∙ own)))) i))
 brought_same t C D alike command own = refl
 
 -- ---- a run
@@ -201,8 +201,8 @@ fits_content pairs apart = all_by_index (λ x. content_of pairs x.0 ≡ x.1) ([]
 
 -- ---- the theorem
 
-pub consistent_opening : (content : Text → Text) (tenants : List Tenant) (slots max_blob : ℕ) → Consistent content (opening tenants slots max_blob)
-consistent_opening content tenants slots max_blob = record {
+pub consistent_opening : (content : Text → Text) (tenants : List Tenant) (slots : ℕ) (contents : ContentRules) → Consistent content (opening tenants slots contents)
+consistent_opening content tenants slots contents = record {
   repos = λ r h. no_member (get-empty text_cmp r) h;
   links = λ l h. no_member (get-empty link_cmp l) h;
   kept = λ l h. no_member (get-empty link_cmp l) h;
@@ -212,18 +212,18 @@ consistent_opening content tenants slots max_blob = record {
   bytes = λ d b h. nothing (get-empty text_cmp d) h;
 }
 
-abbrev pub pairs_of : (tenants : List Tenant) (slots max_blob : ℕ) (es : List Event) (C' : Catalog) → IsCollisionFreeRun tenants slots max_blob es C' → List (Text × Text)
-pairs_of tenants slots max_blob es C' f = uploads_of_run es (opening tenants slots max_blob) C' f.run
+abbrev pub pairs_of : (tenants : List Tenant) (slots : ℕ) (contents : ContentRules) (es : List Event) (C' : Catalog) → IsCollisionFreeRun tenants slots contents es C' → List (Text × Text)
+pairs_of tenants slots contents es C' f = uploads_of_run es (opening tenants slots contents) C' f.run
 
-pub followed : (tenants : List Tenant) (slots max_blob t : ℕ) (es : List Event) (C' : Catalog) (f : IsCollisionFreeRun tenants slots max_blob es C') → AllByRecursion IsUnaffectedByOthers (events_of tenants t es) →
-    Follows (content_of (pairs_of tenants slots max_blob es C' f)) t C' (opening tenants slots max_blob) (events_of tenants t es)
-followed tenants slots max_blob t es C' f free =
-    let start : Catalog = opening tenants slots max_blob in
-    let content : Text → Text = content_of (pairs_of tenants slots max_blob es C' f) in
-    let s = consistent_opening content tenants slots max_blob in
-    follows content tenants t es start C' start refl f.run (fits_content (pairs_of tenants slots max_blob es C' f) f.no_collision) (alike_itself t start) s s free
+pub followed : (tenants : List Tenant) (slots : ℕ) (contents : ContentRules) (t : ℕ) (es : List Event) (C' : Catalog) (f : IsCollisionFreeRun tenants slots contents es C') → AllByRecursion IsUnaffectedByOthers (events_of tenants t es) →
+    Follows (content_of (pairs_of tenants slots contents es C' f)) t C' (opening tenants slots contents) (events_of tenants t es)
+followed tenants slots contents t es C' f free =
+    let start : Catalog = opening tenants slots contents in
+    let content : Text → Text = content_of (pairs_of tenants slots contents es C' f) in
+    let s = consistent_opening content tenants slots contents in
+    follows content tenants t es start C' start refl f.run (fits_content (pairs_of tenants slots contents es C' f) f.no_collision) (alike_itself t start) s s free
 
 pub isolated : TenantsAreIsolated
-isolated tenants slots max_blob t es C' f free =
-    let h = followed tenants slots max_blob t es C' f free in
-    record { replies = h.told; tenant_view = same_part (content_of (pairs_of tenants slots max_blob es C' f)) t C' (isolated_catalog (opening tenants slots max_blob) (commands_of (events_of tenants t es))) h.alike h.consistent h.consistent_alone }
+isolated tenants slots contents t es C' f free =
+    let h = followed tenants slots contents t es C' f free in
+    record { replies = h.told; tenant_view = same_part (content_of (pairs_of tenants slots contents es C' f)) t C' (isolated_catalog (opening tenants slots contents) (commands_of (events_of tenants t es))) h.alike h.consistent h.consistent_alone }

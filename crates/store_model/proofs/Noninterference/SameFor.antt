@@ -13,7 +13,7 @@ use Rattle.std.proofs.lemmas.Map.Lookups.{exact_bytes}
 use Rattle.blob_digest.specs.declared.range.ByteRange.{ByteRange}
 use Rattle.spec_lib.specs.Sets as set
 use Rattle.spec_lib.specs.Texts.{Text, text_cmp, same_text}
-use Rattle.store_model.specs.Catalog.{Link, SessionNumber, Session, Resident, Catalog, tenant_of, is_repo_of_tenant, is_repo_of, quota_of, share_of, holds, tenant_holds, held_digests, session_charge, session_charges_of, blob_share, used_bytes, open_sessions, repos_of, manifests_of, received_length, Tenant, link_cmp, session_number_cmp, limits_of}
+use Rattle.store_model.specs.Catalog.{Link, SessionNumber, Session, Resident, Catalog, tenant_of, is_repo_of_tenant, is_repo_of, quota_of, share_of, holds, tenant_holds, held_digests, session_charge, session_charges_of, blob_share, used_bytes, open_sessions, repos_of, manifests_of, received_length, Tenant, link_cmp, session_number_cmp, limits_of, ContentRules}
 use Rattle.store_model.specs.Sessions.{at_home}
 use Rattle.spec_lib.specs.Outcomes.{◌>>=◌, refuse}
 use Rattle.store_model.specs.Commands.{check_share, content_in, session, session_in, not_busy, chunk_length_check, length_after, has_links, has_manifests, has_sessions, is_in_use, lacks_room_for, referrer, refers}
@@ -31,7 +31,7 @@ use Rattle.spec_lib.proofs.Agreement.{AgreeOn, sum_agree, find_agree, any_agree,
 -- the fields that a tenant's view depends on: all but the blobs and the slots
 pub record Visible : Type 0 where
   pub tenants : List Tenant
-  pub max_blob : ℕ
+  pub contents : ContentRules
   pub next : List ℕ
   pub repos : set.Set text_cmp
   pub links : set.Set link_cmp
@@ -39,12 +39,12 @@ pub record Visible : Type 0 where
   pub sessions : FinMap session_number_cmp Session
 
 abbrev pub visible : Catalog → Visible
-visible C = record { tenants = C.tenants; max_blob = C.max_blob; next = C.next; repos = C.repos; links = C.links; manifests = C.manifests; sessions = C.sessions }
+visible C = record { tenants = C.tenants; contents = C.contents; next = C.next; repos = C.repos; links = C.links; manifests = C.manifests; sessions = C.sessions }
 
 -- Catalogs are equivalent for a tenant: all that belongs to it is equal.
 pub record AreAlike (t : ℕ) (C D : Visible) : Type 0 where
   pub tenants : C.tenants ≡ D.tenants
-  pub max_blob : C.max_blob ≡ D.max_blob
+  pub contents : C.contents ≡ D.contents
   pub numbers : length C.next ≡ length D.next
   pub next : slice_index C.next t ≡ slice_index D.next t
   pub repos : AgreeOn (is_repo_of_tenant C.tenants t) C.repos D.repos
@@ -60,16 +60,16 @@ Alike t C D = AreAlike t (visible C) (visible D)
 
 module _ (t : ℕ) (C D : Visible) (alike : AreAlike t C D) where
   pub with_repos : (r s : set.Set text_cmp) → AgreeOn (is_repo_of_tenant C.tenants t) r s → AreAlike t (record C { repos = r }) (record D { repos = s })
-  with_repos r s agree = record { tenants = alike.tenants; max_blob = alike.max_blob; numbers = alike.numbers; next = alike.next; repos = agree; links = alike.links; manifests = alike.manifests; sessions = alike.sessions }
+  with_repos r s agree = record { tenants = alike.tenants; contents = alike.contents; numbers = alike.numbers; next = alike.next; repos = agree; links = alike.links; manifests = alike.manifests; sessions = alike.sessions }
 
   pub with_links : (r s : set.Set link_cmp) → AgreeOn (λ l. is_repo_of_tenant C.tenants t l.0) r s → AreAlike t (record C { links = r }) (record D { links = s })
-  with_links r s agree = record { tenants = alike.tenants; max_blob = alike.max_blob; numbers = alike.numbers; next = alike.next; repos = alike.repos; links = agree; manifests = alike.manifests; sessions = alike.sessions }
+  with_links r s agree = record { tenants = alike.tenants; contents = alike.contents; numbers = alike.numbers; next = alike.next; repos = alike.repos; links = agree; manifests = alike.manifests; sessions = alike.sessions }
 
   pub with_manifests : (r s : FinMap link_cmp Text) → AgreeOn (λ l. is_repo_of_tenant C.tenants t l.0) r s → AreAlike t (record C { manifests = r }) (record D { manifests = s })
-  with_manifests r s agree = record { tenants = alike.tenants; max_blob = alike.max_blob; numbers = alike.numbers; next = alike.next; repos = alike.repos; links = alike.links; manifests = agree; sessions = alike.sessions }
+  with_manifests r s agree = record { tenants = alike.tenants; contents = alike.contents; numbers = alike.numbers; next = alike.next; repos = alike.repos; links = alike.links; manifests = agree; sessions = alike.sessions }
 
   pub with_sessions : (r s : FinMap session_number_cmp Session) → AgreeOn (λ n. n.0 == t) r s → AreAlike t (record C { sessions = r }) (record D { sessions = s })
-  with_sessions r s agree = record { tenants = alike.tenants; max_blob = alike.max_blob; numbers = alike.numbers; next = alike.next; repos = alike.repos; links = alike.links; manifests = alike.manifests; sessions = agree }
+  with_sessions r s agree = record { tenants = alike.tenants; contents = alike.contents; numbers = alike.numbers; next = alike.next; repos = alike.repos; links = alike.links; manifests = alike.manifests; sessions = agree }
 
 -- The invariant of each catalog of a run, if `content` is the content that was uploaded with a digest.
 pub record AreConsistent (content : Text → Text) (ts : List Tenant) (rs : set.Set text_cmp) (ls : set.Set link_cmp) (blobs : FinMap text_cmp Resident) (ms : FinMap link_cmp Text) (ss : FinMap session_number_cmp Session) : Type 0 where
@@ -175,7 +175,7 @@ module _ (t : ℕ) (C D : Catalog) (alike : Alike t C D) where
   session_same r n = ap (λ s. session_in s r) (session_found n)
 
   pub check_same : (r : Text) (n : ℕ) (g : Option ByteRange) (len : ℕ) → chunk_length_check C t r n g len ≡ chunk_length_check D t r n g len
-  check_same r n g len = λ i. (session_in (session_found n i) r >>= λ s. not_busy s.chunks >>= λ _. length_after (alike.max_blob i) (received_length s) g len)
+  check_same r n g len = λ i. (session_in (session_found n i) r >>= λ s. not_busy s.chunks >>= λ _. length_after (alike.contents i).max_blob (received_length s) g len)
 
   pub whole_same : (n : ℕ) (last : Text) → content_in C.sessions (t, n) last ≡ content_in D.sessions (t, n) last
   whole_same n last = ap (λ o. concat (option_map_or (λ s. at_home s.chunks) o []) ++ last) (session_found n)

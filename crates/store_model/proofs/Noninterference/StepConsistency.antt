@@ -12,13 +12,13 @@ use Rattle.std.proofs.lemmas.Map.Lookups.{exact_bytes}
 use Rattle.blob_digest.specs.declared.range.ByteRange.{ByteRange}
 use Rattle.blob_digest.specs.declared.refusal.Refusal.{Refusal}
 use Rattle.blob_digest.specs.declared.refusal.Refusal.TheVariants.{NameUnknown, DigestInvalid, SizeInvalid, BlobUnknown, ManifestInvalid, ManifestUnknown, ManifestBlobUnknown, Quota, StoreFull, LimitReached, RepoInUse}
-use Rattle.blob_digest.specs.Digests.{sha256_text, is_digest_of}
+use Rattle.blob_digest.specs.Digests.{sha256_text}
 use Rattle.oci_manifest.specs.Manifests.{refs_of}
 use Rattle.spec_lib.specs.Texts.{Text, same_text}
-use Rattle.store_model.specs.Catalog.{SessionNumber, CheckedIn, Session, Resident, Catalog, session_number_cmp, tenant_of, is_repo_of, holds, next_number_of, received_length}
+use Rattle.store_model.specs.Catalog.{SessionNumber, CheckedIn, Session, Resident, Catalog, session_number_cmp, tenant_of, is_repo_of, holds, next_number_of, received_length, ContentRules}
 use Rattle.store_model.specs.Commands
 use Rattle.spec_lib.specs.Outcomes.{◌>>=◌, refuse}
-use Rattle.store_model.specs.Commands.{Outcome, tenant, session_in, not_busy, length_after, with_new_session, content_in, has_same_bytes, is_digest_accepted, is_full_for, with_stored_blob, check_all_links, has_source, with_link, with_manifest, with_leased, linked_blob, check_no_referrer, is_full_of_manifests, check_quota, check_repo, check_share, is_in_use, lacks_room_for, cannot_open}
+use Rattle.store_model.specs.Commands.{Outcome, tenant, session_in, not_busy, length_after, with_new_session, content_in, fits_stored, is_digest_accepted, is_full_for, with_stored_blob, check_all_links, has_source, with_link, with_manifest, with_leased, linked_blob, check_no_referrer, is_full_of_manifests, check_quota, check_repo, check_share, is_in_use, lacks_room_for, cannot_open, is_named}
 use Rattle.store_model.specs.Sessions.{at_home, with_chunk}
 use Rattle.store_model.specs.declared.mount.Mount.TheVariants as mounting
 use Rattle.store_model.specs.Runs as runs
@@ -29,6 +29,7 @@ use Rattle.spec_lib.proofs.Texts.{same_itself}
 use Rattle.spec_lib.proofs.Options.{option_eq_some}
 use Rattle.spec_lib.proofs.Outcomes.{bound_ok}
 use Rattle.spec_lib.proofs.Agreement.{AgreeOn, agree_insert, agree_remove}
+use Rattle.store_model.proofs.Commands.Fits.{fits_same}
 use Rattle.store_model.proofs.Noninterference.SameFor.{Alike, visible, with_repos, with_links, with_manifests, with_sessions, Consistent, of_same, holds_same, own_holds_same, tenant_holds_same, room_same, open_same, session_found, session_same, check_same, whole_same, quota_same, share_check_same, in_use_same, manifests_same, referrer_same, used_same, limits_same}
 
 -- Two outcomes agree: equal results with equivalent catalogs, equal errors, or `StoreFull` with other tenants present.
@@ -107,26 +108,26 @@ whole_found : (f : Session → Result ℕ Refusal) (x : Result Session Refusal) 
 whole_found f x after w h = let a = bound_ok x f after h in ap (λ x. x >>= λ _. Ok w) a.1
 
 -- a content that is uploaded with its digest is that of `content`
-pub fits_named : (content : Text → Text) (d w : Text) → Fits content (uploaded_pair d (Ok w)) → is_digest_of d w ≡ true → content d ≡ w
-fits_named content d w fits is = (subst (λ b. Fits content (if b then (d, w) ∷ [] else [])) is fits).0
+pub fits_named : (content : Text → Text) (rules : ContentRules) (d w : Text) → Fits content (uploaded_pair rules d (Ok w)) → is_named rules d w ≡ true → content d ≡ w
+fits_named content rules d w fits is = (subst (λ b. Fits content (if b then (d, w) ∷ [] else [])) is fits).0
 
 -- the content of a close that passed its check is the one compared
 pub fits_whole : (content : Text → Text) (C : Catalog) (t : ℕ) (r d last : Text) (n len after : ℕ) (g : Option ByteRange) → tenant C r ≡ Ok t → Commands.chunk_length_check C t r n g len ≡ Ok after →
-    Fits content (uploaded_pair d (close_content C r n last)) → is_digest_of d (content_in C.sessions (t, n) last) ≡ true → content d ≡ content_in C.sessions (t, n) last
+    Fits content (uploaded_pair C.contents d (close_content C r n last)) → is_named C.contents d (content_in C.sessions (t, n) last) ≡ true → content d ≡ content_in C.sessions (t, n) last
 fits_whole content C t r d last n len after g there checked fits is =
     let brings : close_content C r n last ≡ Ok (content_in C.sessions (t, n) last) =
     ap (λ x. x >>= λ t. Commands.session C t r n >>= λ _. Ok (content_in C.sessions (t, n) last)) there ∙ whole_found _ (Commands.session C t r n) after (content_in C.sessions (t, n) last) checked in
-    fits_named content d (content_in C.sessions (t, n) last) (subst (λ x. Fits content (uploaded_pair d x)) brings fits) is
+    fits_named content C.contents d (content_in C.sessions (t, n) last) (subst (λ x. Fits content (uploaded_pair C.contents d x)) brings fits) is
 
 -- if the content fits, the blob stored under the digest is the same
-pub names_alone : (content : Text → Text) (C : Catalog) (d w : Text) → Consistent content C → (is_digest_of d w ≡ true → content d ≡ w) → is_digest_accepted C d w ≡ is_digest_of d w
-names_alone content C d w consistent fits = by (is_digest_of d w) refl
+pub names_alone : (content : Text → Text) (C : Catalog) (d w : Text) → Consistent content C → (is_named C.contents d w ≡ true → content d ≡ w) → is_digest_accepted C d w ≡ is_named C.contents d w
+names_alone content C d w consistent fits = by (is_named C.contents d w) refl
   where
-    kept : (o : Option Resident) → get C.residents d ≡ o → content d ≡ w → has_same_bytes o w ≡ true
+    kept : (o : Option Resident) → get C.residents d ≡ o → content d ≡ w → fits_stored C.contents o w ≡ true
     kept None found is = refl
-    kept (Some x) found is = subst (λ y. same_text x.bytes y ≡ true) (consistent.bytes d x found ∙ is) (same_itself x.bytes)
+    kept (Some x) found is = fits_same C.contents.on_disk x.bytes w (consistent.bytes d x found ∙ is)
 
-    by : (b : Bool) → is_digest_of d w ≡ b → (b && has_same_bytes (get C.residents d) w) ≡ b
+    by : (b : Bool) → is_named C.contents d w ≡ b → (b && fits_stored C.contents (get C.residents d) w) ≡ b
     by false is = refl
     by true is = kept (get C.residents d) refl (fits is)
 
@@ -148,7 +149,7 @@ module _ (content : Text → Text) (t : ℕ) (C D : Catalog) (alike : Alike t C 
   new_alike : Alike t (with_new_session C t r) (with_new_session D t r)
   new_alike = record {
     tenants = alike.tenants;
-    max_blob = alike.max_blob;
+    contents = alike.contents;
     numbers = length-set C.next t (next_number_of C t + 1) ∙ alike.numbers ∙ sym (length-set D.next t (next_number_of D t + 1));
     next = next_alike C.next D.next t (next_number_of C t + 1) (next_number_of D t + 1) alike.numbers (ap (λ n. n + 1) alike.next);
     repos = agree_insert nat_list_cmp_total exact_bytes (is_repo_of C t) C.repos D.repos r tt alike.repos;
@@ -276,7 +277,7 @@ module _ (content : Text → Text) (t : ℕ) (C D : Catalog) (alike : Alike t C 
       by false true held same = absurd (false≢true (sym same))
       by false false held same = refl
 
-  pub own_close : (n : ℕ) (d : Text) (g : Option ByteRange) (b : Text) → Fits content (uploaded_pair d (close_content C r n b)) →
+  pub own_close : (n : ℕ) (d : Text) (g : Option ByteRange) (b : Text) → Fits content (uploaded_pair C.contents d (close_content C r n b)) →
       Matches t (Commands.close C r n d g b) (Commands.close_by always_has_slot D r n d g b)
   own_close n d g b fits = with_tenant _ _ (
       same_check t _ _ (check_same t C D alike r n g (length b)) _ _ (λ after checked.
@@ -285,8 +286,8 @@ module _ (content : Text → Text) (t : ℕ) (C D : Catalog) (alike : Alike t C 
       same_check t (refuse (not (is_digest_accepted C d (content_in C.sessions (t, n) b))) DigestInvalid) (refuse (not (is_digest_accepted D d (content_in D.sessions (t, n) b))) DigestInvalid)
       (ap (λ x. refuse (not x) DigestInvalid) (
       names_alone content C d (content_in C.sessions (t, n) b) consistent_C here
-      ∙ ap (is_digest_of d) (whole_same t C D alike n b)
-      ∙ sym (names_alone content D d (content_in D.sessions (t, n) b) consistent_D (λ is. here (ap (is_digest_of d) (whole_same t C D alike n b) ∙ is) ∙ whole_same t C D alike n b)))) _ _ (λ _ _.
+      ∙ (λ i. is_named (alike.contents i) d (whole_same t C D alike n b i))
+      ∙ sym (names_alone content D d (content_in D.sessions (t, n) b) consistent_D (λ is. here ((λ i. is_named (alike.contents i) d (whole_same t C D alike n b i)) ∙ is) ∙ whole_same t C D alike n b)))) _ _ (λ _ _.
       same_check t (check_share C t d) (check_share D t d) (share_check_same t C D alike d) _ _ (λ _ _.
       full (is_full_for C d))))))
     where

@@ -51,7 +51,7 @@ module _ {K : Type 0} (R : K → K → Ordering) (o : IsTotalOrder R) where
 pub alike_back : (t : ℕ) (C D : Catalog) → Alike t C D → Alike t D C
 alike_back t C D a = record {
   tenants = sym a.tenants;
-  max_blob = sym a.max_blob;
+  contents = sym a.contents;
   numbers = sym a.numbers;
   next = sym a.next;
   repos = λ q is. sym (a.repos q (of_same t C D a q ∙ is));
@@ -160,15 +160,15 @@ uncrowded_of tenants t (CommandEvent command r ∷ es) h =
     ]
 
 pub same_texts : TextsAreTheSame
-same_texts tenants slots max_blob es fs C D run_es free_es run_fs free_fs same =
-    let a : (t : ℕ) → _ = λ t. followed tenants slots max_blob t es C run_es (uncrowded_of tenants t es free_es) in
-    let b : (t : ℕ) → _ = λ t. followed tenants slots max_blob t fs D run_fs (uncrowded_of tenants t fs free_fs) in
-    let alone_a : (t : ℕ) → Catalog = λ t. isolated_catalog (opening tenants slots max_blob) (commands_of (events_of tenants t es)) in
-    let alone_b : (t : ℕ) → Catalog = λ t. isolated_catalog (opening tenants slots max_blob) (commands_of (events_of tenants t fs)) in
-    let alone_same : (t : ℕ) → alone_a t ≡ alone_b t = λ t. ap (isolated_catalog (opening tenants slots max_blob)) (same t) in
+same_texts tenants slots contents es fs C D run_es free_es run_fs free_fs same =
+    let a : (t : ℕ) → _ = λ t. followed tenants slots contents t es C run_es (uncrowded_of tenants t es free_es) in
+    let b : (t : ℕ) → _ = λ t. followed tenants slots contents t fs D run_fs (uncrowded_of tenants t fs free_fs) in
+    let alone_a : (t : ℕ) → Catalog = λ t. isolated_catalog (opening tenants slots contents) (commands_of (events_of tenants t es)) in
+    let alone_b : (t : ℕ) → Catalog = λ t. isolated_catalog (opening tenants slots contents) (commands_of (events_of tenants t fs)) in
+    let alone_same : (t : ℕ) → alone_a t ≡ alone_b t = λ t. ap (isolated_catalog (opening tenants slots contents)) (same t) in
     let alike : (t : ℕ) → Alike t C D = λ t. alike_through t C (alone_a t) D (a t).alike (subst (λ X. Alike t X D) (sym (alone_same t)) (alike_back t D (alone_b t) (b t).alike)) in
     let blobs : (t : ℕ) → blobs_of C t ≡ blobs_of D t = λ t.
-    ap (λ p. p.blobs) (isolated tenants slots max_blob t es C run_es (uncrowded_of tenants t es free_es)).tenant_view
+    ap (λ p. p.blobs) (isolated tenants slots contents t es C run_es (uncrowded_of tenants t es free_es)).tenant_view
     ∙ ap (λ X. blobs_of X t) (alone_same t)
-    ∙ sym (ap (λ p. p.blobs) (isolated tenants slots max_blob t fs D run_fs (uncrowded_of tenants t fs free_fs)).tenant_view) in
-    same_text_of (content_of (pairs_of tenants slots max_blob es C run_es)) (content_of (pairs_of tenants slots max_blob fs D run_fs)) C D (a 0).consistent (b 0).consistent alike blobs
+    ∙ sym (ap (λ p. p.blobs) (isolated tenants slots contents t fs D run_fs (uncrowded_of tenants t fs free_fs)).tenant_view) in
+    same_text_of (content_of (pairs_of tenants slots contents es C run_es)) (content_of (pairs_of tenants slots contents fs D run_fs)) C D (a 0).consistent (b 0).consistent alike blobs

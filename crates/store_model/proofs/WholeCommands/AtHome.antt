@@ -35,7 +35,7 @@ AreOne tenants max_blob k (Some s) (Some out) home = IsLent tenants max_blob k s
 
 -- the sessions of a catalog after every hand was checked in
 abbrev pub AtHome : CheckedOutSessions → Catalog → Sessions → Type 0
-AtHome hands C m = (k : SessionNumber) → AreOne C.tenants C.max_blob k (get C.sessions k) (get hands k) (get m k)
+AtHome hands C m = (k : SessionNumber) → AreOne C.tenants C.contents.max_blob k (get C.sessions k) (get hands k) (get m k)
 
 pub as_found : (tenants : List Tenant) (max_blob : ℕ) (k : SessionNumber) {s s' : Option Session} {out out' : Option CheckedOut} {home home' : Option Session} → s' ≡ s → out' ≡ out → home' ≡ home →
     AreOne tenants max_blob k s out home → AreOne tenants max_blob k s' out' home'
@@ -57,25 +57,25 @@ module _ (hands : CheckedOutSessions) (C : Catalog) (m : Sessions) (at_home : At
 
   -- a checked-in session is unchanged
   pub found_home : (k : SessionNumber) (s : Session) → get C.sessions k ≡ Some s → are_checked_in s.chunks ≡ true → (get hands k ≡ None) × (get m k ≡ Some s)
-  found_home k s found home = at (get hands k) refl (subst (λ o. AreOne C.tenants C.max_blob k o (get hands k) (get m k)) found (at_home k))
+  found_home k s found home = at (get hands k) refl (subst (λ o. AreOne C.tenants C.contents.max_blob k o (get hands k) (get m k)) found (at_home k))
     where
-      at : (out : Option CheckedOut) → get hands k ≡ out → AreOne C.tenants C.max_blob k (Some s) out (get m k) → (get hands k ≡ None) × (get m k ≡ Some s)
+      at : (out : Option CheckedOut) → get hands k ≡ out → AreOne C.tenants C.contents.max_blob k (Some s) out (get m k) → (get hands k ≡ None) × (get m k ≡ Some s)
       at None none one = (none, one.1)
       at (Some out) is one = absurd (false≢true (ap are_checked_in (sym one.0.chunks) ∙ home))
 
   pub found_none : (k : SessionNumber) → get C.sessions k ≡ None → get hands k ≡ None
-  found_none k none = at (get hands k) refl (subst (λ o. AreOne C.tenants C.max_blob k o (get hands k) (get m k)) none (at_home k))
+  found_none k none = at (get hands k) refl (subst (λ o. AreOne C.tenants C.contents.max_blob k o (get hands k) (get m k)) none (at_home k))
     where
-      at : (out : Option CheckedOut) → get hands k ≡ out → AreOne C.tenants C.max_blob k None out (get m k) → get hands k ≡ None
+      at : (out : Option CheckedOut) → get hands k ≡ out → AreOne C.tenants C.contents.max_blob k None out (get m k) → get hands k ≡ None
       at None is one = is
       at (Some out) is one = absurd one
 
   -- the session of a checked-out hand
-  pub found_out : (k : SessionNumber) (out : CheckedOut) → get hands k ≡ Some out → (s : Session) × (get C.sessions k ≡ Some s) × IsLent C.tenants C.max_blob k s out × (get m k ≡ Some (record s { chunks = CheckedIn out.hand.chunks }))
-  found_out k out is = at (get C.sessions k) refl (subst (λ o. AreOne C.tenants C.max_blob k (get C.sessions k) o (get m k)) is (at_home k))
+  pub found_out : (k : SessionNumber) (out : CheckedOut) → get hands k ≡ Some out → (s : Session) × (get C.sessions k ≡ Some s) × IsLent C.tenants C.contents.max_blob k s out × (get m k ≡ Some (record s { chunks = CheckedIn out.hand.chunks }))
+  found_out k out is = at (get C.sessions k) refl (subst (λ o. AreOne C.tenants C.contents.max_blob k (get C.sessions k) o (get m k)) is (at_home k))
     where
-      at : (s : Option Session) → get C.sessions k ≡ s → AreOne C.tenants C.max_blob k s (Some out) (get m k) →
-          (s : Session) × (get C.sessions k ≡ Some s) × IsLent C.tenants C.max_blob k s out × (get m k ≡ Some (record s { chunks = CheckedIn out.hand.chunks }))
+      at : (s : Option Session) → get C.sessions k ≡ s → AreOne C.tenants C.contents.max_blob k s (Some out) (get m k) →
+          (s : Session) × (get C.sessions k ≡ Some s) × IsLent C.tenants C.contents.max_blob k s out × (get m k ≡ Some (record s { chunks = CheckedIn out.hand.chunks }))
       at None found one = absurd one
       at (Some s) found one = (s, found, one.0, one.1)
 
@@ -83,35 +83,35 @@ module _ (hands : CheckedOutSessions) (C : Catalog) (m : Sessions) (at_home : At
 
   at_key : (k : SessionNumber) (after : Sessions) (hands' : CheckedOutSessions) (m' : Sessions) →
       ((q : SessionNumber) → q ≢ k → (get after q ≡ get C.sessions q) × (get hands' q ≡ get hands q) × (get m' q ≡ get m q)) →
-      AreOne C.tenants C.max_blob k (get after k) (get hands' k) (get m' k) → AtHome hands' (record C { sessions = after }) m'
+      AreOne C.tenants C.contents.max_blob k (get after k) (get hands' k) (get m' k) → AtHome hands' (record C { sessions = after }) m'
   at_key k after hands' m' elsewhere here q = elim (cases_key number_cmp_total exact_number q k) [
-    | inl e ↦ subst (λ (x : SessionNumber). AreOne C.tenants C.max_blob x (get after x) (get hands' x) (get m' x)) (sym e) here
-    | inr other ↦ let same = elsewhere q other in as_found C.tenants C.max_blob q same.0 same.1 same.2 (at_home q)
+    | inl e ↦ subst (λ (x : SessionNumber). AreOne C.tenants C.contents.max_blob x (get after x) (get hands' x) (get m' x)) (sym e) here
+    | inr other ↦ let same = elsewhere q other in as_found C.tenants C.contents.max_blob q same.0 same.1 same.2 (at_home q)
   ]
 
   pub insert_home : (k : SessionNumber) (s : Session) → get hands k ≡ None → are_checked_in s.chunks ≡ true → AtHome hands (record C { sessions = insert C.sessions k s }) (insert m k s)
   insert_home k s none home = at_key k (insert C.sessions k s) hands (insert m k s)
       (λ q other. (get-insert_other number_cmp_total exact_number C.sessions k s q other, refl, get-insert_other number_cmp_total exact_number m k s q other))
-      (as_found C.tenants C.max_blob k (get-insert_at number_cmp_total exact_number C.sessions k s) none (get-insert_at number_cmp_total exact_number m k s) (home, refl))
+      (as_found C.tenants C.contents.max_blob k (get-insert_at number_cmp_total exact_number C.sessions k s) none (get-insert_at number_cmp_total exact_number m k s) (home, refl))
 
   pub remove_home : (k : SessionNumber) → get hands k ≡ None → AtHome hands (record C { sessions = remove C.sessions k }) (remove m k)
   remove_home k none = at_key k (remove C.sessions k) hands (remove m k)
       (λ q other. (get-remove_other number_cmp_total exact_number C.sessions k q other, refl, get-remove_other number_cmp_total exact_number m k q other))
-      (as_found C.tenants C.max_blob k (get-remove_same number_cmp_total exact_number C.sessions k) none (get-remove_same number_cmp_total exact_number m k) refl)
+      (as_found C.tenants C.contents.max_blob k (get-remove_same number_cmp_total exact_number C.sessions k) none (get-remove_same number_cmp_total exact_number m k) refl)
 
   -- a session that is checked out is still checked in here
-  pub lend : (k : SessionNumber) (s : Session) (n : ℕ) (out : CheckedOut) → get C.sessions k ≡ Some s → s.chunks ≡ CheckedIn out.hand.chunks → IsLent C.tenants C.max_blob k (record s { chunks = CheckedOutWith (received_length s) n }) out →
+  pub lend : (k : SessionNumber) (s : Session) (n : ℕ) (out : CheckedOut) → get C.sessions k ≡ Some s → s.chunks ≡ CheckedIn out.hand.chunks → IsLent C.tenants C.contents.max_blob k (record s { chunks = CheckedOutWith (received_length s) n }) out →
       AtHome (insert hands k out) (record C { sessions = with_chunks C.sessions k s (CheckedOutWith (received_length s) n) }) m
   lend k s n out found home lent = at_key k (with_chunks C.sessions k s (CheckedOutWith (received_length s) n)) (insert hands k out) m
       (λ q other. (get-insert_other number_cmp_total exact_number C.sessions k _ q other, get-insert_other number_cmp_total exact_number hands k out q other, refl))
-      (as_found C.tenants C.max_blob k (get-insert_at number_cmp_total exact_number C.sessions k _) (get-insert_at number_cmp_total exact_number hands k out) refl
+      (as_found C.tenants C.contents.max_blob k (get-insert_at number_cmp_total exact_number C.sessions k _) (get-insert_at number_cmp_total exact_number hands k out) refl
       (lent, (found_home k s found (ap are_checked_in home)).1 ∙ (λ i. Some (record s { chunks = home i }))))
 
   -- a session that is checked in is unchanged
   pub bring : (k : SessionNumber) (s : Session) (out : CheckedOut) → get m k ≡ Some (record s { chunks = CheckedIn out.hand.chunks }) → AtHome (remove hands k) (record C { sessions = with_chunks C.sessions k s (CheckedIn out.hand.chunks) }) m
   bring k s out same = at_key k (with_chunks C.sessions k s (CheckedIn out.hand.chunks)) (remove hands k) m
       (λ q other. (get-insert_other number_cmp_total exact_number C.sessions k _ q other, get-remove_other number_cmp_total exact_number hands k q other, refl))
-      (as_found C.tenants C.max_blob k (get-insert_at number_cmp_total exact_number C.sessions k _) (get-remove_same number_cmp_total exact_number hands k) refl (refl, same))
+      (as_found C.tenants C.contents.max_blob k (get-insert_at number_cmp_total exact_number C.sessions k _) (get-remove_same number_cmp_total exact_number hands k) refl (refl, same))
 
   -- ---- counts and sums
 
@@ -121,7 +121,7 @@ module _ (hands : CheckedOutSessions) (C : Catalog) (m : Sessions) (at_home : At
   pub open_home : (t : ℕ) → open_sessions C t ≡ open_sessions home t
   open_home t = sum_alike number_cmp_total exact_number (one_more t) (one_more t) C.sessions m (λ q. at q (get C.sessions q) (get hands q) (get m q) (at_home q))
     where
-      at : (q : SessionNumber) (s : Option Session) (out : Option CheckedOut) (h : Option Session) → AreOne C.tenants C.max_blob q s out h → term (one_more t) q s ≡ term (one_more t) q h
+      at : (q : SessionNumber) (s : Option Session) (out : Option CheckedOut) (h : Option Session) → AreOne C.tenants C.contents.max_blob q s out h → term (one_more t) q s ≡ term (one_more t) q h
       at q None None h is = sym (ap (term (one_more t) q) is)
       at q None (Some out) h is = absurd is
       at q (Some s) None h is = sym (ap (term (one_more t) q) is.1)
@@ -136,7 +136,7 @@ module _ (hands : CheckedOutSessions) (C : Catalog) (m : Sessions) (at_home : At
       one : SessionNumber × Session → ℕ
       one e = cond (same_text e.1.repo r) 1 0
 
-      at : (q : SessionNumber) (s : Option Session) (out : Option CheckedOut) (h : Option Session) → AreOne C.tenants C.max_blob q s out h → term one q s ≡ term one q h
+      at : (q : SessionNumber) (s : Option Session) (out : Option CheckedOut) (h : Option Session) → AreOne C.tenants C.contents.max_blob q s out h → term one q s ≡ term one q h
       at q None None h is = sym (ap (term one q) is)
       at q None (Some out) h is = absurd is
       at q (Some s) None h is = sym (ap (term one q) is.1)
@@ -153,7 +153,7 @@ module _ (hands : CheckedOutSessions) (C : Catalog) (m : Sessions) (at_home : At
       both true x y = refl
       both false x y = refl
 
-      at : (q : SessionNumber) (s : Option Session) (out : Option CheckedOut) (h : Option Session) → AreOne C.tenants C.max_blob q s out h → term (brings t) q s ≡ term (session_charge t) q h
+      at : (q : SessionNumber) (s : Option Session) (out : Option CheckedOut) (h : Option Session) → AreOne C.tenants C.contents.max_blob q s out h → term (brings t) q s ≡ term (session_charge t) q h
       at q None None h is = sym (ap (term (session_charge t) q) is)
       at q None (Some out) h is = absurd is
       at q (Some s) None h is = ap (λ n. if q.0 == t then n else 0) (sym (counts s is.0)) ∙ sym (ap (term (session_charge t) q) is.1)

@@ -89,7 +89,7 @@ module _ (hands : CheckedOutSessions) where
         not_home s is true home = subst (λ (y : Result (Unit {0}) Refusal). SameContentionFree (y >>= λ _. Ok s) (not_busy home.chunks >>= λ _. Ok home)) (sym is) (λ calm. absurd (calm.0 refl))
         not_home s is false home = λ calm. refl
 
-        at : (o : Option Session) (out : Option CheckedOut) (h : Option Session) → AreOne C.tenants C.max_blob k o out h → SameContentionFree (home_session o r) (home_session h r)
+        at : (o : Option Session) (out : Option CheckedOut) (h : Option Session) → AreOne C.tenants C.contents.max_blob k o out h → SameContentionFree (home_session o r) (home_session h r)
         at None None h one = alike (home_session None r) (home_session h r) (ap (λ o. home_session o r) (sym one))
         at None (Some out) h one = absurd one
         at (Some s) None h one = alike (home_session (Some s) r) (home_session h r) (ap (λ o. home_session o r) (sym one.1))
@@ -111,7 +111,7 @@ module _ (hands : CheckedOutSessions) where
 
     check_same : (t : ℕ) (r : Text) (n : ℕ) (g : Option ByteRange) (len : ℕ) → SameContentionFree (chunk_length_check C t r n g len) (chunk_length_check D t r n g len)
     check_same t r n g len =
-        let f : Session → Result ℕ Refusal = λ s. length_after C.max_blob (received_length s) g len in
+        let f : Session → Result ℕ Refusal = λ s. length_after C.contents.max_blob (received_length s) g len in
         subst (λ x. SameContentionFree x (chunk_length_check D t r n g len)) (sym (after_home (session_in (get C.sessions (t, n)) r) f))
         (subst (λ y. SameContentionFree (home_session (get C.sessions (t, n)) r >>= f) y) (sym (after_home (session_in (get m (t, n)) r) f))
         (then_same (home_session (get C.sessions (t, n)) r) (home_session (get m (t, n)) r) (sessions_same (t, n) r) f))
@@ -126,7 +126,7 @@ module _ (hands : CheckedOutSessions) where
         both true s s' e = ap (λ n. Ok n) e
         both false s s' e = refl
 
-        at : (o : Option Session) (out : Option CheckedOut) (h : Option Session) → AreOne C.tenants C.max_blob k o out h → lengths o ≡ lengths h
+        at : (o : Option Session) (out : Option CheckedOut) (h : Option Session) → AreOne C.tenants C.contents.max_blob k o out h → lengths o ≡ lengths h
         at None None h one = ap lengths (sym one)
         at None (Some out) h one = absurd one
         at (Some s) None h one = ap lengths (sym one.1)

@@ -108,14 +108,14 @@ module _ (hands : CheckedOutSessions) (C X : Catalog) (m : Sessions) (home : AtH
   received_is : received_length s ≡ sum_by length p.checked.chunks
   received_is = taken_received C X r n len g h stepped
 
-  fits : length_after C.max_blob (sum_by length p.checked.chunks) g len ≡ Ok p.after
+  fits : length_after C.contents.max_blob (sum_by length p.checked.chunks) g len ≡ Ok p.after
   fits =
       let a = bound_ok (session_in (get C.sessions key) r) _ p.after p.check_ok in
       let b = bound_ok (not_busy a.0.chunks) _ p.after a.2 in
       let same : a.0 ≡ s = (let e : Some a.0 ≡ Some s = sym (session_found (get C.sessions key) r a.0 a.1).0 ∙ p.checked.found in cc) in
-      ap (λ x. length_after C.max_blob x g len) (sym (ap received_length same ∙ received_is)) ∙ b.2
+      ap (λ x. length_after C.contents.max_blob x g len) (sym (ap received_length same ∙ received_is)) ∙ b.2
 
-  lent : IsLent C.tenants C.max_blob key (record s { chunks = CheckedOutWith (received_length s) len }) (lent_as hand)
+  lent : IsLent C.tenants C.contents.max_blob key (record s { chunks = CheckedOutWith (received_length s) len }) (lent_as hand)
   lent = record {
     key = refl;
     unfilled = refl;
@@ -140,13 +140,13 @@ module _ (hands : CheckedOutSessions) (C X : Catalog) (m : Sessions) (home : AtH
 -- ---- check-ins
 
 module _ (hands : CheckedOutSessions) (C : Catalog) (m : Sessions) (home : AtHome hands C m) (sound : Sound C) (h : HandRecord) (out : CheckedOut) (is_out : get hands h.key ≡ Some out) where
-  abbrev f : (s : Session) × (get C.sessions h.key ≡ Some s) × IsLent C.tenants C.max_blob h.key s out × (get m h.key ≡ Some (record s { chunks = CheckedIn out.hand.chunks }))
+  abbrev f : (s : Session) × (get C.sessions h.key ≡ Some s) × IsLent C.tenants C.contents.max_blob h.key s out × (get m h.key ≡ Some (record s { chunks = CheckedIn out.hand.chunks }))
   f = found_out hands C m home h.key out is_out
 
   abbrev session : Session
   session = f.0
 
-  abbrev lent_is : IsLent C.tenants C.max_blob h.key session out
+  abbrev lent_is : IsLent C.tenants C.contents.max_blob h.key session out
   lent_is = f.2
 
   abbrev there : Session
@@ -305,7 +305,7 @@ named_both (e ∷ first) rest all = let both = named_both first rest all.1 in ((
 all_home : (hands : CheckedOutSessions) (C : Catalog) (m : Sessions) → AtHome hands C m → hands ≡ empty → C ≡ record C { sessions = m }
 all_home hands C m home none = λ i. record C { sessions = sessions_same i }
   where
-    at : (k : SessionNumber) (s : Option Session) (out : Option CheckedOut) (h : Option Session) → out ≡ None → AreOne C.tenants C.max_blob k s out h → s ≡ h
+    at : (k : SessionNumber) (s : Option Session) (out : Option CheckedOut) (h : Option Session) → out ≡ None → AreOne C.tenants C.contents.max_blob k s out h → s ≡ h
     at k None None h e one = sym one
     at k None (Some out) h e one = absurd one
     at k (Some s) None h e one = sym one.1
@@ -326,7 +326,7 @@ whole (step ∷ steps) s s' hands m events home sound run calm are named =
     (moved.run are.1 s'.catalog (whole steps mid s' are.2 moved.home are.1 moved.at_home moved.sound run.2 calm.1 are.5 both.1))
 
 pub histories_are_runs : HistoriesAreRuns
-histories_are_runs tenants slots max_blob steps s events sound run calm are named =
-    let C : Catalog = opening tenants slots max_blob in
+histories_are_runs tenants slots contents steps s events sound run calm are named =
+    let C : Catalog = opening tenants slots contents in
     whole steps (initial_state C) s empty C.sessions events
-    (λ k. as_found tenants max_blob k {out = None} (get-empty session_number_cmp k) (get-empty session_number_cmp k) (get-empty session_number_cmp k) refl) sound run calm are named
+    (λ k. as_found tenants contents.max_blob k {out = None} (get-empty session_number_cmp k) (get-empty session_number_cmp k) (get-empty session_number_cmp k) refl) sound run calm are named

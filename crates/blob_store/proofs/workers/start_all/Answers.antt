@@ -1,7 +1,10 @@
 use Rattle.std.proofs.Common.{◌≡◌, ◌+◌, ◌∙◌, ap, arith, length, rules, subst, sym, vec_len}
 use Rattle.blob_store.specs.Jobs.{IsWorkerResultAt, IsThreadOfWorkerAt, IsReady, IsReadyAt}
 use Rattle.blob_store.specs.Workers.{AllAt}
+use denote.Param.Send.{sendable}
+use Rattle.std.proofs.Crossing.{crosses}
 use Rattle.blob_store.proofs.Places.{at_first, at_last, at_pushed}
+use Rattle.blob_store.proofs.Sending.{job_send, result_send, shared_sync}
 use Rattle.blob_store.proofs.workers.start_all.Goals as goal
 
 pub loop-job-init : goal.loop-job-init
@@ -39,6 +42,12 @@ spawn_with-requires-clause-runs g c κs within =
     let lines = g.L.RowList.lines c.args.shared.now.rows.now in
     let jobs = subst (AllAt (IsReadyAt n lines)) c.in-Some.ensures.items c.loop-job.invariant.jobs in
     (at_last (IsReadyAt n lines) c.pop.new.self.items c.in-Some.job jobs).ready
+
+pub spawn_with-requires-send-F : goal.spawn_with-requires-send-F
+spawn_with-requires-send-F g c κs within = search (job_send, shared_sync, sendable, crosses) depth 60 fits 20000
+
+pub spawn_with-requires-send-T : goal.spawn_with-requires-send-T
+spawn_with-requires-send-T g c κs within = search (result_send, sendable) depth 20 fits 20000
 
 pub there-desk-requires : goal.there-desk-requires
 there-desk-requires g c κs within =

@@ -27,6 +27,7 @@ returns-clause-found c =
     record {
       numbers = c.in-Some.ensures;
       tenants = subst (λ (ws : List Text). SpellTenants false ws (tenants_shown c.in_ok-tenants.tenants.items)) words c.in_ok-tenants.ensures.spelled;
+      kept_in_memory = refl;
       first = refl;
       workers = c.in-Some-worker_count.ensures;
     }

@@ -1,5 +1,5 @@
 use Rattle.std.proofs.Common.{◌∙◌, ◌++◌, List, ap, refl, subst, sym}
-use Rattle.store_model.specs.Catalog.{Catalog}
+use Rattle.store_model.specs.Catalog.{Catalog, in_memory}
 use Rattle.store_model.specs.BookText.{book_text}
 use Rattle.store_api.specs.Answers.{Answer}
 use Rattle.script_player.specs.Leases.{no_leases}
@@ -15,10 +15,10 @@ use Rattle.blobctl.proofs.laws.one_text.Goals as goal
 
 pub returns-clause-most : goal.returns-clause-most
 returns-clause-most c tenants slots max_blob script text other one nothing two =
-    let first = one_opening tenants slots max_blob one.first two.first one.opened two.opened in
+    let first = one_opening tenants slots (in_memory max_blob) one.first two.first one.opened two.opened in
     let rows = rows_are_one script two.rows one.rows two.all one.all in
     let run = subst (λ (C : Catalog). Plays CatalogLeads (C, no_leases) one.rows two.answers (two.last, two.left)) (sym first) (subst (λ (ls : List RowView). Plays CatalogLeads (two.first, no_leases) ls two.answers (two.last, two.left)) rows two.run) in
-    let same = plays_same (one.first, no_leases) (one.last, one.left) (two.last, two.left) one.rows one.answers two.answers (opening_none one.first one.first.tenants slots max_blob one.opened.empty) nothing one.run run in
+    let same = plays_same (one.first, no_leases) (one.last, one.left) (two.last, two.left) one.rows one.answers two.answers (opening_none one.first one.first.tenants slots (in_memory max_blob) one.opened.empty) nothing one.run run in
     one.written ∙ ap (λ (x : List Answer × State Catalog). replies_text x.0 ++ book_text x.1.0) same ∙ sym two.written
 
 pub returns-clause-some : goal.returns-clause-some

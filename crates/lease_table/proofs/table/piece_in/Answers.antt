@@ -1,6 +1,7 @@
-use Rattle.std.proofs.Common.{◌≡◌, ◌≢◌, ◌∙◌, Some, refl, rules, sym}
+use Rattle.std.proofs.Common.{◌≡◌, ◌≢◌, ◌∙◌, Some, refl, rules, subst, sym, true}
 use Rattle.std.specs.BTreeMap as tree
 use Rattle.std.specs.Ordering.{nat_cmp}
+use Rattle.blob_digest.specs.Vouched.{has_digest}
 use Rattle.store_api.specs.LeaseViews.{bytes_between}
 use Rattle.store_book.specs.Leased.{LeaseValue}
 use Rattle.lease_table.proofs.Tables.{get-tree}
@@ -33,3 +34,10 @@ returns-clause-does g c =
       },
       refl,
     )
+
+pub returns-clause-content : goal.returns-clause-content
+returns-clause-content g c =
+    let named : c.in-Some.lease.now.hold.digest ≡ c.args.digest.now = search rules in
+    let part : c.new.result ≡ bytes_between c.in-Some.lease.now.bytes c.args.start c.args.end = search rules in
+    let agrees : has_digest c.in-Some.lease.now.hold.digest c.in-Some.lease.now.bytes ≡ true = search rules in
+    record { bytes = c.in-Some.lease.now.bytes; content = subst (λ d. has_digest d c.in-Some.lease.now.bytes ≡ true) named agrees; part = part }

@@ -12,15 +12,15 @@ pub link-requires-clause-size : goal.link-requires-clause-size
 link-requires-clause-size c = rw (c.held_len-size.ensures, c.table.ensures) (size_there c.args.slots.now.slots c.args.slot c.args.digest.now c.requires.there c.args.links.now c.args.tenant c.args.repo.now c.requires.can)
 
 pub returns-clause-ok : goal.returns-clause-ok
-returns-clause-ok c =
+returns-clause-ok c on_disk =
     let awake : with_revived_slot c.args.slots.now.slots c.args.slot ≡ c.args.slots.now.slots = with_revived_slot-same c.args.slots.now.slots c.args.slot (λ e. let f : phase.Live ≡ phase.Condemned = sym c.requires.live ∙ e in cc) in
     elim c.if-is_new.branch [
       | then-is_new w ↦
-          again_new c.args.slots.now.slots c.args.slot c.args.digest.now c.requires.there c.args.links.now c.link.new.self c.if-is_new.slots.slots c.args.repo.now (rw (c.held_len-size.ensures, c.table.ensures, w.if-is_new.true) at c.in_ok-is_new.ensures)
+          again_new c.args.slots.now.slots c.args.slot c.args.digest.now c.requires.there on_disk c.args.links.now c.link.new.self c.if-is_new.slots.slots c.args.repo.now (rw (c.held_len-size.ensures, c.table.ensures, w.if-is_new.true) at c.in_ok-is_new.ensures)
           (ap (λ (p : Pinned). p.slots) (w.slots-is ∙ w.link_up.ensures) ∙ ap (λ xs. with_slot xs c.args.slot (on_stored_blob link_up)) (sym awake))
       | else-is_new w ↦
-          let kept = again_old c.args.slots.now.slots c.args.slot c.args.digest.now c.requires.there c.args.links.now c.link.new.self c.args.repo.now (rw (c.held_len-size.ensures, c.table.ensures, w.if-is_new.false) at c.in_ok-is_new.ensures) in
-          subst (λ (x : List Slot). IsStored c.args.links.now c.args.slots.now.slots c.args.repo.now (c.args.digest.now, bytes_at c.args.slots.now.slots c.args.slot) c.link.new.self x) (awake ∙ ap (λ (p : Pinned). p.slots) (sym w.slots-is)) kept
+          let kept = again_old c.args.slots.now.slots c.args.slot c.args.digest.now c.requires.there on_disk c.args.links.now c.link.new.self c.args.repo.now (rw (c.held_len-size.ensures, c.table.ensures, w.if-is_new.false) at c.in_ok-is_new.ensures) in
+          subst (λ (x : List Slot). IsStored on_disk c.args.links.now c.args.slots.now.slots c.args.repo.now (c.args.digest.now, bytes_at c.args.slots.now.slots c.args.slot) c.link.new.self x) (awake ∙ ap (λ (p : Pinned). p.slots) (sym w.slots-is)) kept
     ]
 
 pub returns-clause-seen : goal.returns-clause-seen

@@ -1,4 +1,4 @@
-use Rattle.std.proofs.Common.{◌∙◌, ap, refl, sym, length}
+use Rattle.std.proofs.Common.{◌∙◌, ap, refl, sym}
 use Rattle.slot_table.specs.Slots.{on_stored_blob, link_up}
 use Rattle.spec_lib.proofs.Options.{nothing}
 use Rattle.store_book.specs.Internal.Storing.{past_share}
@@ -16,8 +16,8 @@ returns-in-Ok-clause-share c = rw c.digest-digest.ensures.value at (sym c.passes
 
 pub returns-in-Ok-clause-ok : goal.returns-in-Ok-clause-ok
 returns-in-Ok-clause-ok c =
-    kept_anew c.args.links.now c.link.new.self c.args.slots.now.slots c.place.new.self.slots c.link_up.new.self.slots c.args.repo.now c.args.blob c.in-Ok.slot c.in_default.field-0 c.requires.absent c.in-Ok.ensures.free
-    (rw (c.digest-digest.ensures.value, c.bytes.ensures.value) at c.in_default.ensures) (ap (λ (p : Pinned). p.slots) c.in-Ok.ensures.ok) (ap (λ (p : Pinned). p.slots) c.link_up.ensures)
+    kept_anew c.args.on_disk c.args.links.now c.link.new.self c.args.slots.now.slots c.place.new.self.slots c.link_up.new.self.slots c.args.repo.now c.args.blob c.in-Ok.slot c.in_default.field-0 c.requires.absent c.in-Ok.ensures.free
+    (rw (c.digest-digest.ensures.value, c.len-size.ensures) at c.in_default.ensures) (ap (λ (p : Pinned). p.slots) c.in-Ok.ensures.ok) (ap (λ (p : Pinned). p.slots) c.link_up.ensures)
 
 pub returns-in-Ok-clause-quiet : goal.returns-in-Ok-clause-quiet
 returns-in-Ok-clause-quiet c =
@@ -25,6 +25,6 @@ returns-in-Ok-clause-quiet c =
 
 pub returns-in-Err-place-clause-err : goal.returns-in-Err-place-clause-err
 returns-in-Err-place-clause-err c = (
-  c.unlink.ensures.gone ∙ unlink-link c.args.links.now c.link.new.self c.args.repo.now c.digest-digest.result (length c.bytes.result.now) c.in_default.field-0 c.in_default.ensures (rw c.digest-digest.ensures.value (c.requires.can.held c.args.blob.0 c.requires.absent c.args.repo.now)),
+  c.unlink.ensures.gone ∙ unlink-link c.args.links.now c.link.new.self c.args.repo.now c.digest-digest.result c.len-size.result c.in_default.field-0 c.in_default.ensures (rw c.digest-digest.ensures.value (c.requires.can.held c.args.blob.0 c.requires.absent c.args.repo.now)),
   c.in-Err-place.ensures.err,
 )

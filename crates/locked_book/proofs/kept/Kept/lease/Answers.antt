@@ -15,7 +15,7 @@ invariant_of-self-2 g c =
 pub returns-clause-content : goal.returns-clause-content
 returns-clause-content g c =
     let lent = c.in_ok-lent.ensures.does in
-    lent_content c.self.inside.book.catalog c.lease.new.self.catalog lent.crowded c.args.repo.now c.args.digest.now (blob_bytes (arc_value c.in_ok-lent.lent.1)) c.reveal_invariant.ensures.lawful lent.does
+    rw (← c.self.view_is) (lent_content c.self.inside.book.catalog c.lease.new.self.catalog lent.crowded c.args.repo.now c.args.digest.now (blob_bytes (arc_value c.in_ok-lent.lent.1)) c.reveal_invariant.ensures.lawful lent.does)
 
 pub returns-clause-slots : goal.returns-clause-slots
 returns-clause-slots g c = rw (← c.self.view_is) c.lease.ensures.slots.1

@@ -1,7 +1,7 @@
 use Rattle.std.proofs.Common.{Err, List, OnOk, refl, ap, subst, sym, ◌∙◌}
 use Rattle.std.proofs.lemmas.Result.{err_from_is_err_and}
 use Rattle.store_book.specs.BookState.{SlotView}
-use Rattle.store_book.specs.SlotSteps.{EachSlot, MayPlace}
+use Rattle.store_book.specs.SlotSteps.{EachSlot, KeepsGeneration, MayPlace}
 use Rattle.store_model.proofs.Commands.ByHand.{close_does, close_refused, undone}
 use Rattle.store_book.proofs.book.Book.close.Goals as goal
 
@@ -12,6 +12,12 @@ pub returns-in-Err-clause-does : goal.returns-in-Err-clause-does
 returns-in-Err-clause-does c = (
   λ other. absurd (other refl),
   undone c.args.self.now.catalog c.take.new.self.catalog c.args.repo.now c.args.number c.args.range c.args.bytes.now c.in_ok-hand.hand c.in_ok-hand.ensures.does c.put_back.result c.put_back.new.self.catalog c.in-Err.hand c.in-Err.ensures.err c.put_back.ensures.does,
+)
+
+pub returns-in-Ok-clause-slots : goal.returns-in-Ok-clause-slots
+returns-in-Ok-clause-slots c = (
+  c.finish.ensures.slots.0 ∙ c.in_ok-hand.ensures.slots.0,
+  subst (λ (xs : List SlotView). EachSlot KeepsGeneration xs c.finish.new.self.slots) c.in_ok-hand.ensures.slots.1 c.finish.ensures.slots.1,
 )
 
 pub returns-in-Ok-clause-housed : goal.returns-in-Ok-clause-housed

@@ -39,11 +39,11 @@ link_slot-requires-clause-can c =
 
 pub invariant_of-self-in-Ok : goal.invariant_of-self-in-Ok
 invariant_of-self-in-Ok c =
-    IsBook-mount (layers c.self.inside) c.in_ok-tenant.tenant c.args.repo.now c.self.invariant (sym c.in_ok-tenant.ensures.known) c.args.digest.now (option_copied c.args.from) c.in-Some.slot (rw c.table.ensures at (sym c.in-Some.ensures)) c.appear.new.self c.in_ok-appeared.appeared c.in_ok-appeared.ensures c.in_ok-tenant.ensures.short c.link_slot.new.links c.link_slot.new.slots.slots c.in-Ok.ensures.ok
+    IsBook-mount (layers c.self.inside) c.in_ok-tenant.tenant c.args.repo.now c.self.invariant (sym c.in_ok-tenant.ensures.known) c.args.digest.now (option_copied c.args.from) c.in-Some.slot (rw c.table.ensures at (sym c.in-Some.ensures)) c.appear.new.self c.in_ok-appeared.appeared c.in_ok-appeared.ensures c.in_ok-tenant.ensures.short c.link_slot.new.links c.link_slot.new.slots.slots (c.in-Ok.ensures.ok c.self.inside.on_disk)
 
 pub returns-in-Ok-clause-does : goal.returns-in-Ok-clause-does
 returns-in-Ok-clause-does c =
-    rw (← c.self.view_is) (mount_ok (layers c.self.inside) c.in_ok-tenant.tenant c.args.repo.now c.self.invariant (sym c.in_ok-tenant.ensures.known) c.args.digest.now (option_copied c.args.from) c.in-Some.slot (rw c.table.ensures at (sym c.in-Some.ensures)) c.appear.new.self c.in_ok-appeared.appeared c.in_ok-appeared.ensures c.in_ok-tenant.ensures.short c.link_slot.new.links c.link_slot.new.slots.slots c.in-Ok.ensures.ok)
+    rw (← c.self.view_is) (mount_ok (layers c.self.inside) c.in_ok-tenant.tenant c.args.repo.now c.self.invariant (sym c.in_ok-tenant.ensures.known) c.args.digest.now (option_copied c.args.from) c.in-Some.slot (rw c.table.ensures at (sym c.in-Some.ensures)) c.appear.new.self c.in_ok-appeared.appeared c.in_ok-appeared.ensures c.in_ok-tenant.ensures.short c.link_slot.new.links c.link_slot.new.slots.slots (c.in-Ok.ensures.ok c.self.inside.on_disk))
 
 pub returns-in-Ok-clause-slots : goal.returns-in-Ok-clause-slots
 returns-in-Ok-clause-slots c = rw (← c.self.view_is) c.in-Ok.ensures.seen

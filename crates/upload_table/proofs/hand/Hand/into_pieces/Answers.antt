@@ -12,7 +12,7 @@ use Rattle.upload_table.proofs.hand.Hand.into_pieces.Goals as goal
 pub returns-clause-chunks : goal.returns-clause-chunks
 returns-clause-chunks c =
     (λ i. cut_chunks (c.add_last.ensures.lens i) (c.add_last.ensures.bytes i))
-    ∙ ap (λ (p : ChunkBuffer). cut_chunks (if is_some p.whole then with_length p.lens.items c.self.inside.reserved else p.lens.items) p.bytes.items) c.deref_mut.ensures.value
+    ∙ ap (λ (p : ChunkBuffer). cut_chunks (if is_some p.whole then with_length p.lens.items c.self.inside.reserved else p.lens.items) p.bytes) c.deref_mut.ensures.value
     ∙ hand_chunks c.self.inside.received c.self.inside.reserved c.self.inside.pieces.value (vec_capacity c.self.inside.pieces.value.lens) c.self.inside.pieces.value.whole c.self.invariant
     c.self.inside.tenant c.self.inside.number
     ∙ ap (λ (h : HandRecord). chunks_of h) c.self.view_is

@@ -9,15 +9,15 @@ use Rattle.upload_table.proofs.tenant_sessions.TenantSessions.put_home.Goals as 
 
 pub overflow_sub-self : goal.overflow_sub-self
 overflow_sub-self c =
-    let less = within_charge c.self.inside.next c.self.inside.charged c.self.inside.rows.items c.self.invariant c.args.number c.in-Ok.i c.index_mut-row.result.now (rw c.as_slice.ensures.value at c.in-Ok.ensures.within) (rw c.as_slice.ensures.value at c.in-Ok.ensures.place) c.index_mut-row.ensures.value c.args.self.now (length c.args.pieces.value.bytes.items) c.self.view_is c.requires.less in
-    omega (arith, less, c.charge_of-before.ensures, ap length c.as_slice-in-Ok.ensures.value, ap (λ (p : ChunkBuffer). length p.bytes.items) c.deref.ensures)
+    let less = within_charge c.self.inside.next c.self.inside.charged c.self.inside.rows.items c.self.invariant c.args.number c.in-Ok.i c.index_mut-row.result.now (rw c.as_slice.ensures.value at c.in-Ok.ensures.within) (rw c.as_slice.ensures.value at c.in-Ok.ensures.place) c.index_mut-row.ensures.value c.args.self.now (length c.args.pieces.value.bytes) c.self.view_is c.requires.less in
+    omega (arith, less, c.charge_of-before.ensures, c.len-after.ensures, ap (λ (p : ChunkBuffer). length p.bytes) c.deref.ensures)
 
 pub invariant_of-self : goal.invariant_of-self
 invariant_of-self c =
-    let less = within_charge c.self.inside.next c.self.inside.charged c.self.inside.rows.items c.self.invariant c.args.number c.in-Ok.i c.index_mut-row.result.now (rw c.as_slice.ensures.value at c.in-Ok.ensures.within) (rw c.as_slice.ensures.value at c.in-Ok.ensures.place) c.index_mut-row.ensures.value c.args.self.now (length c.args.pieces.value.bytes.items) c.self.view_is c.requires.less in
+    let less = within_charge c.self.inside.next c.self.inside.charged c.self.inside.rows.items c.self.invariant c.args.number c.in-Ok.i c.index_mut-row.result.now (rw c.as_slice.ensures.value at c.in-Ok.ensures.within) (rw c.as_slice.ensures.value at c.in-Ok.ensures.place) c.index_mut-row.ensures.value c.args.self.now (length c.args.pieces.value.bytes) c.self.view_is c.requires.less in
     let le = charge-le c.self.inside.next c.self.inside.charged c.self.inside.rows.items c.self.invariant c.args.number c.in-Ok.i c.index_mut-row.result.now (rw c.as_slice.ensures.value at c.in-Ok.ensures.within) (rw c.as_slice.ensures.value at c.in-Ok.ensures.place) c.index_mut-row.ensures.value in
-    sound-set c.self.inside.next c.self.inside.charged c.self.inside.rows.items c.self.invariant c.args.number c.in-Ok.i c.index_mut-row.result.now (rw c.as_slice.ensures.value at c.in-Ok.ensures.within) (rw c.as_slice.ensures.value at c.in-Ok.ensures.place) c.index_mut-row.ensures.value (Home c.args.pieces) (c.self.inside.charged - (c.charge_of-before.result - length c.as_slice-in-Ok.result.now))
-    (omega (arith, less, le, c.charge_of-before.ensures, ap length c.as_slice-in-Ok.ensures.value, ap (λ (p : ChunkBuffer). length p.bytes.items) c.deref.ensures)) c.requires.whole
+    sound-set c.self.inside.next c.self.inside.charged c.self.inside.rows.items c.self.invariant c.args.number c.in-Ok.i c.index_mut-row.result.now (rw c.as_slice.ensures.value at c.in-Ok.ensures.within) (rw c.as_slice.ensures.value at c.in-Ok.ensures.place) c.index_mut-row.ensures.value (Home c.args.pieces) (c.self.inside.charged - (c.charge_of-before.result - c.len-after.result))
+    (omega (arith, less, le, c.charge_of-before.ensures, c.len-after.ensures, ap (λ (p : ChunkBuffer). length p.bytes) c.deref.ensures)) c.requires.whole
 
 pub unreachable-requires : goal.unreachable-requires
 unreachable-requires c =

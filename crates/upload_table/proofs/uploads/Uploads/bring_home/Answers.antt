@@ -25,6 +25,6 @@ put_home-requires-clause-less c = λ y is.
 pub returns-clause-home : goal.returns-clause-home
 returns-clause-home c =
     let x = some_value _ c.requires.there in
-    let chunks = CheckedIn (cut_chunks c.args.pieces.value.lens.items c.args.pieces.value.bytes.items) in
+    let chunks = CheckedIn (cut_chunks c.args.pieces.value.lens.items c.args.pieces.value.bytes) in
     after-chunks c.self.inside.tenants.items c.args.self.now c.self.view_is c.args.tenant c.args.number x.0 x.1 c.index_mut.result.now c.index_mut.ensures.value c.put_home.new.self _ c.put_home.ensures.home
     ∙ sym (ap (λ o. with_sessions c.args.self.now (option_map_or (λ (s : Session). with_chunks c.args.self.now.sessions (c.args.tenant, c.args.number) s chunks) o c.args.self.now.sessions)) x.1)

@@ -1,4 +1,4 @@
-use Rattle.std.proofs.Common.{◌≡◌, length, ap, sym, ◌∙◌, arith, is_some}
+use Rattle.std.proofs.Common.{◌≡◌, length, ap, refl, sym, ◌∙◌, arith, is_some}
 use Rattle.std.specs.List.{sum_by}
 use Rattle.std.specs.FinMap.{get}
 use Rattle.spec_lib.proofs.Options.{some_same}
@@ -31,11 +31,20 @@ returns-in-Ok-clause-restores c =
     let rest = c.in-Ok.ensures.rest in
     (can-reopen v h x.0 x.1 c.in-Ok.sealed.1 c.in-Ok.sealed.0.1 rest.1 rest.2 rest.0, reopens v h x.0 x.1 c.in-Ok.sealed.1 c.in-Ok.sealed.0.1 rest.1 rest.2)
 
-pub returns-in-Err-clause-does : goal.returns-in-Err-clause-does
-returns-in-Err-clause-does c =
+pub returns-in-Differs-clause-does : goal.returns-in-Differs-clause-does
+returns-in-Differs-clause-does c =
     let v = c.args.self.now in
     let h = c.args.hand in
     let x = taken_value (get v.sessions h.key) h (sym c.in-Some.ensures) in
     let key : (c.tenant-tenant.result, c.number-number.result) ≡ h.key = (λ j. (c.tenant-tenant.ensures j, c.number-number.ensures j)) in
     let after = c.bring_home.ensures.home ∙ brought v h x.0 x.1 _ _ key ∙ (λ j. with_sessions v (with_chunks v.sessions h.key x.0 (CheckedIn (c.in-Err.ensures.chunks j)))) in
-    (finish_other v h x.0 x.1 c.args.digest.now c.in-Err.ensures.other, after ∙ ap (with_sessions v) (sym (given v h x.0 x.1)))
+    (λ _. finish_other v h x.0 x.1 c.args.digest.now (c.in-Err.ensures.other c.in-Differs.is).0, after ∙ ap (with_sessions v) (sym (given v h x.0 x.1)))
+
+pub returns-in-Unhashed-clause-does : goal.returns-in-Unhashed-clause-does
+returns-in-Unhashed-clause-does c =
+    let v = c.args.self.now in
+    let h = c.args.hand in
+    let x = taken_value (get v.sessions h.key) h (sym c.in-Some.ensures) in
+    let key : (c.tenant-tenant.result, c.number-number.result) ≡ h.key = (λ j. (c.tenant-tenant.ensures j, c.number-number.ensures j)) in
+    let after = c.bring_home.ensures.home ∙ brought v h x.0 x.1 _ _ key ∙ (λ j. with_sessions v (with_chunks v.sessions h.key x.0 (CheckedIn (c.in-Err.ensures.chunks j)))) in
+    (λ other. absurd (other refl), after ∙ ap (with_sessions v) (sym (given v h x.0 x.1)))

@@ -25,7 +25,7 @@ bring_home-requires-clause-less c = λ y is.
     let found = ap (get v.sessions) key ∙ can.2 in
     let p = c.into_pieces-pieces.ensures in
     let same = some_same (sym is ∙ found) in
-    let len : length c.into_pieces-pieces.result.value.bytes.items ≡ sum c.args.sealed.lens = sym (whole_length c.into_pieces-pieces.result.value p.whole) ∙ ap (sum_by length) p.chunks ∙ sum_by-cut_chunks c.args.sealed.lens c.args.blob.1 c.requires.begins.within in
+    let len : length c.into_pieces-pieces.result.value.bytes ≡ sum c.args.sealed.lens = sym (whole_length c.into_pieces-pieces.result.value p.whole) ∙ ap (sum_by length) p.chunks ∙ sum_by-cut_chunks c.args.sealed.lens c.args.blob.1 c.requires.begins.within in
     omega (arith, len, ap charged_length same)
 
 pub returns : goal.returns
