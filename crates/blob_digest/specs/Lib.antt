@@ -7,5 +7,6 @@ pub mod Names
 pub mod Outcomes
 pub mod Ranges
 pub mod Refusals
+pub mod Slots
 pub mod Tenants
 pub mod Vouched

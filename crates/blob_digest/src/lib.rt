@@ -25,7 +25,7 @@ mod upload_hashes;
 pub use algorithm::Algorithm;
 pub use blob::Blob;
 pub use digest::Digest;
-pub use limits::MAX_SLOTS;
+pub use limits::{GREATEST_SLOTS, MAX_SLOTS};
 pub use name::is_component;
 pub use number::decimal;
 pub use range::ByteRange;

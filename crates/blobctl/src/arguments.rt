@@ -11,7 +11,7 @@ use blob_store::MAX_WORKERS;
 use clap::error::ErrorKind;
 use clap::{Arg, ArgAction, ArgMatches, Command};
 use std::alloc::{AllocError, Global};
-use store_book::{Config, MAX_BLOB, MAX_SLOTS};
+use store_book::{Config, GREATEST_SLOTS, MAX_BLOB};
 use tenant_args::read_tenants;
 
 /// The end of the text of `--help`.
@@ -95,7 +95,7 @@ fn numbers(matches: &ArgMatches<'_>) -> Option<(u32, u64)>
 {
     let slots = matches.get_one::<u32>("slots")?;
     let max_blob = matches.get_one::<u64>("max-blob")?;
-    if 1 <= slots && slots <= MAX_SLOTS && max_blob <= MAX_BLOB {
+    if 1 <= slots && slots <= GREATEST_SLOTS && max_blob <= MAX_BLOB {
         Some((slots, max_blob))
     } else {
         None

@@ -20,13 +20,13 @@ pub record HasNames (ts : List Tenant) : Type 0 where
 
 -- the maximum number of tenants
 abbrev pub max_tenants : ℕ
-max_tenants = 256
+max_tenants = 4096
 
 -- the maximum quota in bytes
 abbrev pub max_quota : ℕ
 max_quota = 2 ^ 50
 
--- 1 to 256 tenants, with quotas of at most 2^50 bytes and supported limits
+-- 1 to 4,096 tenants, with quotas of at most 2^50 bytes and supported limits
 pub record IsWithinLimits (ts : List Tenant) : Type 0 where
   pub some : 0 < length ts
   pub few : length ts ≤ max_tenants

@@ -10,7 +10,7 @@ ghost use Rattle.link_table.specs.Tenancy.{AreTenants, HasNames, IsNameBelow, Is
 
 use blob_digest::{Refusal, is_component};
 
-/// A share that limits nothing: a store has at most 65,536 slots.
+/// A share that limits nothing: a store has fewer slots.
 pub const UNLIMITED_SHARE: u32 = u32::MAX;
 
 /// The maximum numbers of what a tenant has.
@@ -52,7 +52,7 @@ pub struct TenantSettings {
 }
 
 /// The maximum number of tenants of a table.
-pub const MAX_TENANTS: usize = 256;
+pub const MAX_TENANTS: usize = 4096;
 
 /// The maximum quota in bytes.
 pub const MAX_QUOTA: u64 = 1 << 50;

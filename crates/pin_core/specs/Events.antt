@@ -14,13 +14,21 @@ use Rattle.pin_core.specs.declared.event.Event.{Event}
 use Rattle.pin_core.specs.declared.event.Event.TheVariants.{Give, Lend, Share, Leave, Condemn, Revive, Reclaim, Look, Verify}
 use Rattle.pin_core.specs.World.{PinWorld, IsUsed, holds_of, weight_on, row, hold_named, max_weight}
 
+-- a number of slots is outside 1 to a greatest one
+abbrev pub IsBeyond : ℕ → ℕ → Type 0
+IsBeyond greatest n = (n ≡ 0) ⊎ (greatest < n)
+
 -- a number of slots is outside 1 to 65,536
 abbrev pub IsOutside : ℕ → Type 0
-IsOutside n = (n ≡ 0) ⊎ (65536 < n)
+IsOutside n = IsBeyond 65536 n
 
--- the error for n slots: `LimitReached` exactly outside 1 to 65,536, and `Memory` only within
+-- the error for n slots: `LimitReached` exactly outside 1 to a greatest number, and `Memory` only within
+abbrev pub RefusesNumber : ℕ → ℕ → Refusal → Type 0
+RefusesNumber greatest n e = ((e ≡ LimitReached) × IsBeyond greatest n) ⊎ ((e ≡ Memory) × ¬ IsBeyond greatest n)
+
+-- the error for n slots, of which there may be 65,536
 abbrev pub IsOpeningError : ℕ → Refusal → Type 0
-IsOpeningError n e = ((e ≡ LimitReached) × IsOutside n) ⊎ ((e ≡ Memory) × ¬ IsOutside n)
+IsOpeningError n e = RefusesNumber 65536 n e
 
 -- the weight of a new pin
 abbrev pub new_weight : ℕ

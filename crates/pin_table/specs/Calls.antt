@@ -8,7 +8,7 @@ use Rattle.pin_core.specs.declared.world.Phase.{Phase}
 use Rattle.pin_core.specs.declared.world.PinRow.{PinRow}
 use Rattle.pin_core.specs.declared.world.PinRecord.{PinRecord}
 use Rattle.pin_core.specs.World.{IsValidPin, row, row_word, initial_world, max_weight}
-use Rattle.pin_core.specs.Events.{IsOutside, new_weight, last_generation, given_row, in_phase, reclaimed_row, lent_hold, half}
+use Rattle.pin_core.specs.Events.{IsBeyond, new_weight, last_generation, given_row, in_phase, reclaimed_row, lent_hold, half}
 use Rattle.pin_table.specs.declared.view.View.{View}
 use Rattle.pin_table.specs.Rule.{with_added}
 use Rattle.pin_table.specs.declared.reclaim.Reclaim.{Reclaim}
@@ -40,9 +40,9 @@ seat_value t u = record { table = t; view = u }
 abbrev pub opening_keeper : TableId → ℕ → ℕ → KeeperValue
 opening_keeper t n g = record { table = t; rows = (initial_world n g).rows; bounds = replicate n 0; looks = replicate n 0; lent = replicate n 0 }
 
--- the table t has n slots, of 1 to 65,536, and its keeper is s, with free slots of generation g
-abbrev pub IsNewTable : ℕ → ℕ → TableId → KeeperValue → Type 0
-IsNewTable n g t s = ¬ IsOutside n × (s ≡ opening_keeper t n g)
+-- the table t has n slots, of 1 to a greatest number, and its keeper is s, with free slots of generation g
+abbrev pub IsNewTable : ℕ → ℕ → ℕ → TableId → KeeperValue → Type 0
+IsNewTable greatest n g t s = ¬ IsBeyond greatest n × (s ≡ opening_keeper t n g)
 
 -- the keeper with another row and bound for the slot k, after one more look at it
 abbrev pub with_row_and_bound : ℕ → PinRow → ℕ → KeeperValue → KeeperValue

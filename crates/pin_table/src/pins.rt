@@ -3,7 +3,8 @@
 ghost use Rattle.std.specs.Prelude.{◌≡◌, ℕ, ◌+◌, ◌<◌, ◌≤◌, length, slice_index, Some, IfOk, IfErr};
 ghost use Rattle.pin_core.specs.World.{row, row_word, max_weight};
 ghost use Rattle.pin_core.specs.declared.world.Phase.TheVariants.{Free, Live, Condemned};
-ghost use Rattle.pin_core.specs.Events.{IsNew, IsOpeningError, new_weight};
+ghost use Rattle.blob_digest.specs.Slots.{greatest_slots};
+ghost use Rattle.pin_core.specs.Events.{IsNew, IsOpeningError, RefusesNumber, new_weight};
 ghost use Rattle.pin_table.specs.declared.view.View.TheVariants.{Left as LeftView};
 ghost use Rattle.pin_table.specs.Plays.{Gives, IsGiver, give_move};
 ghost use Rattle.pin_table.specs.Rule.{released_pin};
@@ -14,7 +15,7 @@ use crate::pin::{Left, Pin};
 use crate::plays::{Condemn, Give, Given, Leave, Lend, Look, Reclaiming, Revive, Share, Transit};
 use crate::reclaim::Reclaim;
 use crate::rule::{Opening, PinSeat, PinShared, PinTable};
-use blob_digest::{Digest, MAX_SLOTS, Refusal};
+use blob_digest::{Digest, GREATEST_SLOTS, MAX_SLOTS, Refusal};
 use pin_core::{
     CONDEMNED, LAST_GENERATION, MAX_WEIGHT, NEW_WEIGHT, Phase, PinRecord, PinRow, USED, WordRow,
     given, halved, in_phase, pack, reclaimed, unpack,
@@ -78,10 +79,34 @@ impl Pins {
     ///
     /// Linear in the number of slots. Allocates the words, rows and bounds.
     pub fn new(alloc: Global, slots: u32, first_generation: u32) -> Result<(Pins, Keeper), Refusal>
-        ensures made { IfOk result (λ r. IsNewTable slots first_generation r.0 r.1) }
+        ensures made { IfOk result (λ r. IsNewTable 65536 slots first_generation r.0 r.1) }
         ensures refused { IfErr result (λ e. IsOpeningError slots e) }
     {
-        if slots < 1 || slots > MAX_SLOTS {
+        if slots > MAX_SLOTS {
+            return Err(Refusal::LimitReached);
+        }
+        Pins::of_slots(alloc, slots, first_generation)
+    }
+
+    /// Makes a table as `new` does, which may have as many slots as a store.
+    ///
+    /// # Errors
+    ///
+    /// - `LimitReached` exactly if `slots` is not 1 to `GREATEST_SLOTS`.
+    /// - `Memory` if allocation fails.
+    ///
+    /// # Cost
+    ///
+    /// Linear in the number of slots. Allocates the words, rows and bounds.
+    pub fn of_slots(
+        alloc: Global,
+        slots: u32,
+        first_generation: u32,
+    ) -> Result<(Pins, Keeper), Refusal>
+        ensures made { IfOk result (λ r. IsNewTable greatest_slots slots first_generation r.0 r.1) }
+        ensures refused { IfErr result (λ e. RefusesNumber greatest_slots slots e) }
+    {
+        if slots < 1 || slots > GREATEST_SLOTS {
             return Err(Refusal::LimitReached);
         }
         let count = slots as usize;

@@ -10,7 +10,7 @@ use crate::flags::{LogOptions, read_flags};
 use crate::stop::Stop;
 use blob_digest::decimal;
 use std::alloc::Global;
-use store_book::{Config, MAX_BLOB, MAX_SLOTS};
+use store_book::{Config, GREATEST_SLOTS, MAX_BLOB};
 use tenant_args::read_tenants;
 
 /// The options of the program.
@@ -67,7 +67,7 @@ fn read_settings(alloc: Global, words: &[String]) -> Result<(Config, &[String]),
     let [slots, max_blob, rest @ ..] = words else {
         return Err(Stop::Usage);
     };
-    let Some(slots) = number(slots.as_str(), u64::from(MAX_SLOTS)) else {
+    let Some(slots) = number(slots.as_str(), u64::from(GREATEST_SLOTS)) else {
         return Err(Stop::Usage);
     };
     let Some(max_blob) = number(max_blob.as_str(), MAX_BLOB) else {

@@ -10,6 +10,7 @@ use Rattle.std.proofs.lemmas.List.{length-replicate}
 use Rattle.std.proofs.lemmas.List.Folds.{sum_by-replicate}
 use Rattle.std.proofs.Math.ListN.{length-set}
 use Rattle.std.proofs.lemmas.Option.{none-some}
+use Rattle.blob_digest.specs.Slots.{greatest_slots}
 use Rattle.spec_lib.specs.Texts.{Text, text_cmp, same_text}
 use Rattle.slot_table.specs.declared.phase.Phase.TheVariants as phase
 use Rattle.slot_table.specs.Slots.{Slot, StoredBlob, SlotContent, Free, Used, Retired, stored_blob_in, stored_blob_at, phase_at, has_digest, is_free, slot_of, free_slots, fill, on_stored_blob, content_with, freed_slot, retire, empty_slot, IsTable}
@@ -129,7 +130,7 @@ none_at (suc n) first zero = refl
 none_at (suc n) first (suc k) = none_at n first k
 
 -- a new table
-pub opened : (n first : ℕ) (index : tree.BTreeMap Text ℕ) (stack : List ℕ) (room : ℕ) → n ≤ 65536 → tree.IsEmpty index → ((k : ℕ) → count_by (λ m. m == k) stack ≡ cond (nat_lt k n) 1 0) → length stack ≡ n → n ≤ room →
+pub opened : (n first : ℕ) (index : tree.BTreeMap Text ℕ) (stack : List ℕ) (room : ℕ) → n ≤ greatest_slots → tree.IsEmpty index → ((k : ℕ) → count_by (λ m. m == k) stack ≡ cond (nat_lt k n) 1 0) → length stack ≡ n → n ≤ room →
     IsTable (replicate n (empty_slot first)) × IsSlotIndex (replicate n (empty_slot first)) index stack room
 opened n first index stack room few empty stacks long le =
     let slots : List Slot = replicate n (empty_slot first) in

@@ -1,6 +1,7 @@
 -- The slots of a store: their contents, and the queries and changes of them.
 use Rattle.std.specs.Prelude.{◌≡◌, ◌≢◌, ℕ, ◌+◌, ◌==◌, ◌≤◌, ◌&&◌, Bool, true, false, Option, Some, None, Result, Ok, Err, List, length, count_by, position, slice_get, slice_set, ◌-◌, cond, replicate, drop, nat_le, if◌then◌else◌}
 use Rattle.std.specs.Option.{option_map_or, option_map}
+use Rattle.blob_digest.specs.Slots.{greatest_slots}
 use Rattle.spec_lib.specs.Texts.{Text, same_text}
 use Rattle.blob_digest.specs.declared.refusal.Refusal.{Refusal}
 use Rattle.blob_digest.specs.declared.refusal.Refusal.TheVariants.{LimitReached, Memory, StoreFull}
@@ -110,7 +111,7 @@ empty_slot generation = record { generation = generation; content = Free }
 
 -- the slots of a new table, if their number is within the limits
 abbrev pub initial_slots : ℕ → ℕ → Result (List Slot) Refusal
-initial_slots slots first = if nat_le 1 slots && nat_le slots 65536 then Ok (replicate slots (empty_slot first)) else Err LimitReached
+initial_slots slots first = if nat_le 1 slots && nat_le slots greatest_slots then Ok (replicate slots (empty_slot first)) else Err LimitReached
 
 -- the slot with this blob, live and without links
 abbrev pub fill : Text × Text → Slot → Slot
@@ -168,8 +169,8 @@ IsDistinct slots = (k m : ℕ) (g h : StoredBlob) → stored_blob_at slots k ≡
 abbrev pub IsUnlinked : List Slot → Type 0
 IsUnlinked slots = (k : ℕ) (h : StoredBlob) → stored_blob_at slots k ≡ Some h → h.condemned ≡ true → h.links ≡ 0
 
--- the table has at most 65,536 slots, no digest twice, and no condemned blob with a link
+-- the table has at most 2^24 slots, no digest twice, and no condemned blob with a link
 pub record IsTable (slots : List Slot) : Type 0 where
-  pub few : length slots ≤ 65536
+  pub few : length slots ≤ greatest_slots
   pub distinct : IsDistinct slots
   pub unlinked : IsUnlinked slots

@@ -9,6 +9,6 @@ mod row;
 mod slot_set;
 mod table;
 
-pub use blob_digest::MAX_SLOTS;
+pub use blob_digest::GREATEST_SLOTS;
 pub use phase::Phase;
 pub use table::SlotTable;

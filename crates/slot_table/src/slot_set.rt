@@ -2,12 +2,13 @@
 
 ghost use Rattle.std.specs.Prelude.{◌≡◌, ◌≢◌, ℕ, ◌*◌, ◌<◌, ◌≤◌, ◌==◌, length, None, IfOk, IfSome, false, slice_index};
 ghost use Rattle.std.specs.Int.{bit_at};
+ghost use Rattle.blob_digest.specs.Slots.{greatest_slots};
 ghost use Rattle.slot_table.specs.SlotSets.{contains_slot, IsFirstBit, IsFirstMember, IsFirstWord, SetsMember};
 
 use std::alloc::{AllocError, Global};
 use std::marker::Model;
 
-/// A set of slots below 65,536, with one bit per slot in words of 64 bits. Contracts see the words.
+/// A set of slots below 2^24, with one bit per slot in words of 64 bits. Contracts see the words.
 #[derive(Drop)]
 pub struct SlotSet {
     words: Vec<u64>,
@@ -20,7 +21,7 @@ impl Model for SlotSet {
 
     ghost view = { λ a. a.words.items };
 
-    ghost invariant = { λ a. length a.words.items ≤ 1024 };
+    ghost invariant = { λ a. length a.words.items ≤ 262144 };
 }
 
 /// Returns the lowest set bit of a word that is not 0.
@@ -63,7 +64,7 @@ fn word_from(words: &[u64], from: usize) -> Option<usize>
 impl SlotSet {
     /// Returns an empty set for `slots` slots. Fails if out of memory.
     pub fn new(alloc: Global, slots: u32) -> Result<SlotSet, AllocError>
-        requires { slots ≤ 65536 }
+        requires { slots ≤ greatest_slots }
         ensures empty { IfOk result (λ s. (k : ℕ) → contains_slot s k ≡ false) }
         ensures room { IfOk result (λ s. slots ≤ 64 * length s) }
     {

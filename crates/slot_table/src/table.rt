@@ -4,6 +4,7 @@ ghost use Rattle.std.specs.Prelude.{◌≡◌, ◌+◌, ◌<◌, ◌≤◌, ◌^
 ghost use Rattle.std.specs.Option.{option_map};
 ghost use Rattle.std.specs.Vec.{vec_len, vec_capacity};
 ghost use Rattle.std.specs.BTreeMap as tree;
+ghost use Rattle.blob_digest.specs.Slots.{greatest_slots};
 ghost use Rattle.blob_digest.specs.Outcomes.{Answers};
 ghost use Rattle.blob_digest.specs.declared.refusal.Refusal.TheVariants.{Memory, StoreFull};
 ghost use Rattle.slot_table.specs.Indexes.{HasEachOnce, ForgetsDigest};
@@ -13,13 +14,13 @@ ghost use Rattle.slot_table.specs.declared.phase.Phase.TheVariants as phase;
 use crate::phase::Phase;
 use crate::row::Row;
 use crate::slot_set::SlotSet;
-use blob_digest::{Blob, Digest, MAX_SLOTS, Refusal};
+use blob_digest::{Blob, Digest, GREATEST_SLOTS, Refusal};
 use std::alloc::{AllocError, Global};
 use std::collections::BTreeMap;
 use std::marker::Model;
 use std::sync::Arc;
 
-/// The slots of a store, 1 to 65,536, each with its generation and its content.
+/// The slots of a store, 1 to 2^24, each with its generation and its content.
 ///
 /// A slot is identified by its number, from 0 on. No digest has two slots, and a condemned blob has no links.
 /// Contracts see the list of the slots. An index maps the digest of each used slot to the slot. A stack has the free
@@ -96,16 +97,16 @@ impl SlotTable {
     ///
     /// # Errors
     ///
-    /// - `LimitReached`: fewer than 1 or more than 65,536 slots.
+    /// - `LimitReached`: fewer than 1 or more than 2^24 slots.
     /// - `Memory`: out of memory.
     pub fn new(alloc: Global, slots: u32, first_generation: u32) -> Result<SlotTable, Refusal>
         ensures answers { Answers (λ t. t) result (initial_slots slots first_generation) }
-        ensures memory { IfErr result (λ e. e ≡ Memory → (1 ≤ slots) × (slots ≤ 65536)) }
+        ensures memory { IfErr result (λ e. e ≡ Memory → (1 ≤ slots) × (slots ≤ greatest_slots)) }
     {
         if slots < 1 {
             return Err(Refusal::LimitReached);
         }
-        if slots > MAX_SLOTS {
+        if slots > GREATEST_SLOTS {
             return Err(Refusal::LimitReached);
         }
         let rows = empty_rows(alloc, slots, first_generation)?;
@@ -123,7 +124,7 @@ impl SlotTable {
     /// Returns the number of slots.
     pub fn len(&self) -> u32
         ensures value { result ≡ length self.now }
-        ensures few { length self.now ≤ 65536 }
+        ensures few { length self.now ≤ greatest_slots }
         ensures distinct { IsDistinct self.now }
         ensures unlinked { IsUnlinked self.now }
     {

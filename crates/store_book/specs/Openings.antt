@@ -1,6 +1,7 @@
 -- The book of a new store, and the errors of opening one.
 use Rattle.std.specs.Prelude.{◌≡◌, ◌<◌, ◌≤◌, ◌^◌, ℕ, None, List, map, replicate}
 use Rattle.std.specs.List.Sorted.{IsPermutation, IsStrictlySortedBy}
+use Rattle.blob_digest.specs.Slots.{greatest_slots}
 use Rattle.blob_digest.specs.declared.refusal.Refusal.{Refusal}
 use Rattle.blob_digest.specs.declared.refusal.Refusal.TheVariants.{NameInvalid, LimitReached, Memory}
 pub use Rattle.link_table.specs.Tenancy.{HasNames, IsWithinLimits, max_quota, max_tenants, tenant_shown, tenants_shown}
@@ -10,10 +11,10 @@ use Rattle.store_book.specs.declared.config.Config.{Config}
 use Rattle.store_model.specs.Catalog.{Tenant, Catalog, opening, ContentRules}
 use Rattle.spec_lib.specs.Texts.{text_cmp}
 
--- 1 to 65,536 slots, and blobs of at most 2^40 bytes
+-- 1 to 2^24 slots, and blobs of at most 2^40 bytes
 pub record IsSized (slots max_blob : ℕ) : Type 0 where
   pub some : 0 < slots
-  pub few : slots ≤ 65536
+  pub few : slots ≤ greatest_slots
   pub blobs : max_blob ≤ 2 ^ 40
 
 -- the catalog has the given tenants in the order of their names, and nothing else

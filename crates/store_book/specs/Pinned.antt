@@ -1,7 +1,7 @@
 -- The slots with the keeper of their words: the facts on which the two agree, and the view that contracts have of them.
 use Rattle.pin_core.specs.World.{row, row_word, max_weight, IsValidPin}
 use Rattle.pin_core.specs.declared.world.PinRecord.{PinRecord}
-use Rattle.pin_core.specs.Events.{new_weight, lent_hold, IsOutside}
+use Rattle.pin_core.specs.Events.{new_weight, lent_hold, IsBeyond, RefusesNumber}
 use Rattle.blob_digest.specs.declared.refusal.Refusal.{Refusal}
 use Rattle.blob_digest.specs.declared.refusal.Refusal.TheVariants.{LimitReached, Memory, StoreFull, TooManyReaders}
 use Rattle.pin_table.specs.Calls.{IsUnheld, PinValue}
@@ -10,6 +10,7 @@ use Rattle.pin_table.specs.declared.reclaim.Reclaim.{Reclaim}
 use Rattle.pin_table.specs.declared.reclaim.Reclaim.TheVariants as reclaim
 use Rattle.std.specs.Prelude.{◌≡◌, ◌+◌, ◌<◌, ◌≤◌, ◌^◌, ◌⊎◌, ℕ, Option, Some, Result, MatchResult, List, [], ◌∷◌, length, map, cond, replicate, slice_get, slice_index, slice_set, Bool, false}
 use Rattle.std.specs.Option.{option_map, option_map_or}
+use Rattle.blob_digest.specs.Slots.{greatest_slots}
 use Rattle.atomic_table.specs.Seated.{TableId}
 use Rattle.pin_core.specs.declared.world.Phase.{Phase}
 use Rattle.pin_core.specs.declared.world.Phase.TheVariants as pin
@@ -88,11 +89,11 @@ free_pinned table n first = record { table = table; slots = replicate n (empty_s
 
 -- these are free slots of the first generation, as many as the limits allow
 abbrev pub OpensSlots : Pinned → TableId → ℕ → ℕ → Type 0
-OpensSlots p table n first = ¬ IsOutside n × (p ≡ free_pinned table n first)
+OpensSlots p table n first = ¬ IsBeyond greatest_slots n × (p ≡ free_pinned table n first)
 
 -- the number of slots is beyond its limits, or it is not and the call is out of memory
 abbrev pub RefusesSlots : Refusal → ℕ → Type 0
-RefusesSlots e n = ((e ≡ LimitReached) × IsOutside n) ⊎ ((e ≡ Memory) × ¬ IsOutside n)
+RefusesSlots e n = RefusesNumber greatest_slots n e
 
 -- the error is `StoreFull`, and no slot is free
 abbrev pub RefusesForSlots : Refusal → Pinned → Type 0

@@ -7,7 +7,7 @@ use std::alloc::{AllocError, Global};
 /// The parameters of a new store. They never change later.
 #[derive(Debug, Drop)]
 pub struct Config {
-    /// The number of blobs that the store can keep: 1 to 65,536.
+    /// The number of blobs that the store can keep: 1 to 2^24.
     pub slots: u32,
     /// The largest size of a blob in bytes: at most 2^40.
     pub max_blob: u64,

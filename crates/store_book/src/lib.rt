@@ -36,5 +36,5 @@ pub use link_table::{
     GREATEST_LIMITS, MAX_QUOTA, MAX_TENANTS, TenantLimits, TenantSettings, UNLIMITED_SHARE,
     USUAL_LIMITS,
 };
-pub use slot_table::MAX_SLOTS;
+pub use slot_table::GREATEST_SLOTS;
 pub use store_model::{Mount, SlotUse, Swept, Usage};

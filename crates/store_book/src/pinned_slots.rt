@@ -45,7 +45,7 @@ impl PinnedSlots {
     /// Makes free slots of the first generation, with their words.
     ///
     /// # Errors
-    /// - `LimitReached` outside 1 to 65,536 slots.
+    /// - `LimitReached` outside 1 to 2^24 slots.
     /// - `Memory` if out of memory.
     pub fn new(
         alloc: Global,
@@ -56,7 +56,7 @@ impl PinnedSlots {
         ensures refused { IfErr result (λ e. RefusesSlots e slots) }
     {
         let table = SlotTable::new(alloc, slots, first_generation)?;
-        let (pins, keeper) = Pins::new(alloc, slots, first_generation)?;
+        let (pins, keeper) = Pins::of_slots(alloc, slots, first_generation)?;
         Ok((
             PinnedSlots {
                 slots: table,

@@ -1,6 +1,7 @@
 //! The sweep of the slots: it condemns blobs without links, and reclaims slots that no pin holds.
 
 ghost use Rattle.std.specs.Prelude.{◌≡◌, ◌+◌, ◌<◌, ◌≤◌, ◌^◌, length};
+ghost use Rattle.blob_digest.specs.Slots.{greatest_slots};
 ghost use Rattle.store_book.specs.Internal.SweptSlots.{counts_with, Sweeps};
 
 use crate::pinned_slots::PinnedSlots;
@@ -29,7 +30,7 @@ fn count(swept: &mut Swept, was_live: bool, became: Reclaim)
 /// allocated.
 pub(crate) fn sweep_slots(slots: &mut PinnedSlots, pins: &Pins) -> Swept
     requires table { slots.old.table ≡ pins.now }
-    requires few { length slots.old.slots ≤ 65536 }
+    requires few { length slots.old.slots ≤ greatest_slots }
     ensures { Sweeps slots.old slots.new result }
 {
     let mut swept = Swept {

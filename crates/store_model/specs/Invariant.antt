@@ -8,6 +8,7 @@ use Rattle.blob_digest.specs.Digests.{sha256_text}
 use Rattle.spec_lib.specs.Sets as set
 use Rattle.oci_manifest.specs.Manifests.{refs_of, max_manifest}
 use Rattle.std.specs.declared.cmp.Ordering.TheVariants.{Less}
+use Rattle.blob_digest.specs.Slots.{greatest_slots}
 use Rattle.blob_digest.specs.declared.refusal.Refusal.TheVariants.{Referenced}
 use Rattle.store_model.specs.Commands.{refers, delete, is_named}
 use Rattle.spec_lib.specs.Texts.{Text, text_cmp}
@@ -44,7 +45,7 @@ pub record IsWellFormedLink (present : set.Set text_cmp) (residents : fmap.FinMa
 
 -- the tenants are in the order of their names, and within the limits of a store
 pub record AreWithinLimits (known : List Tenant) (longest : ℕ) : Type 0 where
-  pub tenants : (0 < length known) × (length known ≤ 256)
+  pub tenants : (0 < length known) × (length known ≤ 4096)
   pub names_rise : IsStrictlySortedBy text_cmp (map (λ t. t.name) known)
   pub max_blob : longest ≤ 2 ^ 40
   pub quotas : AllByRecursion (λ t. t.quota ≤ 2 ^ 50) known
@@ -94,10 +95,10 @@ KeepsQuotas C = (t : ℕ) → t < length C.tenants → used_bytes C t ≤ quota_
 abbrev pub KeepsShares : Catalog → Type 0
 KeepsShares C = (t : ℕ) → t < length C.tenants → held_count C t ≤ share_of C t
 
--- The stored blobs and the retired slots are at most as many as the slots, of which there are 1 to 65,536.
+-- The stored blobs and the retired slots are at most as many as the slots, of which there are 1 to 2^24.
 pub record FitSlots (slots : ℕ) (residents : fmap.FinMap text_cmp Resident) (retired : ℕ) : Type 0 where
   pub some : 0 < slots
-  pub few : slots ≤ 65536
+  pub few : slots ≤ greatest_slots
   pub fit : fmap.len residents + retired ≤ slots
 
 -- the blobs and retired slots of a catalog fit its slots

@@ -2,6 +2,7 @@
 use Rattle.std.specs.Prelude.{◌≡◌, ℕ, ◌≤◌, ◌^◌, Bool, false, IfSome, List, ◌∷◌, ◌++◌, flat_map, length, map, ◌<◌, Some}
 use Rattle.std.specs.List.{AllByRecursion, enumerate_from, list_any}
 use Rattle.std.specs.FinMap as fmap
+use Rattle.blob_digest.specs.Slots.{greatest_slots}
 use Rattle.spec_lib.specs.Sets as set
 use Rattle.spec_lib.specs.Texts.{Text, text_cmp}
 use Rattle.store_model.specs.Catalog.{Catalog, HandRecord, Resident, Session, SessionNumber, Tenant, charged_length, held_count, opening, quota_of, share_of, used_bytes, ContentRules}
@@ -56,7 +57,7 @@ pub record IsRestored (D : DurableState) (C : Catalog) (slots : ℕ) (contents :
 -- where they did.
 abbrev pub StoresRestart : Type 0
 StoresRestart = (taken : TakenChunks) (D : DurableState) (C : Catalog) → Agrees taken D C → Sound C →
-    (slots : ℕ) (contents : ContentRules) → C.slots ≤ slots → slots ≤ 65536 → C.contents.max_blob ≤ contents.max_blob → contents.max_blob ≤ 2 ^ 40 → contents.on_disk ≡ C.contents.on_disk →
+    (slots : ℕ) (contents : ContentRules) → C.slots ≤ slots → slots ≤ greatest_slots → C.contents.max_blob ≤ contents.max_blob → contents.max_blob ≤ 2 ^ 40 → contents.on_disk ≡ C.contents.on_disk →
     IsRestored D C slots contents
 
 -- ---- other settings
@@ -81,7 +82,7 @@ pub record CanRestore (D : DurableState) (tenants : List Tenant) (slots : ℕ) (
   pub names : map (λ t. t.name) tenants ≡ map (λ t. t.name) D.tenants
   pub quotas : AllByRecursion (λ t. t.quota ≤ 2 ^ 50) tenants
   pub limits : AllByRecursion (λ t. AreSupported t.limits) tenants
-  pub some : (0 < slots) × (slots ≤ 65536)
+  pub some : (0 < slots) × (slots ≤ greatest_slots)
   -- the linked blobs fit the slots
   pub fit : fmap.len (restored_blobs D) ≤ slots
   pub limit : contents.max_blob ≤ 2 ^ 40

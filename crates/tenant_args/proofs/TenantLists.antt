@@ -10,10 +10,15 @@ use Rattle.spec_lib.specs.Texts.{Text, same_text}
 use Rattle.blob_digest.specs.Tenants.{Tenant}
 use Rattle.spec_lib.proofs.Texts.{text_is_same}
 use Rattle.link_table.specs.declared.tenants.TenantSettings.{TenantSettings}
-use Rattle.link_table.specs.Tenancy.{tenants_shown}
-use Rattle.tenant_args.specs.Tenants.{HasBadTenant, IsRefusedAfter, IsTenantArgument, SpellTenants}
+use Rattle.link_table.specs.Tenancy.{max_tenants, tenants_shown}
+use Rattle.tenant_args.specs.Tenants.{HasBadTenant, IsRefusedAfter, IsTenantArgument, SpellTenants, most_tenants}
 use Rattle.tenant_args.specs.declared.fault.TenantFault.{TenantFault}
 use Rattle.tenant_args.specs.declared.fault.TenantFault.TheVariants.{BadTenant, Memory}
+
+-- there may never be more tenants than a store can have
+pub most_few : (shares : Bool) → most_tenants shares ≤ max_tenants
+most_few true = omega arith
+most_few false = omega arith
 
 -- the tenants have a name if and only if their rows have it
 pub any_named : (tenants : List TenantSettings) (name : Text) → list_any (λ t. same_text t.name name) (tenants_shown tenants) ≡ list_any (λ t. same_text (string_bytes t.name) name) tenants

@@ -115,12 +115,17 @@ SpellTenants shares [] [] = Unit {0}
 SpellTenants shares (word ∷ words) (tenant ∷ tenants) = IsTenantArgument shares word tenant × SpellTenants shares words tenants
 SpellTenants shares words tenants = ⊥
 
--- the argument is bad after these tenants: it spells no tenant, repeats the name of one of them, or comes after 256 of them
+-- the maximum number of tenants: that of a store if shares are allowed, and else that of a script's store
+abbrev pub most_tenants : Bool → ℕ
+most_tenants true = max_tenants
+most_tenants false = 256
+
+-- the argument is bad after these tenants: it spells no tenant, repeats the name of one of them, or comes after as many as there may be
 abbrev pub IsRefusedAfter : Bool → List Tenant → Text → Type 0
 IsRefusedAfter shares tenants word =
     NamesNoTenant shares word
     ⊎ ((tenant : Tenant) × IsTenantArgument shares word tenant × (list_any (λ t. same_text t.name tenant.name) tenants ≡ true))
-    ⊎ (max_tenants ≤ length tenants)
+    ⊎ (most_tenants shares ≤ length tenants)
 
 -- there is no argument, or one is bad after the tenants of those before it
 abbrev pub HasBadTenant : Bool → List Text → Type 0
@@ -132,13 +137,13 @@ HasBadTenant shares words =
 abbrev pub texts_of : List (Bor Text) → List Text
 texts_of words = map (λ w. w.now) words
 
--- the argument's tenant, whose name is new among fewer than 256 tenants, is added at the end
+-- the argument's tenant, whose name is new among fewer tenants than there may be, is added at the end
 abbrev pub AddsTenant : Bool → Text → List TenantSettings → List TenantSettings → Type 0
 AddsTenant shares word old new =
     (tenant : Tenant)
     × IsTenantArgument shares word tenant
     × (list_any (λ t. same_text t.name tenant.name) (tenants_shown old) ≡ false)
-    × (length old < max_tenants)
+    × (length old < most_tenants shares)
     × (tenants_shown new ≡ tenants_shown old ++ tenant ∷ [])
 
 -- the fault is `Memory`, or it is `BadTenant` and the condition holds

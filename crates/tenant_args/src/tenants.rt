@@ -3,7 +3,7 @@ ghost use Rattle.std.specs.Prelude.{◌≡◌, ◌<◌, ◌≤◌, ◌↔◌, Is
 ghost use Rattle.std.specs.List.{list_any};
 ghost use Rattle.spec_lib.specs.Texts.{same_text};
 ghost use Rattle.link_table.specs.Tenancy.{HasNames, IsWithinLimits, tenants_shown};
-ghost use Rattle.tenant_args.specs.Tenants.{AddsTenant, HasBadTenant, IsAddFault, IsBadOnlyIf, ReadsTenant, SpellTenants, TakesLimits, bounds_of, numbers_of, quota_of, settings_of, texts_of};
+ghost use Rattle.tenant_args.specs.Tenants.{AddsTenant, HasBadTenant, IsAddFault, IsBadOnlyIf, ReadsTenant, SpellTenants, TakesLimits, bounds_of, most_tenants, numbers_of, quota_of, settings_of, texts_of};
 
 use crate::fault::TenantFault;
 use blob_digest::{decimal, is_component};
@@ -14,6 +14,9 @@ use std::alloc::Global;
 
 /// The numbers of repositories, of manifests and of sessions.
 type Numbers = (u64, u64, u64);
+
+/// The maximum number of tenants of a script's store.
+const SCRIPT_TENANTS: usize = 256;
 
 /// The numbers of the usual limits.
 const USUAL_NUMBERS: Numbers = (1024, 1024, 64);
@@ -119,6 +122,13 @@ fn has_name(tenants: &[TenantSettings], name: &str) -> bool
     tenants.iter().any(|t| t.name.as_str() == name)
 }
 
+/// Returns the maximum number of tenants: that of a store if shares are allowed, and else that of a script's store.
+fn most_tenants(shares: bool) -> usize
+    ensures { result ≡ most_tenants shares }
+{
+    if shares { MAX_TENANTS } else { SCRIPT_TENANTS }
+}
+
 /// Adds the tenant that an argument spells.
 fn add_tenant(
     alloc: Global,
@@ -135,7 +145,8 @@ fn add_tenant(
     if has_name(tenants, name) {
         return Err(TenantFault::BadTenant);
     }
-    if tenants.len() >= MAX_TENANTS {
+    let most = most_tenants(shares);
+    if tenants.len() >= most {
         return Err(TenantFault::BadTenant);
     }
     let name = String::from_str(alloc, name)?;
@@ -150,6 +161,8 @@ fn add_tenant(
 
 /// Parses the tenants that the arguments spell, in their order.
 ///
+/// There may be 256 of them, as for a script, or `MAX_TENANTS` if `shares` is set, as for a server.
+///
 /// An argument is a name, `=` and a quota in bytes. If `shares` allows it, a comma and a share may follow, the maximum
 /// number of distinct blobs of the tenant's repositories: 0 to 2^32 - 1. Without one, the number is not limited. After a
 /// share, a comma and limits may follow: the maximum numbers of the tenant's repositories, of the manifests of each, and of
@@ -159,12 +172,12 @@ fn add_tenant(
 /// # Errors
 ///
 /// - `BadTenant`: there is no argument.
-/// - `BadTenant`, for the first such argument: it spells no tenant, its name came before, or it is the 257th.
+/// - `BadTenant`, for the first such argument: it spells no tenant, its name came before, or as many as there may be came before.
 /// - `Memory`: allocation fails. It may be returned before a later argument is checked.
 ///
 /// # Cost
 ///
-/// Each name is compared with those before it, of which there are at most 256. The call allocates the list and a copy of
+/// Each name is compared with those before it, of which there are at most as many as there may be. The call allocates the list and a copy of
 /// each name.
 pub fn read_tenants(
     alloc: Global,

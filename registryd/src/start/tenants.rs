@@ -3,7 +3,7 @@ use crate::metadata::names::is_component;
 use std::collections::HashSet;
 
 /// The maximum number of tenants.
-const MAX_TENANTS: usize = 256;
+const MAX_TENANTS: usize = 4096;
 
 /// The maximum quota, in bytes.
 const MAX_QUOTA: u64 = 1 << 50;

@@ -9,6 +9,7 @@ use Rattle.std.proofs.lemmas.Bool.{leb-true, leb-false}
 use Rattle.std.proofs.lemmas.List.{length-replicate}
 use Rattle.std.proofs.lemmas.List.Elements.{recursion_from_All}
 use Rattle.std.proofs.lemmas.List.Sums.{sum_by-cons}
+use Rattle.blob_digest.specs.Slots.{greatest_slots}
 use Rattle.spec_lib.specs.Sets as set
 use Rattle.spec_lib.proofs.Rows.{entries-empty}
 use Rattle.slot_table.specs.Slots.{Slot, stored_blob_at, empty_slot, is_retired}
@@ -22,7 +23,7 @@ use Rattle.spec_lib.specs.Texts.{Text, text_cmp}
 use Rattle.store_model.specs.Catalog.{Tenant, Resident, Catalog, link_cmp, session_number_cmp, opening, ContentRules}
 use Rattle.store_model.specs.Invariant.{Sound}
 use Rattle.atomic_table.specs.Seated.{TableId}
-use Rattle.pin_core.specs.Events.{IsOutside}
+use Rattle.pin_core.specs.Events.{IsBeyond}
 use Rattle.store_book.specs.Pinned.{Pinned, slot_views_of, with_looks}
 use Rattle.store_book.proofs.Slots.Shown.{slot_views_of-opening}
 use Rattle.store_book.proofs.Slots.Pinned.{slot_view-opening}
@@ -68,12 +69,12 @@ zero_or : (n : ℕ) → (n ≡ 0) ⊎ (0 < n)
 zero_or zero = inl refl
 zero_or (suc n) = inr (omega arith)
 
-few_or : (n : ℕ) → (n ≤ 65536) ⊎ (65536 < n)
-few_or n = by (nat_le n 65536) refl
+few_or : (n : ℕ) → (n ≤ greatest_slots) ⊎ (greatest_slots < n)
+few_or n = by (nat_le n greatest_slots) refl
   where
-    by : (b : Bool) → nat_le n 65536 ≡ b → (n ≤ 65536) ⊎ (65536 < n)
-    by true e = inl (leb-true n 65536 e)
-    by false e = inr (leb-false n 65536 e)
+    by : (b : Bool) → nat_le n greatest_slots ≡ b → (n ≤ greatest_slots) ⊎ (greatest_slots < n)
+    by true e = inl (leb-true n greatest_slots e)
+    by false e = inr (leb-false n greatest_slots e)
 
 module _ (tenants : List Tenant) (slots first : ℕ) (contents : ContentRules) where
   abbrev l : Linked
@@ -118,7 +119,7 @@ module _ (tenants : List Tenant) (slots first : ℕ) (contents : ContentRules) w
   }
 
 -- the new layers make a book
-module _ (given : List Tenant) (l' : Linked) (u' : Uploaded) (p : Pinned) (t : TableId) (count first : ℕ) (contents : ContentRules) (n : ℕ) (opened : Opens given l') (small : contents.max_blob ≤ 2 ^ 40) (within : ¬ IsOutside count)
+module _ (given : List Tenant) (l' : Linked) (u' : Uploaded) (p : Pinned) (t : TableId) (count first : ℕ) (contents : ContentRules) (n : ℕ) (opened : Opens given l') (small : contents.max_blob ≤ 2 ^ 40) (within : ¬ IsBeyond greatest_slots count)
     (made : p ≡ record { table = t; slots = replicate count (empty_slot first); bounds = replicate count 0; looks = replicate count 0 }) (uploads_are : u' ≡ uploads.initial_uploads n 1) (one_each : n ≡ length l'.tenants) where
   slots_are : new_slots count first ≡ p.slots
   slots_are = sym (ap (λ (x : Pinned). x.slots) made)

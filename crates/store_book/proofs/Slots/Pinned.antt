@@ -7,6 +7,7 @@ use Rattle.std.proofs.lemmas.Bool.{cases_eq}
 use Rattle.std.proofs.lemmas.List.{get_or-set_other, get_or-set_same, length-map, length-replicate}
 use Rattle.std.proofs.lemmas.Option.{slice_get_within}
 use Rattle.std.proofs.Math.ListN.{length-set}
+use Rattle.blob_digest.specs.Slots.{greatest_slots}
 use Rattle.spec_lib.proofs.Lists.{there_at}
 use Rattle.pin_core.specs.declared.world.Phase.TheVariants as pin
 use Rattle.pin_core.specs.declared.world.PinRow.{PinRow}
@@ -340,7 +341,7 @@ slot_view-opening zero first = refl
 slot_view-opening (suc n) first = ap (λ (xs : List SlotView). slot_view (empty_slot first) 0 ∷ xs) (slot_view-opening n first)
 
 pub opened_slots : (count first : ℕ) (slots : List Slot) → initial_slots count first ≡ Ok slots → slots ≡ replicate count (empty_slot first)
-opened_slots count first slots h = by_test (nat_le 1 count && nat_le count 65536) h
+opened_slots count first slots h = by_test (nat_le 1 count && nat_le count greatest_slots) h
   where
     by_test : (b : Bool) → ◌≡◌ {A = Result (List Slot) Refusal} (if b then Ok (replicate count (empty_slot first)) else Err LimitReached) (Ok slots) → slots ≡ replicate count (empty_slot first)
     by_test true h = sym (cc h)

@@ -5,6 +5,7 @@ use Rattle.std.specs.List.{AllByRecursion}
 use Rattle.std.specs.List.Sorted.{IsStrictlySortedBy}
 use Rattle.std.specs.FinMap.{empty, get-empty, len-empty, len}
 use Rattle.std.proofs.lemmas.List.{length-map}
+use Rattle.blob_digest.specs.Slots.{greatest_slots}
 use Rattle.spec_lib.specs.Texts.{Text, text_cmp}
 use Rattle.store_model.specs.Catalog.{Link, Tenant, Session, Resident, Catalog, link_cmp, session_number_cmp, next_number_of, opening, ContentRules}
 use Rattle.store_model.specs.Invariant.{WellFormed, Sound}
@@ -27,7 +28,7 @@ module _ (tenants : List Tenant) (slots : ℕ) (contents : ContentRules) where
   abbrev C : Catalog
   C = opening tenants slots contents
 
-  pub WellFormed-opening : 0 < length tenants → length tenants ≤ 256 → IsStrictlySortedBy text_cmp (map (λ t. t.name) tenants) → contents.max_blob ≤ 2 ^ 40 → AllByRecursion (λ t. t.quota ≤ 2 ^ 50) tenants → AllByRecursion (λ t. AreSupported t.limits) tenants → WellFormed C
+  pub WellFormed-opening : 0 < length tenants → length tenants ≤ 4096 → IsStrictlySortedBy text_cmp (map (λ t. t.name) tenants) → contents.max_blob ≤ 2 ^ 40 → AllByRecursion (λ t. t.quota ≤ 2 ^ 50) tenants → AllByRecursion (λ t. AreSupported t.limits) tenants → WellFormed C
   WellFormed-opening some few rise small quotas limits = record {
     content = λ d b h. nothing (get-empty text_cmp d) h;
     links = λ l h. no_member (get-empty link_cmp l) h;
@@ -54,7 +55,7 @@ module _ (tenants : List Tenant) (slots : ℕ) (contents : ContentRules) where
     few_manifests = λ r. rw (entries-empty link_cmp Text) (omega arith);
   }
 
-  pub Sound-opening : 0 < length tenants → length tenants ≤ 256 → IsStrictlySortedBy text_cmp (map (λ t. t.name) tenants) → contents.max_blob ≤ 2 ^ 40 → AllByRecursion (λ t. t.quota ≤ 2 ^ 50) tenants → AllByRecursion (λ t. AreSupported t.limits) tenants → 0 < slots → slots ≤ 65536 → Sound C
+  pub Sound-opening : 0 < length tenants → length tenants ≤ 4096 → IsStrictlySortedBy text_cmp (map (λ t. t.name) tenants) → contents.max_blob ≤ 2 ^ 40 → AllByRecursion (λ t. t.quota ≤ 2 ^ 50) tenants → AllByRecursion (λ t. AreSupported t.limits) tenants → 0 < slots → slots ≤ greatest_slots → Sound C
   Sound-opening some few rise small quotas limits any at_most = record {
     lawful = WellFormed-opening some few rise small quotas limits;
     quotas = λ t there. rw (entries-empty text_cmp Resident, entries-empty session_number_cmp Session) (omega arith);

@@ -47,7 +47,7 @@ module _ (ts us : List Tenant) (names : map (λ t. t.name) ts ≡ map (λ t. t.n
 
   limits : (longest longer : ℕ) → longer ≤ 2 ^ 40 → AllByRecursion (λ t. t.quota ≤ 2 ^ 50) ts → AllByRecursion (λ t. AreSupported t.limits) ts → AreWithinLimits us longest → AreWithinLimits ts longer
   limits longest longer small quotas supported all = record {
-    tenants = subst (λ n. (0 < n) × (n ≤ 256)) (sym same_length) all.tenants;
+    tenants = subst (λ n. (0 < n) × (n ≤ 4096)) (sym same_length) all.tenants;
     names_rise = subst (λ ns. IsStrictlySortedBy text_cmp ns) (sym names) all.names_rise;
     max_blob = small;
     quotas = quotas;

@@ -10,6 +10,7 @@ use Rattle.std.specs.Cmp.Lexicographic.{nat_list_cmp_total}
 use Rattle.std.specs.List.{sum_by}
 use Rattle.std.specs.FinMap.{contains_key-keys, empty, entries, get, get-entries, get-from_entries, get-retain_keys, len, len-entries}
 use Rattle.std.proofs.lemmas.Map.Lookups.{exact_bytes}
+use Rattle.blob_digest.specs.Slots.{greatest_slots}
 use Rattle.spec_lib.specs.Sets as set
 use Rattle.spec_lib.specs.Texts.{Text, text_cmp}
 use Rattle.spec_lib.proofs.Lists.{list_any_weaker, sum_by-ones, witness}
@@ -124,7 +125,7 @@ module _ (taken : TakenChunks) (D : DurableState) (C : Catalog) (a : Agrees take
         let was = was_kept d x found in
         ap (λ b. if b then has_digest d x.bytes else is_digest_of d x.bytes) place ∙ subst (λ (y : Resident). is_named C.contents d y.bytes ≡ true) was.4 (lawful.content d was.1 was.3)
 
-    module _ (sound : Sound C) (more_slots : C.slots ≤ slots) (few_slots : slots ≤ 65536) (more_bytes : C.contents.max_blob ≤ contents.max_blob) (few_bytes : contents.max_blob ≤ 2 ^ 40) (place : contents.on_disk ≡ C.contents.on_disk) where
+    module _ (sound : Sound C) (more_slots : C.slots ≤ slots) (few_slots : slots ≤ greatest_slots) (more_bytes : C.contents.max_blob ≤ contents.max_blob) (few_bytes : contents.max_blob ≤ 2 ^ 40) (place : contents.on_disk ≡ C.contents.on_disk) where
       abbrev lawful : WellFormed C
       lawful = sound.lawful
 

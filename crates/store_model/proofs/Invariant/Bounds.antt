@@ -80,8 +80,8 @@ count_below tenants xs few (suc n) =
     let one = few n in
     omega arith
 
--- no count is above the number of all repositories, 256 tenants with 65,536 each
-pub count_small : (C : Catalog) → WellFormed C → (d : Text) → link_count C d ≤ 16777216
+-- no count is above the number of all repositories, 4,096 tenants with 65,536 each
+pub count_small : (C : Catalog) → WellFormed C → (d : Text) → link_count C d ≤ 268435456
 count_small C lawful d =
     let T : ℕ = length C.tenants in
     let xs : List Text = set.items C.repos in

@@ -6,7 +6,7 @@ use Rattle.spec_lib.specs.Texts.{Text}
 use Rattle.blob_digest.specs.Tenants.{AreSupported, Tenant}
 use Rattle.blob_digest.specs.Names.{IsComponent}
 use Rattle.link_table.specs.Tenancy.{tenant_shown, tenants_shown, max_quota}
-use Rattle.tenant_args.proofs.TenantLists.{all_more, bad_word, once_more, one_spelled, words_more, words_round}
+use Rattle.tenant_args.proofs.TenantLists.{all_more, bad_word, most_few, once_more, one_spelled, words_more, words_round}
 use Rattle.tenant_args.proofs.tenants.read_tenants.Goals as goal
 
 nothing : Bor Text
@@ -35,7 +35,7 @@ loop-word-preserved c =
     sym (length-map c.add_tenant.new.tenants.items tenant_shown) ∙ ap length added.4 ∙ length-append old (added.0 ∷ []) ∙ ap (λ n. n + 1) (length-map c.loop-word.tenants.items tenant_shown) in
     record {
       spelled = rw (words_more words i nothing c.loop-word-test.true, added.4) (one_spelled c.args.shares (map (λ (w : Bor Text). w.now) (take i words)) old word added.0 inv.spelled added.1);
-      few = omega (arith, count, added.3);
+      few = (let most = most_few c.args.shares in omega (arith, count, added.3));
       count = omega (arith, count, inv.count);
       components = rw added.4 (all_more (λ (t : Tenant). IsComponent t.name) old added.0 inv.components added.1.component);
       quotas = rw added.4 (all_more (λ (t : Tenant). t.quota ≤ max_quota) old added.0 inv.quotas added.1.small);

@@ -1,6 +1,6 @@
 use Rattle.std.proofs.Common.{◌≡◌, replicate, ap, ◌∙◌, rules}
 use Rattle.pin_table.proofs.RuleKept.{new_allowed}
-use Rattle.pin_table.proofs.pins.Pins.new.Goals as goal
+use Rattle.pin_table.proofs.pins.Pins.of_slots.Goals as goal
 
 pub of_words-requires : goal.of_words-requires
 of_words-requires c =
