@@ -1,5 +1,5 @@
 #!/usr/bin/env python3
-"""Types the commands of docs/BACKUP.md, "Several machines" and "Moving a tenant": moves a tenant from one registry to another
+"""Types the commands of docs/MACHINES.md, "Several registries" and "Moving a tenant": moves a tenant from one registry to another
 behind HAProxy, while clients push to it, one of them `skopeo`. No push fails, and what was acknowledged is at the new registry. Slow pulls go
 on. --tags N --clients N: the number of tags before the move, and of clients that push."""
 import argparse, json, os, re, signal, socket, sqlite3, tempfile, threading, time
@@ -9,7 +9,7 @@ from playing import until
 from pushing import CONTENT, Raw, Skopeo, check_listed
 from server import INDEX, MANIFEST, REGISTRYD, TOP, Client, free_port, manifest_of, serving, sha256
 
-DOCUMENT = "docs/BACKUP.md"
+DOCUMENT = "docs/MACHINES.md"
 TENANTS = {"one": ("acme=4000000000,65536", "other=1000000000,65536"), "two": ("acme=4000000000,65536",)}
 DOCKER = "application/vnd.docker.distribution.manifest.v2+json"
 EXAMPLES = "/usr/share/doc/registryd/examples"
@@ -234,7 +234,7 @@ def main():
     parser.add_argument("--tags", type=int, default=300)
     parser.add_argument("--clients", type=int, default=20)
     options = parser.parse_args()
-    (starting,), (command,) = blocks(DOCUMENT, "Several machines"), blocks(DOCUMENT, "Moving a tenant")
+    (starting,), (command,) = blocks(DOCUMENT, "Several registries"), blocks(DOCUMENT, "Moving a tenant")
     with tempfile.TemporaryDirectory(ignore_cleanup_errors=True) as folder:
         os.makedirs(f"{folder}/srv")
         def words(name):

@@ -1,5 +1,5 @@
 #!/usr/bin/env python3
-"""Types the commands of docs/BACKUP.md, "Backup", "Restore" and "A standby": copies the folder of a registry that has ended,
+"""Types the commands of docs/BACKUP.md, "Backup", "Restore" and "A second machine on a copy": copies the folder of a registry that has ended,
 and that of one to which clients push, and starts registries on the copies. All that was acknowledged before a copy began has
 to be there, byte for byte."""
 import contextlib, os, random, shutil, signal, tempfile, threading, time
@@ -206,7 +206,7 @@ def a_standby_starts_on_its_last_copy():
     """Copies a folder to a second machine twice, kills the registry, and starts the standby. Then it makes a copy that does
     not end."""
     _, copying = blocks(DOCUMENT, "While clients push")
-    starting = only(blocks(DOCUMENT, "A standby"))
+    starting = only(blocks(DOCUMENT, "A second machine on a copy"))
     with tempfile.TemporaryDirectory(ignore_cleanup_errors=True) as folder, machine() as (second, standby):
         first = Shell(folder, environment={**REMOTE, "RCLONE_CONFIG_STANDBY_REMOTE": second})
         with serving("--data", f"{folder}/srv/registry", tenants=TENANTS) as server:

@@ -111,7 +111,7 @@ def each_link_of_the_documents_leads_to_a_file():
     with tempfile.TemporaryDirectory() as folder:
         assert run(f"{os.path.dirname(TOP)}/package/pages", folder).returncode == 0
         pages = [name for name in os.listdir(folder) if name.endswith(".md")]
-        assert {"OPERATIONS.md", "USERS.md", "STORAGE.md", "SERVING.md", "BACKUP.md", "UPGRADES.md", "LOG.md", "PROTOCOL.md", "SCRIPT.md",
+        assert {"OPERATIONS.md", "USERS.md", "STORAGE.md", "SERVING.md", "BACKUP.md", "MACHINES.md", "UPGRADES.md", "LOG.md", "PROTOCOL.md", "SCRIPT.md",
                 "SEMANTICS.md", "THEOREMS.md"} <= set(pages), pages
         for page in pages:
             with open(f"{folder}/{page}") as file:
