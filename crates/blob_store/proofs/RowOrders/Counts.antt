@@ -63,7 +63,7 @@ module _ (f : SessionNumber × Session → ℕ) where
         at q None found = refl
         at q (Some s) found = ap (λ b. cond b (f (q, s)) 0) (sym (lt-ltb q.0 (length C.tenants) (session_tenant C sound.lawful q s found)))
 
-    of_all : ((t : ℕ) → t < length C.tenants → sum_by (by_tenant t) (entries C.sessions) ≤ 2 ^ 50) → sum_by f (entries C.sessions) ≤ 2 ^ 58
+    of_all : ((t : ℕ) → t < length C.tenants → sum_by (by_tenant t) (entries C.sessions) ≤ 2 ^ 50) → sum_by f (entries C.sessions) ≤ 2 ^ 62
     of_all each =
         let sum = all_below (entries C.sessions) (length C.tenants) each (length C.tenants) (omega arith) in
         let few = sound.lawful.limits.tenants.1 in
@@ -71,7 +71,7 @@ module _ (f : SessionNumber × Session → ℕ) where
         omega (arith, sum, few, same)
 
 module _ (C : Catalog) (sound : Sound C) where
-  pub few_in_hand : checked_out_count C ≤ 2 ^ 58
+  pub few_in_hand : checked_out_count C ≤ 2 ^ 62
   few_in_hand =
       let all = of_all (λ _. 1) C sound (λ t there. let few : open_sessions C t ≤ 4096 = sound.lawful.few_sessions t in omega (arith, few)) in
       let less = sum_by-le-sum_by checked_out_count_of (λ _. 1) (entries C.sessions) (λ e. at_most (are_checked_in e.1.chunks)) in
@@ -81,7 +81,7 @@ module _ (C : Catalog) (sound : Sound C) where
       at_most true = omega arith
       at_most false = omega arith
 
-  pub little_reserved : reserved_bytes C ≤ 2 ^ 58
+  pub little_reserved : reserved_bytes C ≤ 2 ^ 62
   little_reserved =
       let all = of_all (λ e. charged_length e.1) C sound (λ t there. let small = used_small C sound t there in let part : session_charges_of C t ≤ used_bytes C t = omega arith in omega (arith, small, part)) in
       let less = sum_by-le-sum_by (λ e. reserved_of e.1.chunks) (λ e. charged_length e.1) (entries C.sessions) (λ e. omega arith) in
