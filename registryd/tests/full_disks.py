@@ -5,8 +5,8 @@ import contextlib, os, random, shutil, signal, sqlite3, subprocess, sys, tempfil
 
 import kept_folders, robots
 from crash.paths import log_of
-from limits import CHEAP, basic, users
-from playing import play, until
+from limits import CHEAP, basic, stopped, users
+from playing import Asking, play, until
 from restarts import PATCH, by_kill_of_both, by_signal, opened, pulled, push, pushed, tags_of
 from server import MANIFEST, serving, sha256
 from statuses import check, ended
@@ -334,6 +334,37 @@ def changes_wait_while_the_disk_fills():
             by_signal(server)
 
 
+def the_next_file_of_the_log_has_room():
+    """Another program takes all room after the registry looked at the disk, and before the store begins the next file of its log."""
+    with disk() as at, serving(*at.words(reserve=0)) as server:
+        client, layer = server.client(), noise("layer")
+        image, blobs, more = pushed(client, layer=layer), [noise(number, 50_000) for number in range(5)], 0
+        for data in blobs:
+            push(client, "acme/one", data)
+        # A file that is longer than a MiB is closed before the next change is written.
+        while log_of(at.folder).last.stat().st_size <= MIB:
+            push(client, "acme/two", noise(f"more {more}", 100_000))
+            more += 1
+        before = log_of(at.folder).last
+        with stopped(server.child()):
+            asked = [Asking(server, "DELETE", f"/v2/acme/one/blobs/{sha256(data)}") for data in blobs[1:]]
+            asked += [Asking(server, "PUT", f"/v2/acme/one/manifests/v{number}", image, {"Content-Type": MANIFEST}) for number in (2, 3)]
+            time.sleep(0.5)
+            at.fill()
+        statuses = [change.answered().status for change in asked]
+        assert statuses[:4] == [202] * 4 and set(statuses[4:]) <= {201, 507}, statuses
+        assert log_of(at.folder).last != before, "no next file"
+        tags = tags_of(client, "acme/one")
+        assert tags == ["v1", *(f"v{number}" for number, status in zip((2, 3), statuses[4:]) if status == 201)], (tags, statuses)
+        by_kill_of_both(server)
+        at.has_room()
+        with serving(*at.words(reserve=0)) as server:
+            check_all(server, image, layer, blobs[:1], tags)
+            for data in blobs[1:]:
+                assert server.client().ask("GET", f"/v2/acme/one/blobs/{sha256(data)}").status == 404
+            by_signal(server)
+
+
 def a_robot_is_revoked_on_a_full_disk():
     """It is refused at once, and stays so after a kill as soon as there is room. Pulls of tags wait for room too."""
     with disk() as at, users(f"acme:{CHEAP}") as file, users() as rules, tempfile.TemporaryDirectory() as top:
@@ -373,7 +404,8 @@ def main():
     tests = [
         its_own_uploads_never_fill_the_disk, another_program_fills_the_disk, (a_start_on_a_full_disk, by_signal),
         (a_start_on_a_full_disk, by_kill_of_both), a_signal_gives_back_the_room_of_what_was_deleted,
-        a_rewriting_that_has_no_room_does_not_begin, changes_wait_while_the_disk_fills, a_robot_is_revoked_on_a_full_disk,
+        a_rewriting_that_has_no_room_does_not_begin, changes_wait_while_the_disk_fills, the_next_file_of_the_log_has_room,
+        a_robot_is_revoked_on_a_full_disk,
         *((a_database_of_an_earlier_version_waits_for_room, name) for name in kept_folders.earlier_versions())]
     play("full_disks", tests)
 

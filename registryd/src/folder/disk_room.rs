@@ -26,11 +26,15 @@ const MUCH: u64 = 64 << 20;
 /// file of the log.
 const LEAST: u64 = 1 << 20;
 
-/// What is held of that for the log while little is free, in bytes. For content it is all of that.
+/// What is held of that for the last file of the log, and as much for its next file, while little is free, in bytes. For content it is all
+/// of that.
 const HELD: u64 = LEAST / 4;
 
-/// What is free after a part of the reserve was given up, in bytes, and what has to be free for content at least.
+/// What is free after a part of the reserve was given up, in bytes.
 const GIVEN: u64 = 2 * LEAST;
+
+/// What has to be free for content at least, in bytes: what is held, and what a change without content needs.
+const CONTENT: u64 = 3 * LEAST;
 
 /// The names of the files in the folder: the reserve, and the number of bytes that a rewriting of the log may take.
 const RESERVE: &str = "reserve";
@@ -117,7 +121,7 @@ impl DiskRoom {
 
     /// Returns the number of bytes that have to be free for content.
     fn floor(&self) -> u64 {
-        self.min_free.max(GIVEN)
+        self.min_free.max(CONTENT)
     }
 
     /// Returns the number of free bytes. Returns `None` if the system has no answer.

@@ -1,10 +1,12 @@
 //! The room that is held after the ends of files to which changes are added, so that no other program takes it between a look at the
-//! disk and a write.
+//! disk and a write. The next file of the log has its room before the store begins it: the store empties the file in which it is held,
+//! and writes to it at once.
 use crate::database::sqlite::FILE_NAME;
 use crate::folder::log_end::last_file;
 use crate::operation::locks::guard_of;
 use std::fs::{File, OpenOptions};
 use std::io;
+use std::os::unix::fs::OpenOptionsExt;
 use std::os::unix::io::AsRawFd;
 use std::path::{Path, PathBuf};
 use std::sync::Mutex;
@@ -12,20 +14,26 @@ use std::sync::Mutex;
 /// What is held for a transaction of the database, in bytes.
 const TRANSACTION: u64 = 256 << 10;
 
+/// The name of the next file of the log until the store has begun it.
+const NEXT: &str = "log.new";
+
 /// The number and the path of the last file of the log after whose end room is held.
 #[derive(Default)]
 pub(super) struct HeldRoom(Mutex<Option<(u64, PathBuf)>>);
 
-/// Opens a file to change it. Returns its length too.
-fn open(path: &Path) -> io::Result<(File, u64)> {
-    let file = OpenOptions::new().write(true).open(path)?;
-    let length = file.metadata()?.len();
-    Ok((file, length))
+/// Opens a file to change it.
+fn open(path: &Path) -> io::Result<File> {
+    OpenOptions::new().write(true).open(path)
+}
+
+/// Opens the file in which room is held for the next file of the log. The store may be writing it, so nothing of it is changed.
+fn open_next(path: &Path) -> io::Result<File> {
+    OpenOptions::new().write(true).create(true).mode(0o600).open(path)
 }
 
 /// Holds this number of bytes after the end of a file, whose length stays. Room that is held already counts.
-fn hold_after(path: &Path, bytes: u64) -> io::Result<()> {
-    let (file, length) = open(path)?;
+fn hold_after(file: &File, bytes: u64) -> io::Result<()> {
+    let length = file.metadata()?.len();
     let number = |bytes| libc::off_t::try_from(bytes).map_err(|_| io::Error::from(io::ErrorKind::InvalidInput));
     // SAFETY: the call only takes numbers; the descriptor is open.
     match unsafe { libc::fallocate(file.as_raw_fd(), libc::FALLOC_FL_KEEP_SIZE, number(length)?, number(bytes)?) } {
@@ -36,13 +44,18 @@ fn hold_after(path: &Path, bytes: u64) -> io::Result<()> {
 
 /// Releases what is held after the end of a file that no longer grows.
 fn release(path: &Path) -> io::Result<()> {
-    let (file, length) = open(path)?;
-    file.set_len(length)
+    let file = open(path)?;
+    file.set_len(file.metadata()?.len())
+}
+
+/// Returns whether the disk has room after the end of a file. A file system that cannot hold room has it.
+fn has_room(file: io::Result<File>, bytes: u64) -> bool {
+    !matches!(file.and_then(|file| hold_after(&file, bytes)), Err(error) if error.raw_os_error() == Some(libc::ENOSPC))
 }
 
 impl HeldRoom {
-    /// Holds this number of bytes for the log in a folder, and some for the database. Returns whether the disk has the room. A file
-    /// system that cannot hold room has it.
+    /// Holds this number of bytes for the last file of the log in a folder, as much for its next file, and some for the database. Returns
+    /// whether the disk has the room.
     pub(super) fn hold(&self, folder: &Path, bytes: u64) -> bool {
         let mut held = guard_of(self.0.lock());
         if let Some(last) = last_file(folder) {
@@ -56,10 +69,9 @@ impl HeldRoom {
                 }
             }
         }
+        let is_held = |path: &Path| has_room(open(path), bytes) && has_room(open_next(&folder.join(NEXT)), bytes);
         let of_database = folder.join(format!("{FILE_NAME}-wal"));
-        let has_room =
-            |path: &Path, bytes| !matches!(hold_after(path, bytes), Err(error) if error.raw_os_error() == Some(libc::ENOSPC));
-        held.as_ref().map_or(true, |(_, path)| has_room(path, bytes)) && has_room(&of_database, TRANSACTION)
+        held.as_ref().map_or(true, |(_, path)| is_held(path)) && has_room(open(&of_database), TRANSACTION)
     }
 }
 
@@ -69,16 +81,20 @@ mod tests {
     use std::os::unix::fs::MetadataExt;
 
     #[test]
-    fn room_is_held_after_the_end_of_the_last_file_alone() {
+    fn room_is_held_after_the_end_of_the_last_file_and_for_the_next() {
         let folder = std::env::temp_dir().join(format!("registryd-held-{}", uuid::Uuid::new_v4()));
         std::fs::create_dir(&folder).unwrap();
-        let (first, second) = (folder.join("log.1"), folder.join("log.2"));
+        let (first, second, next) = (folder.join("log.1"), folder.join("log.2"), folder.join("log.new"));
         std::fs::write(&first, "abc").unwrap();
         let held = HeldRoom::default();
         let taken = |path: &Path| std::fs::metadata(path).unwrap().blocks() * 512;
-        assert!(held.hold(&folder, 1 << 20) && taken(&first) >= 1 << 20);
-        std::fs::write(&second, "abcd").unwrap();
-        assert!(held.hold(&folder, 1 << 20) && taken(&first) < 1 << 20 && taken(&second) >= 1 << 20);
+        assert!(held.hold(&folder, 1 << 20) && taken(&first) >= 1 << 20 && taken(&next) >= 1 << 20);
+        assert_eq!(std::fs::metadata(&next).unwrap().len(), 0);
+        // As the store does: it empties the file, writes to it, and gives it its number.
+        std::fs::write(&next, "abcd").unwrap();
+        assert!(held.hold(&folder, 1 << 20) && taken(&next) >= 1 << 20);
+        std::fs::rename(&next, &second).unwrap();
+        assert!(held.hold(&folder, 1 << 20) && taken(&first) < 1 << 20 && taken(&second) >= 1 << 20 && taken(&next) >= 1 << 20);
         assert_eq!((std::fs::read(&first).unwrap(), std::fs::read(&second).unwrap()), (b"abc".to_vec(), b"abcd".to_vec()));
         assert!(HeldRoom::default().hold(Path::new("/no/such/folder"), 1));
         std::fs::remove_dir_all(folder).unwrap();
