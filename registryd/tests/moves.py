@@ -1,8 +1,10 @@
 #!/usr/bin/env python3
 """Tests moves of tenants that do not go well: the command is killed before and after each of its steps and started again while clients write
-to both registries directly, registries are killed, the target is down, small or has other content, uploads stay open, moves are given up."""
+to both registries directly, registries are killed, the target is down, small or has other content, uploads stay open, moves are given up,
+robots arrive with their tenant or are refused."""
 import concurrent.futures, contextlib, http.client, json, re, shutil, signal, socket, subprocess, tempfile, threading, time
 
+import robots
 from limits import CHEAP, basic, users
 from playing import play, until
 from pushing import CONTENT
@@ -17,7 +19,7 @@ ACME = ("acme=1000000000,65536",)
 
 def label(request, earlier):
     """Returns the word for a request of the command to a registry or to HAProxy. The contents are listed for the rest after the close."""
-    for word in ("receive", "copy", "close", "leave", "open"):
+    for word in ("receive", "copy", "robots", "close", "leave", "open"):
         if b'"step":"%s"' % word.encode() in request:
             return word
     if b"/contents HTTP" in request:
@@ -151,6 +153,20 @@ class Pair:
         ended = subprocess.run(self.command(tenant, *words, **options), stdout=subprocess.PIPE, stderr=subprocess.PIPE, text=True, timeout=120)
         assert ended.returncode == 1 and ended.stderr.startswith("registryd: "), (ended.returncode, ended.stdout, ended.stderr)
         return ended.stderr
+
+    def asked(self, name, method, path, content=b""):
+        """Sends a request to the socket of a registry. Returns the status and the value of the reply."""
+        with socket.socket(socket.AF_UNIX) as line:
+            line.connect(self.control(name))
+            line.sendall(b"%s %s HTTP/1.1\r\nHost: x\r\nContent-Length: %d\r\n\r\n%s" % (method.encode(), path.encode(), len(content), content))
+            reply = b""
+            while part := line.recv(1 << 16):
+                reply += part
+        return int(reply.split()[1]), json.loads(reply.split(b"\r\n\r\n", 1)[1])
+
+    def stages(self, tenant="acme"):
+        """Returns the stages of a tenant's move at both registries, which may have users."""
+        return tuple(self.asked(name, "GET", f"/moves/{tenant}")[1]["stage"] for name in ("one", "two"))
 
     def stage(self, name, tenant="acme"):
         """Returns the stage of a tenant's move at a registry."""
@@ -331,14 +347,7 @@ def restarts_while_nobody_may_write():
 def a_command_that_was_replaced_writes_nothing():
     with pair() as both:
         def step(name, **fields):
-            line = socket.socket(socket.AF_UNIX)
-            line.connect(both.control(name))
-            body = json.dumps(fields).encode()
-            line.sendall(b"POST /moves/acme HTTP/1.1\r\nHost: x\r\nContent-Length: %d\r\n\r\n%s" % (len(body), body))
-            reply = b""
-            while part := line.recv(1 << 16):
-                reply += part
-            return int(reply.split()[1]), json.loads(reply.split(b"\r\n\r\n", 1)[1])
+            return both.asked(name, "POST", "/moves/acme", json.dumps(fields).encode())
         (_, first), (_, second) = (step("two", step="receive", other="http://x", replace=False) for _ in range(2))
         def status(secret):
             sender = both.two.client(basic(f"robot+move+acme:{secret}"))
@@ -389,6 +398,24 @@ def a_target_that_cannot_have_it():
         both.restart("two")
         both.move()
         assert tags(both.two.client()) == {"v0", "v1", "v2"}
+
+
+def a_limit_that_is_not_checked_fails_the_copy(*words):
+    with pair(two_words=words) as both:
+        client = both.one.client()
+        assert push(client, "acme", "v1", b"x" * 4000) == push(client, "acme", "v2") == 201
+        assert client.ask("POST", f"/v2/acme/second/blobs/uploads/?mount={sha256(b'{}')}&from=acme/app").status == 201
+        assert client.ask("PUT", "/v2/acme/second/manifests/v1", manifest_of(b"{}", []), {"Content-Type": MANIFEST}).status == 201
+        error = both.fails()
+        assert "as before" in error and both.stage("one") is None and push(client, "acme", "v3") == 201, error
+        assert push(both.two.client(), "acme", "v3") == 429
+        return error
+
+
+def limits_that_are_not_checked():
+    for words, expected in ((("--max-blob", "3000"), "3000"), (("--repositories", "1"), "repositor"), (("--repository-manifests", "1"), "manifests")):
+        error = a_limit_that_is_not_checked_fails_the_copy(*words)
+        assert expected in error, (words, error)
 
 
 def a_target_whose_disk_is_full():
@@ -521,25 +548,158 @@ def pushes_that_are_in_progress_go_on():
         assert put("app", [b"early", b"late"]) == 201 and put("new", []) == 201
 
 
-def users_and_robots():
+def users_of_files_are_those_of_each_registry():
     with users(f"acme:{CHEAP}") as file, pair("--htpasswd", file) as both:
         client = both.one.client(basic("acme:secret"))
-        robot = lambda name: subprocess.run([REGISTRYD, "robot", "add", "ci", "--allow", "read:acme/app", "--days", "9", "--control", both.control(name)],
-                                            stdout=subprocess.PIPE, text=True, check=True).stdout
-        robot("one")
         found = client.ask("POST", "/v2/acme/app/blobs/uploads/").status
         assert found == 202, found
         assert push(client, "acme", "v1") == 201
         printed = both.move("acme", "--uploads-s", "0", "--delete")
-        assert "warning: robot+ci has rights in acme at" in printed and "deleted 1 manifests" in printed, printed
+        assert "warning" not in printed and "deleted 1 manifests" in printed, printed
         assert pulls(both.two.client(basic("acme:secret")), "acme", "v1")
         assert both.one.client(basic("acme:secret")).ask("GET", "/v2/acme/app/manifests/v1").status == 404
-        robot("two")
-        assert "warning" not in both.move("acme", back=True)
+
+
+def rules_of_files_hold_where_they_are():
+    """The operator has copied the file to the target."""
+    with users("acme/app v*") as first, users("acme/app v*") as second:
+        with pair(two_words=("--immutable-tags", second)) as both:
+            both.more["one"] = ("--immutable-tags", first)
+            both.restart("one")
+            assert push(both.one.client(), "acme", "v1") == push(both.one.client(), "acme", "latest") == 201
+            both.move()
+            put = lambda tag: both.two.client().ask("PUT", f"/v2/acme/app/manifests/{tag}", manifest_of(b"{}", [b"layer"]), {"Content-Type": MANIFEST}).status
+            assert (put("v1"), put("latest")) == (409, 201) and pulls(both.two.client(), "acme", "v1")
+
+
+def robots_arrive_with_their_tenant():
+    both_tenants = ("acme=1000000000,65536", "other=1000000000,65536")
+    with users(f"acme:{CHEAP}") as file, pair("--htpasswd", file, tenants=both_tenants) as both:
+        one, two = both.control("one"), both.control("two")
+        allowed = {"ci": ("read,write:acme/app",), "two-tenants": ("read:acme", "read:other"), "everywhere": ("read:*",), "others": ("write:other",), "gone": ("read:acme",)}
+        secrets = {name: robots.add(one, name, *allow) for name, allow in allowed.items()}
+        own = robots.add(two, "own", "read:acme/app")
+        robots.robot(one, "revoke", "gone")
+        before = robots.listed(one)
+        assert push(both.one.client(basic(f"robot+ci:{secrets['ci']}")), "acme", "v1") == 201
+        assert not any(robots.may(both.two, f"robot+{name}", secret) for name, secret in secrets.items())
+        printed = both.move()
+        assert "warning" not in both.move()
+        assert re.findall("warning: .*", printed) == [f"warning: robot+own has rights in acme at http://{both.two.address}, and does not exist at http://{both.one.address}"], printed
+        both.restart("two")
+        client = both.two.client(basic(f"robot+ci:{secrets['ci']}"))
+        assert pulls(client, "acme", "v1") and push(client, "acme", "v2") == 201
+        assert client.ask("DELETE", "/v2/acme/app/manifests/v2").status == 403 and not robots.may(both.two, "robot+ci", secrets["others"])
+        may = [name for name, secret in secrets.items() if robots.may(both.two, f"robot+{name}", secret)]
+        assert may == ["ci", "two-tenants", "everywhere"] and robots.may(both.two, "robot+own", own), may
+        for name in ("two-tenants", "everywhere"):
+            found = [both.two.client(basic(f"robot+{name}:{secrets[name]}")).ask("GET", f"/v2/{tenant}/app/manifests/v1").status for tenant in ("acme", "other")]
+            assert found == [200, 403], (name, found)
+        found = robots.listed(two)
+        assert {name: robot["rights"] for name, robot in found.items()} == {
+            "robot+ci": ["read,write acme/app"], "robot+everywhere": ["read acme"], "robot+own": ["read acme/app"], "robot+two-tenants": ["read acme"]}, found
+        for name in ("robot+ci", "robot+everywhere", "robot+two-tenants"):
+            assert {**found[name], "rights": 0} == {**before[name], "rights": 0}, name
+        # The rights in a second tenant are added, and those in the first one are not doubled.
+        both.move("other")
+        assert robots.listed(two)["robot+two-tenants"]["rights"] == ["read acme", "read other"] and robots.listed(one) == before
+        # Back: the rights in the tenant are those of the source.
+        both.move("acme", back=True)
+        assert robots.listed(one)["robot+ci"]["rights"] == ["read,write acme/app"] and robots.may(both.one, "robot+own", own)
+        assert not any(secret in server.logged() for secret in secrets.values() for server in (both.one, both.two))
+
+
+def check_robots_of_a_killed_move(both, tenant, step, when):
+    """Kills a move at a step, revokes a robot that waits, and starts the move again."""
+    one, two = both.control("one"), both.control("two")
+    secrets = {name: robots.add(one, name, f"read,write:{tenant}") for name in (tenant, f"{tenant}-gone")}
+    may = lambda server, name: robots.may(server, f"robot+{name}", secrets[name])
+    assert push(both.one.client(basic(f"robot+{tenant}:{secrets[tenant]}")), tenant, "v1") == 201
+
+    def add_late():
+        # It is sent after the copy, in a step of its own.
+        if until(lambda: both.stages(tenant)[0] == "copying"):
+            secrets[f"{tenant}-late"] = robots.add(one, f"{tenant}-late", f"read:{tenant}")
+
+    adding = threading.Thread(target=add_late)
+    adding.start()
+    with tempfile.TemporaryDirectory() as folder:
+        balancer = killed_move(both, folder, tenant, step, when)
+        if step == "receive":
+            both.move(tenant, "--keep", "from", *balancer.words())
+            assert robots.listed(one)[f"robot+{tenant}"]["state"] == "active"
+            fault = robots.fault(two, "add", tenant, "--allow", "read:*", "--days", "1")
+            assert f"the robot robot+{tenant} arrives with the tenant {tenant}" in fault, fault
+        is_open = (step, when) == ("open", "after")
+        assert may(both.two, tenant) == is_open and may(both.one, tenant), (step, when)
+        robots.robot(one, "revoke", f"{tenant}-gone")
+        both.move(tenant, *balancer.words())
+    adding.join(60)
+    expected = {f"robot+{tenant}", f"robot+{tenant}-late", *({f"robot+{tenant}-gone"} if is_open else ())}
+    found = {name: robot["rights"] for name, robot in robots.listed(two).items() if name.startswith(f"robot+{tenant}")}
+    assert set(found) == expected and found[f"robot+{tenant}"] == [f"read,write {tenant}"], (step, when, found)
+    assert may(both.two, tenant) and may(both.two, f"{tenant}-late") and may(both.two, f"{tenant}-gone") == is_open
+    assert push(both.two.client(basic(f"robot+{tenant}:{secrets[tenant]}")), tenant, "v2") == 201
+
+
+def robots_of_a_killed_move_arrive_once():
+    points = [("receive", "after"), ("contents", "after"), ("robots", "before"), ("robots", "after"), ("open", "before"), ("open", "after")]
+    names = [f"{step}-{when}" for step, when in points]
+    with users(f"acme:{CHEAP}") as file, pair("--htpasswd", file, tenants=tuple(f"{name}=100000000,65536" for name in names)) as both:
+        with concurrent.futures.ThreadPoolExecutor(len(points)) as pool:
+            list(pool.map(lambda point: check_robots_of_a_killed_move(both, f"{point[0]}-{point[1]}", *point), points))
+
+
+def robots_wait_over_restarts():
+    """The source is lost after the copy."""
+    with users(f"acme:{CHEAP}") as file, pair("--htpasswd", file) as both, tempfile.TemporaryDirectory() as folder:
+        secret = robots.add(both.control("one"), "ci", "read,write:acme")
+        client = both.one.client(basic(f"robot+ci:{secret}"))
+        assert push(client, "acme", "v1") == 201
+        balancer = killed_move(both, folder, "acme", "leave", "before")
+        both.one.process.kill()
+        both.one.process.wait()
+        both.restart("two")
+        assert not robots.may(both.two, "robot+ci", secret)
+        both.move("acme", "--keep", "to", *balancer.words())
+        both.restart("two")
+        assert robots.may(both.two, "robot+ci", secret) and push(both.two.client(basic(f"robot+ci:{secret}")), "acme", "v2") == 201
+        both.one = both.begin("one")
+
+
+def a_robot_that_differs_is_refused():
+    with users(f"acme:{CHEAP}") as file, pair("--htpasswd", file) as both:
+        first, second = (robots.add(both.control(name), "ci", f"read,write:{allow}") for name, allow in (("one", "acme"), ("two", "acme/app")))
+        before = robots.listed(both.control("two"))
+        assert push(both.one.client(basic(f"robot+ci:{first}")), "acme", "v1") == 201
+        error = both.fails()
+        assert "robot+ci arrives with the tenant, and there is another robot robot+ci: revoke one of the two" in error, error
+        assert both.stages() == (None, None) and robots.listed(both.control("two")) == before
+        for server, secret, tag in ((both.one, first, "v2"), (both.two, second, "own")):
+            assert push(server.client(basic(f"robot+ci:{secret}")), "acme", tag) == 201, tag
+        assert not robots.may(both.two, "robot+ci", first)
+        robots.robot(both.control("two"), "revoke", "ci")
+        both.move("acme", "--replace")
+        assert robots.may(both.two, "robot+ci", first) and not robots.may(both.two, "robot+ci", second)
+
+
+def a_target_without_users_gets_no_robots():
+    with users(f"acme:{CHEAP}") as file, pair(two_words=("--htpasswd", file)) as both:
+        secret = robots.add(both.control("two"), "ci", "read,write:acme")
+        client = both.two.client(basic(f"robot+ci:{secret}"))
+        assert push(client, "acme", "v1") == 201
+        error = both.fails("acme", back=True)
+        assert "acme has robots, and requests need no credentials here: give --htpasswd" in error, error
+        assert both.stages() == (None, None) and push(client, "acme", "v2") == 201
+        robots.robot(both.control("two"), "revoke", "ci")
+        both.move("acme", back=True)
+        assert pulls(both.one.client(), "acme", "v2")
 
 
 if __name__ == "__main__":
     play("moves", [kills_at_each_step, restarts_while_nobody_may_write, a_command_that_was_replaced_writes_nothing, a_target_that_cannot_have_it,
-                   a_target_whose_disk_is_full, other_content_is_not_overwritten, a_move_is_given_up,
+                   limits_that_are_not_checked, a_target_whose_disk_is_full, other_content_is_not_overwritten, a_move_is_given_up,
                    a_backup_from_before_a_move_does_not_have_it, routes_are_checked_first,
-                   open_uploads_are_waited_for, open_uploads_are_cut, pushes_that_are_in_progress_go_on, users_and_robots])
+                   open_uploads_are_waited_for, open_uploads_are_cut, pushes_that_are_in_progress_go_on, users_of_files_are_those_of_each_registry,
+                   rules_of_files_hold_where_they_are, robots_arrive_with_their_tenant, robots_of_a_killed_move_arrive_once, robots_wait_over_restarts,
+                   a_robot_that_differs_is_refused, a_target_without_users_gets_no_robots])

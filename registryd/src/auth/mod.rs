@@ -3,6 +3,7 @@ pub(crate) mod access;
 pub(crate) mod held_login;
 mod issuer_keys;
 mod key_set;
+pub(crate) mod moved_robots;
 pub(crate) mod oidc;
 mod oidc_file;
 mod password_queue;

@@ -1,7 +1,7 @@
 //! Rights of users in repositories, and the file that lists them.
 use crate::auth::reserved::check_unreserved;
 use crate::http::paths::Target;
-use crate::metadata::names::{check_prefix, is_below, is_repository, tenant_of};
+use crate::metadata::names::{check_prefix, is_below, is_repository, tenant_of, EVERYWHERE};
 use crate::operation::reload::{parse_lines, read_parsed};
 use hyper::Method;
 use std::collections::HashMap;
@@ -129,6 +129,19 @@ impl Grant {
     /// Returns whether it has a right in a repository.
     pub(super) fn allows(&self, right: Right, repo: &str) -> bool {
         self.rights.contains(&right) && is_below(repo, &self.prefix)
+    }
+
+    /// Returns whether it is one of a tenant alone.
+    pub(super) fn is_within(&self, tenant: &str) -> bool {
+        tenant_of(&self.prefix) == tenant
+    }
+
+    /// Returns the part of it that holds in a tenant, if there is one.
+    pub(super) fn within(&self, tenant: &str) -> Option<Grant> {
+        match self.prefix == EVERYWHERE {
+            true => Some(Grant { rights: self.rights.clone(), prefix: tenant.to_string() }),
+            false => self.is_within(tenant).then(|| self.clone()),
+        }
     }
 
     /// Returns whether it lets something of a tenant be read.

@@ -1,4 +1,5 @@
 //! Accounts of machines. Each has a secret that is shown once, rights of its own, and an end. The database has a hash of the secret.
+use crate::auth::moved_robots::MovedRobot;
 use crate::auth::reserved::{mover_of, MOVER, ROBOT};
 use crate::auth::rights::{Grant, Right};
 use crate::auth::same::is_same;
@@ -7,6 +8,7 @@ use crate::database::writer::{WriteFailure, Writer};
 use crate::metadata::clock::time_of_day;
 use crate::metadata::names::is_component;
 use crate::metadata::upload_names::Secret;
+use crate::moving::stage::MoveRow;
 use crate::operation::locks::guard_of;
 use serde::Deserialize;
 use serde_json::{json, Value};
@@ -20,24 +22,24 @@ const SECRET_PREFIX: &str = "regd_";
 
 /// The maximum length of a name without its prefix, and the maximum numbers of robots, and of the rights of one.
 const MAX_NAME: usize = 64;
-const MOST_ROBOTS: usize = 10_000;
-const MOST_GRANTS: usize = 100;
+pub(super) const MOST_ROBOTS: usize = 10_000;
+pub(super) const MOST_GRANTS: usize = 100;
 
 /// The length of a hash, in bytes.
-const HASH_LEN: usize = 32;
+pub(super) const HASH_LEN: usize = 32;
 
 /// A robot.
 #[derive(Debug)]
 pub(crate) struct Robot {
     /// The name with its prefix, which a client sends.
     pub(crate) name: String,
-    hash: [u8; HASH_LEN],
-    grants: Vec<Grant>,
+    pub(super) hash: [u8; HASH_LEN],
+    pub(super) grants: Vec<Grant>,
     /// The times of its making and of its end, by the time of day, in seconds since 1970.
-    made: u64,
-    ends: u64,
+    pub(super) made: u64,
+    pub(super) ends: u64,
     /// Whether it was revoked, although the database may still have it.
-    is_revoked: bool,
+    pub(super) is_revoked: bool,
 }
 
 /// A robot as the database has it.
@@ -67,6 +69,10 @@ pub(crate) struct NewRobot {
 #[derive(Debug)]
 pub(crate) enum RobotFault {
     Exists(String),
+    /// A robot of this name arrives with this tenant.
+    Arrives(String, String),
+    /// A robot arrives with a tenant, and there is another one of its name.
+    Differs(String),
     Unknown(String),
     Invalid(String),
     Full,
@@ -82,14 +88,21 @@ pub(crate) struct Robots {
     by_name: RwLock<BTreeMap<String, Arc<Robot>>>,
     /// The accounts of commands that move tenants, which last as long as the program.
     movers: RwLock<BTreeMap<String, Arc<Robot>>>,
+    /// The robots that wait for tenants that arrive here, by the tenant.
+    pub(super) waiting: RwLock<BTreeMap<String, Vec<MovedRobot>>>,
     writer: Option<Arc<Writer>>,
     /// Held while a robot is made or revoked.
-    changing: tokio::sync::Mutex<()>,
+    pub(super) changing: tokio::sync::Mutex<()>,
 }
 
 /// Returns the whole name of a robot whose name may lack its prefix.
 fn whole(name: &str) -> String {
     format!("{ROBOT}{}", name.strip_prefix(ROBOT).unwrap_or(name))
+}
+
+/// Returns whether a text is the name of a robot without its prefix.
+pub(super) fn is_name(text: &str) -> bool {
+    is_component(text) && text.len() <= MAX_NAME
 }
 
 /// Returns the hash of a secret. It is fast: nobody guesses a secret of 256 random bits, however fast the guesses are checked.
@@ -108,7 +121,7 @@ impl NewRobot {
     fn robot(&self, secret: &str, now: u64) -> Result<Robot, RobotFault> {
         let name = self.name.strip_prefix(ROBOT).unwrap_or(&self.name);
         let invalid = |why: String| Err(RobotFault::Invalid(why));
-        if !is_component(name) || name.len() > MAX_NAME {
+        if !is_name(name) {
             return invalid(format!(
                 "not a name of a robot: `{name}`: write small letters, digits and . _ -, at most {MAX_NAME}"
             ));
@@ -143,7 +156,7 @@ impl Robot {
         self.grants.iter().map(Grant::to_string).collect()
     }
 
-    fn row(&self) -> RobotRow {
+    pub(super) fn row(&self) -> RobotRow {
         let (name, hash, rights) = (self.name.clone(), self.hash.to_vec(), self.rights().join("\n"));
         RobotRow { name, hash, rights, made: self.made, ends: self.ends }
     }
@@ -184,18 +197,19 @@ impl Robot {
 }
 
 impl Robots {
-    /// Makes the table with the robots of a database.
-    pub(crate) fn new(writer: Option<Arc<Writer>>, rows: Vec<RobotRow>) -> Robots {
+    /// Makes the table with the robots of a database, and with those that wait for the tenants of these moves.
+    pub(crate) fn new(writer: Option<Arc<Writer>>, rows: Vec<RobotRow>, moves: &[MoveRow]) -> Robots {
         let robots = rows.into_iter().filter_map(Robot::of);
         let by_name = robots.map(|robot| (robot.name.clone(), Arc::new(robot))).collect();
-        Robots { by_name: RwLock::new(by_name), writer, ..Robots::default() }
+        let waiting = moves.iter().filter(|row| !row.robots.is_empty()).map(|row| (row.tenant.clone(), row.robots.clone()));
+        Robots { by_name: RwLock::new(by_name), waiting: RwLock::new(waiting.collect()), writer, ..Robots::default() }
     }
 
-    fn read(&self) -> RwLockReadGuard<'_, BTreeMap<String, Arc<Robot>>> {
+    pub(super) fn read(&self) -> RwLockReadGuard<'_, BTreeMap<String, Arc<Robot>>> {
         guard_of(self.by_name.read())
     }
 
-    fn write(&self) -> RwLockWriteGuard<'_, BTreeMap<String, Arc<Robot>>> {
+    pub(super) fn write(&self) -> RwLockWriteGuard<'_, BTreeMap<String, Arc<Robot>>> {
         guard_of(self.by_name.write())
     }
 
@@ -254,8 +268,11 @@ impl Robots {
         Ok((robot, secret))
     }
 
-    /// Fails if there is a robot with a name, or if there are too many.
+    /// Fails if there is a robot with a name or one arrives, or if there are too many.
     fn check_room(&self, name: &str) -> Result<(), RobotFault> {
+        if let Some(tenant) = self.arrives_with(name) {
+            return Err(RobotFault::Arrives(name.to_string(), tenant));
+        }
         let robots = self.read();
         match robots.contains_key(name) {
             true => Err(RobotFault::Exists(name.to_string())),
@@ -290,14 +307,14 @@ impl Robots {
 }
 
 #[cfg(test)]
-mod tests {
+pub(super) mod tests {
     use super::*;
 
-    fn new(name: &str, rights: &[&str], ends: u64) -> NewRobot {
+    pub(in crate::auth) fn new(name: &str, rights: &[&str], ends: u64) -> NewRobot {
         NewRobot { name: name.to_string(), rights: rights.iter().map(|text| text.to_string()).collect(), ends }
     }
 
-    fn soon() -> u64 {
+    pub(in crate::auth) fn soon() -> u64 {
         time_of_day() + 1000
     }
 
@@ -357,14 +374,14 @@ mod tests {
         assert!(robots.accept("robot+ci", &secret).is_none() && robots.accept("robot+ci", &other).is_some());
         // The time of its end is none of its time.
         let row = RobotRow { ends: time_of_day(), ..robots.list()[0].row() };
-        let ended = Robots::new(None, vec![row.clone()]);
+        let ended = Robots::new(None, vec![row.clone()], &[]);
         assert!(ended.accept("robot+ci", &other).is_none() && ended.list()[0].json()["state"] == "ended");
-        let active = Robots::new(None, vec![RobotRow { ends: soon(), ..row.clone() }]);
+        let active = Robots::new(None, vec![RobotRow { ends: soon(), ..row.clone() }], &[]);
         assert!(active.accept("robot+ci", &other).is_some());
         active.refuse("robot+ci").unwrap();
         assert!(active.accept("robot+ci", &other).is_none() && active.list()[0].json()["state"] == "revoked");
         let damaged = [RobotRow { hash: vec![0; 31], ..row.clone() }, RobotRow { rights: "read".to_string(), ..row }];
-        assert!(Robots::new(None, damaged.to_vec()).list().is_empty());
+        assert!(Robots::new(None, damaged.to_vec(), &[]).list().is_empty());
     }
 
     #[tokio::test]

@@ -1,4 +1,5 @@
 //! The commands for tenants that move to other registries.
+use crate::auth::moved_robots::MovedRobot;
 use crate::control::robots::reply;
 use crate::control::server::invalid;
 use crate::endpoints::registry::Registry;
@@ -23,15 +24,23 @@ const ATTEMPTS: (usize, Duration) = (50, Duration::from_millis(20));
 pub(crate) enum Step {
     /// Begins or continues a move to another registry.
     Copy { other: String },
-    /// Begins or continues the arrival from another registry. `replace` allows it to delete what the tenant has here.
-    Receive { other: String, replace: bool },
+    /// Begins or continues the arrival from another registry. `replace` allows it to delete what the tenant has here. The robots wait for
+    /// the tenant, in place of those that wait; without them these stay.
+    Receive {
+        other: String,
+        replace: bool,
+        #[serde(default, skip_serializing_if = "Option::is_none")]
+        robots: Option<Vec<MovedRobot>>,
+    },
+    /// Lets robots wait for the tenant that arrives, in place of those that wait.
+    Robots { secret: String, robots: Vec<MovedRobot> },
     /// Ends the writes of clients, if no request is open. `cut` abandons the open uploads before.
     Close { secret: String, cut: bool },
     /// Lets clients write again that attempts to close the tenant refuse.
     Resume { secret: String },
     /// Notes that the other registry is about to get the tenant.
     Leave { secret: String },
-    /// Lets clients write.
+    /// Lets clients write, and makes the robots that wait for the tenant.
     Open { secret: String },
 }
 
@@ -40,6 +49,7 @@ impl Step {
         match self {
             Step::Copy { .. } => "move-copy",
             Step::Receive { .. } => "move-receive",
+            Step::Robots { .. } => "move-robots",
             Step::Close { .. } => "move-close",
             Step::Resume { .. } => "move-resume",
             Step::Leave { .. } => "move-leave",
@@ -50,7 +60,11 @@ impl Step {
     fn secret(&self) -> Option<&str> {
         match self {
             Step::Copy { .. } | Step::Receive { .. } => None,
-            Step::Close { secret, .. } | Step::Resume { secret } | Step::Leave { secret } | Step::Open { secret } => Some(secret),
+            Step::Robots { secret, .. }
+            | Step::Close { secret, .. }
+            | Step::Resume { secret }
+            | Step::Leave { secret }
+            | Step::Open { secret } => Some(secret),
         }
     }
 }
@@ -63,6 +77,7 @@ impl From<MoveFault> for Fault {
             MoveFault::Busy { requests, uploads } => {
                 Fault::unavailable(&format!("the tenant has {requests} open requests and {uploads} open uploads"))
             }
+            MoveFault::Robot(fault) => fault.into(),
             MoveFault::Write(failure) => failure.into(),
             MoveFault::NoSecret(error) => Fault::unavailable(&format!("cannot make a secret: {error}")),
         }
@@ -96,6 +111,9 @@ pub(crate) struct State {
     pub(crate) max_blob: u64,
     /// The secret of the command, if the step made it.
     pub(crate) secret: Option<String>,
+    /// The robots that move with the tenant. Missing after a step, and in the reply of an earlier version.
+    #[serde(default)]
+    pub(crate) robots: Option<Vec<MovedRobot>>,
 }
 
 /// Returns the state of a tenant's move.
@@ -123,6 +141,7 @@ async fn state(registry: &Registry, tenant: &str) -> Result<State, Fault> {
         most_tags: bounds.tags,
         max_blob: registry.max_blob,
         secret: None,
+        robots: None,
     })
 }
 
@@ -133,7 +152,8 @@ fn reply_with(state: &State) -> HandlerResult {
 
 /// Returns the state of a tenant's move.
 pub(super) async fn show(registry: &Registry, tenant: &str) -> HandlerResult {
-    reply_with(&state(registry, tenant).await?)
+    let robots = Some(registry.access.robots.moving_with(tenant));
+    reply_with(&State { robots, ..state(registry, tenant).await? })
 }
 
 /// Makes a step of a move, and returns the state after it, which is that before it if requests are open that it waits for.
@@ -147,7 +167,7 @@ pub(super) async fn step(registry: &Registry, tenant: &str, content: &[u8]) -> H
     }
     let secret = match make(registry, tenant, &step).await {
         Ok(secret) => secret,
-        Err(MoveFault::Busy { .. }) => return show(registry, tenant).await,
+        Err(MoveFault::Busy { .. }) => return reply_with(&state(registry, tenant).await?),
         Err(fault) => return Err(fault.into()),
     };
     tracing::info!(tenant, step = step.word(), "a move of the tenant");
@@ -163,17 +183,30 @@ async fn make(registry: &Registry, tenant: &str, step: &Step) -> Result<Option<S
             Err(MoveFault::Stage(format!("{tenant} is a mirror: start the registry without --mirror-of")))
         }
         Step::Copy { other } => moves.begin_source(tenant, other, &access.robots).await.map(Some),
-        Step::Receive { other, replace } => {
-            let may_replace = *replace || registry.manifests.totals(tenant).manifests == 0;
-            moves.begin_target(tenant, other, may_replace, &access.robots).await.map(Some)
+        Step::Receive { robots: Some(robots), .. } | Step::Robots { robots, .. }
+            if !robots.is_empty() && !access.wants_credentials() =>
+        {
+            let why = "has robots, and requests need no credentials here: give --htpasswd, --oidc or --token-key to the registry";
+            Err(MoveFault::Stage(format!("{tenant} {why}")))
         }
+        Step::Receive { other, replace, robots } => {
+            let may_replace = *replace || registry.manifests.totals(tenant).manifests == 0;
+            moves.begin_target(tenant, other, may_replace, robots.clone(), &access.robots).await.map(Some)
+        }
+        Step::Robots { robots, .. } => moves.expect_robots(tenant, robots.clone(), &access.robots).await.map(|()| None),
         Step::Close { cut, .. } => {
             moves.close(tenant, *cut, || registry.uploads.names_of(tenant).len()).await?;
             Ok(None)
         }
         Step::Resume { .. } => moves.resume(tenant).map(|()| None),
         Step::Leave { .. } => moves.leave(tenant).await.map(|()| None),
-        Step::Open { .. } => moves.open(tenant, &access.robots).await.map(|()| None),
+        Step::Open { .. } => {
+            for robot in moves.open(tenant, &access.robots).await? {
+                tracing::info!(%robot, tenant, "a robot arrived with the tenant");
+                audit::write_robot("robot-arrive", &robot);
+            }
+            Ok(None)
+        }
     }
 }
 

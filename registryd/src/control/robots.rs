@@ -19,6 +19,13 @@ impl From<RobotFault> for Fault {
             RobotFault::Exists(name) => {
                 Fault::new(StatusCode::CONFLICT, "DENIED", format!("there is a robot {name}: revoke it first"))
             }
+            RobotFault::Arrives(name, tenant) => {
+                Fault::new(StatusCode::CONFLICT, "DENIED", format!("the robot {name} arrives with the tenant {tenant}"))
+            }
+            RobotFault::Differs(name) => {
+                let text = format!("{name} arrives with the tenant, and there is another robot {name}: revoke one of the two");
+                Fault::new(StatusCode::CONFLICT, "DENIED", text)
+            }
             RobotFault::Unknown(name) => Fault::new(StatusCode::NOT_FOUND, "NAME_UNKNOWN", format!("there is no robot {name}")),
             RobotFault::Invalid(why) => invalid(&why),
             RobotFault::Full => Fault::new(StatusCode::FORBIDDEN, "DENIED", "there are too many robots: revoke some"),

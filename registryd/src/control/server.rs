@@ -35,8 +35,9 @@ const MOST_CONNECTIONS: usize = 8;
 const HEAD_TIME: Duration = Duration::from_secs(10);
 const CONNECTION_TIME: Duration = Duration::from_secs(600);
 
-/// The maximum length of the content of a request, in bytes, and its time limit.
+/// The maximum length of the content of a request, and of one that has the robots of a tenant, in bytes, and the time limit of both.
 const MAX_CONTENT: usize = 1 << 20;
+const MAX_ROBOTS: usize = 16 << 20;
 const CONTENT_TIME: Duration = Duration::from_secs(10);
 
 /// The pause after a connection could not be accepted.
@@ -94,9 +95,9 @@ async fn reply(registry: Arc<Registry>, request: Request<Body>) -> HandlerResult
     let path = head.uri.path();
     let name = path.strip_prefix(ROBOTS).and_then(|rest| rest.strip_prefix('/')).and_then(decoded);
     match (&head.method, path, name) {
-        (&Method::POST, PREVIEW, _) => preview(registry, &content(body).await?),
+        (&Method::POST, PREVIEW, _) => preview(registry, &content(body, MAX_CONTENT).await?),
         (&Method::GET, ROBOTS, _) => robots::list(&registry),
-        (&Method::POST, ROBOTS, _) => robots::add(&registry, &content(body).await?).await,
+        (&Method::POST, ROBOTS, _) => robots::add(&registry, &content(body, MAX_CONTENT).await?).await,
         (&Method::DELETE, _, Some(name)) => robots::revoke(&registry, &name).await,
         (method, path, _) => match path.strip_prefix(MOVES).and_then(|rest| rest.strip_prefix('/')) {
             Some(rest) => reply_on_move(registry, method, rest, body).await,
@@ -110,7 +111,7 @@ async fn reply_on_move(registry: Arc<Registry>, method: &Method, rest: &str, bod
     match (method, rest.strip_suffix(CONTENTS)) {
         (&Method::GET, Some(tenant)) => registry.contents(tenant.to_string()),
         (&Method::GET, None) => moves::show(&registry, rest).await,
-        (&Method::POST, None) => moves::step(&registry, rest, &content(body).await?).await,
+        (&Method::POST, None) => moves::step(&registry, rest, &content(body, MAX_ROBOTS).await?).await,
         _ => Err(Fault::path()),
     }
 }
@@ -120,14 +121,15 @@ pub(super) fn invalid(why: &str) -> Fault {
     Fault::new(StatusCode::BAD_REQUEST, "UNSUPPORTED", why)
 }
 
-/// Reads the content of a request.
-async fn content(mut body: Body) -> Result<Vec<u8>, Fault> {
+/// Reads the content of a request, which has this number of bytes at most.
+async fn content(mut body: Body, most: usize) -> Result<Vec<u8>, Fault> {
     let read = async {
         let mut content = Vec::new();
         while let Some(part) = body.data().await {
             let part: Bytes = part.map_err(|_| Fault::cut_off())?;
-            if content.len() + part.len() > MAX_CONTENT {
-                return Err(Fault::new(StatusCode::PAYLOAD_TOO_LARGE, "SIZE_INVALID", "the content is longer than 1 MiB"));
+            if content.len() + part.len() > most {
+                let text = format!("the content is longer than {} MiB", most >> 20);
+                return Err(Fault::new(StatusCode::PAYLOAD_TOO_LARGE, "SIZE_INVALID", text));
             }
             content.extend_from_slice(&part);
         }

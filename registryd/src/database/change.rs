@@ -114,10 +114,11 @@ pub(crate) enum Change {
     RemoveRobot {
         name: String,
     },
-    /// A tenant's move to another registry has reached a stage that a restart keeps, or no such stage.
+    /// A tenant's move to another registry has reached a stage that a restart keeps, or no such stage. The robots have arrived with it.
     SetMove {
         tenant: String,
         row: Option<MoveRow>,
+        robots: Vec<RobotRow>,
     },
     /// The log is on the disk up to this end.
     KeepLogEnd {

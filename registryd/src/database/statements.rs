@@ -176,7 +176,13 @@ fn make_other<'c>(
             run(query, params![name, hash, rights, *made as i64, *ends as i64])
         }
         Change::RemoveRobot { name } => run("DELETE FROM robots WHERE name = ?1", params![name]),
-        Change::SetMove { tenant, row } => marks::put_move(transaction, tenant, row.as_ref()),
+        Change::SetMove { tenant, row, robots } => {
+            for RobotRow { name, hash, rights, made, ends } in robots {
+                let query = "INSERT OR REPLACE INTO robots (name, hash, rights, made, ends) VALUES (?1, ?2, ?3, ?4, ?5)";
+                run(query, params![name, hash, rights, *made as i64, *ends as i64])?;
+            }
+            marks::put_move(transaction, tenant, row.as_ref())
+        }
         Change::KeepLogEnd { end } => marks::put_log_end(transaction, *end),
         Change::PassEvents { passed } => event_rows::pass(transaction, passed),
         Change::RestoreManifest { .. } | Change::RemoveTag { .. } | Change::RemoveManifest { .. } | Change::ExpireTags { .. } => {
@@ -277,13 +283,30 @@ mod tests {
     #[test]
     fn the_last_stage_of_a_move_is_kept() {
         let folder = TestFolder::new();
-        let row = |tenant: &str, stage| MoveRow { tenant: tenant.to_string(), stage, other: "http://two".to_string() };
-        let set = |row: MoveRow| Change::SetMove { tenant: row.tenant.clone(), row: Some(row) };
+        let row = |tenant: &str, stage| MoveRow {
+            tenant: tenant.to_string(),
+            stage,
+            other: "http://two".to_string(),
+            robots: Vec::new(),
+        };
+        let set = |row: MoveRow| Change::SetMove { tenant: row.tenant.clone(), row: Some(row), robots: Vec::new() };
         let changes = [set(row("a", Stage::Closed)), set(row("b", Stage::Arriving)), set(row("a", Stage::Left))];
         folder.open().commit(changes.iter(), &[], 1).unwrap();
         assert_eq!(folder.open().read().unwrap().moves, [row("a", Stage::Left), row("b", Stage::Arriving)]);
-        folder.open().commit([Change::SetMove { tenant: "b".to_string(), row: None }].iter(), &[], 2).unwrap();
-        assert_eq!(folder.open().read().unwrap().moves, [row("a", Stage::Left)]);
+        // The robots arrive in the transaction that ends the stage. One that is there has its rights in further tenants.
+        let robot = |name: &str, rights: &str| RobotRow {
+            name: name.to_string(),
+            hash: vec![7; 32],
+            rights: rights.to_string(),
+            made: 5,
+            ends: 8,
+        };
+        let known = Change::AddRobot { row: robot("robot+a", "read c") };
+        let robots = vec![robot("robot+a", "read c\nread b"), robot("robot+b", "read b")];
+        let opened = Change::SetMove { tenant: "b".to_string(), row: None, robots: robots.clone() };
+        folder.open().commit([known, opened].iter(), &[], 2).unwrap();
+        let rows = folder.open().read().unwrap();
+        assert_eq!((rows.moves, rows.robots), (vec![row("a", Stage::Left)], robots));
     }
 
     #[test]

@@ -19,7 +19,7 @@ pub(crate) fn is_component(text: &str) -> bool {
 }
 
 /// The prefix of all repositories in the files of rights and of immutable tags.
-const EVERYWHERE: &str = "*";
+pub(crate) const EVERYWHERE: &str = "*";
 
 /// Checks that a text of a file is a prefix of repositories: `*`, or a repository's name.
 ///

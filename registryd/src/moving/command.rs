@@ -3,6 +3,7 @@
 //! Clients write at one registry at most at any time, also if the command is killed. The target refuses them until it has all. The source
 //! refuses them before the rest is copied, and notes that it will never take them again before the target takes them. Both keep this over
 //! restarts. So a command that is started again goes on with what it finds.
+use crate::auth::moved_robots::MovedRobot;
 use crate::control::client::print;
 use crate::control::commands::{MoveCommand, Side};
 use crate::control::moves::{State, Step};
@@ -35,6 +36,8 @@ struct Move {
     options: MoveCommand,
     copier: Arc<Copier>,
     balancer: Option<Balancer>,
+    /// The robots that were sent when the move began, if both registries have such.
+    robots: Option<Vec<MovedRobot>>,
     /// Since when clients cannot write.
     held: Option<Instant>,
 }
@@ -55,9 +58,9 @@ pub(crate) async fn run(options: &MoveCommand) -> Result<(), String> {
     if let Some(balancer) = &balancer {
         check_route(balancer, options, &source).await?;
     }
-    let stage = begin(options, &mut source, &mut target).await?;
+    let (stage, robots) = begin(options, &mut source, &mut target).await?;
     let copier = Arc::new(Copier::new(source, target));
-    let mut moving = Move { options: options.clone(), copier, balancer, held: None };
+    let mut moving = Move { options: options.clone(), copier, balancer, robots, held: None };
     if stage != Some(Stage::Left) {
         moving.copy_or_undo().await?;
     }
@@ -89,7 +92,7 @@ async fn give_up(
                     return Err(format!("{from} replies and has not given {tenant} away: move it again without --keep"));
                 }
             }
-            target.begin(&Step::Receive { other: from.clone(), replace: false }).await?;
+            target.begin(&Step::Receive { other: from.clone(), replace: false, robots: None }).await?;
             target.open().await?;
             if let Some(balancer) = balancer {
                 balancer.switch().await?;
@@ -123,8 +126,12 @@ fn check_room(source: &State, target: &State) -> Result<(), String> {
     check("tags", source.tags, target.most_tags)
 }
 
-/// Begins or continues the move at both registries. Returns the stage at the source.
-async fn begin(options: &MoveCommand, source: &mut Peer, target: &mut Peer) -> Result<Option<Stage>, String> {
+/// Begins or continues the move at both registries. Returns the stage at the source, and the robots that wait at the target.
+async fn begin(
+    options: &MoveCommand,
+    source: &mut Peer,
+    target: &mut Peer,
+) -> Result<(Option<Stage>, Option<Vec<MovedRobot>>), String> {
     let MoveCommand { tenant, from, to, replace, .. } = options;
     let (before, room) = (source.state().await?, target.state().await?);
     check_room(&before, &room)?;
@@ -132,17 +139,29 @@ async fn begin(options: &MoveCommand, source: &mut Peer, target: &mut Peer) -> R
         // The target was opened. Only the route and the delete may be left.
         let state = source.begin(&Step::Copy { other: to.clone() }).await?;
         return match room.stage {
-            None => Ok(state.stage),
+            None => Ok((state.stage, None)),
             Some(_) => Err(format!("{tenant} has moved from {from} to {to}, and on to {}", room.other)),
         };
     }
-    target.begin(&Step::Receive { other: from.clone(), replace: *replace }).await?;
+    // An earlier version sends none, and expects none.
+    let robots = before.robots.filter(|_| room.robots.is_some());
+    target.begin(&Step::Receive { other: from.clone(), replace: *replace, robots: robots.clone() }).await?;
     let state = source.begin(&Step::Copy { other: to.clone() }).await?;
-    let known = target.robots().await?;
-    for robot in source.robots().await?.iter().filter(|robot| !known.contains(robot)) {
+    warn_of_robots(options, source, target, robots.as_deref().unwrap_or_default()).await?;
+    Ok((state.stage, robots))
+}
+
+/// Prints the robots that are at one side alone after the move.
+async fn warn_of_robots(options: &MoveCommand, source: &Peer, target: &Peer, moved: &[MovedRobot]) -> Result<(), String> {
+    let MoveCommand { tenant, from, to, .. } = options;
+    let (at_source, at_target) = (source.robots(true).await?, target.robots(true).await?);
+    for robot in at_source.iter().filter(|name| !at_target.contains(name) && !moved.iter().any(|robot| robot.name == **name)) {
         print(&format!("warning: {robot} has rights in {tenant} at {from}, and does not exist at {to}"));
     }
-    Ok(state.stage)
+    for robot in target.robots(false).await?.iter().filter(|name| !at_source.contains(name)) {
+        print(&format!("warning: {robot} has rights in {tenant} at {to}, and does not exist at {from}"));
+    }
+    Ok(())
 }
 
 impl Move {
@@ -176,6 +195,20 @@ impl Move {
         let begun = Instant::now();
         let tally = self.copier.finish().await?;
         print(&format!("copied {} and compared in {:.2} s", text(&tally), begun.elapsed().as_secs_f64()));
+        self.send_robots().await
+    }
+
+    /// Sends the robots again if some were made or revoked during the copy.
+    async fn send_robots(&self) -> Result<(), String> {
+        let Copier { source, target, .. } = &*self.copier;
+        if let (Some(sent), Some(robots)) = (&self.robots, source.state().await?.robots) {
+            for robot in &robots {
+                print(&format!("{} moves with the tenant", robot.name));
+            }
+            if robots != *sent {
+                target.expect_robots(robots).await?;
+            }
+        }
         Ok(())
     }
 

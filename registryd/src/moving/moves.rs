@@ -1,6 +1,7 @@
 //! The moves of a registry's tenants: their stages, and which changes of a tenant are in progress. A tenant is closed only when no request
 //! is changing it and no upload of it is open. So what was acknowledged before is all there, and nothing is acknowledged afterwards.
-use crate::auth::robots::Robots;
+use crate::auth::moved_robots::{Arrival, MovedRobot};
+use crate::auth::robots::{RobotFault, Robots};
 use crate::database::change::Change;
 use crate::database::writer::{WriteFailure, Writer};
 use crate::http::fault::Fault;
@@ -77,6 +78,8 @@ pub(crate) enum MoveFault {
         requests: usize,
         uploads: usize,
     },
+    /// A robot cannot arrive with the tenant.
+    Robot(RobotFault),
     Write(WriteFailure),
     NoSecret(std::io::Error),
 }
@@ -115,7 +118,7 @@ impl Moves {
     /// Makes the table for these tenants, with the stages of a database.
     pub(crate) fn new(tenants: &[String], writer: Option<Arc<Writer>>, rows: Vec<MoveRow>) -> Moves {
         let mut by_tenant: HashMap<_, _> = tenants.iter().map(|tenant| (tenant.clone(), Arc::default())).collect();
-        for MoveRow { tenant, stage, other } in rows {
+        for MoveRow { tenant, stage, other, .. } in rows {
             tracing::warn!(%tenant, stage = stage.word(), %other, "the tenant is being moved, or was: clients do not write");
             by_tenant.insert(tenant, Arc::new(Mutex::new(State { stage: Some(stage), other, ..State::default() })));
         }
@@ -174,12 +177,20 @@ impl Moves {
         })
     }
 
-    /// Writes a stage into the database, if there is one.
-    async fn record(&self, tenant: &str, stage: Option<Stage>, other: &str) -> Result<(), MoveFault> {
+    /// Writes a stage into the database, if there is one, with what becomes of the robots that arrive with the tenant.
+    async fn record(
+        &self,
+        tenant: &str,
+        stage: Option<Stage>,
+        other: &str,
+        arrival: Option<&Arrival<'_>>,
+    ) -> Result<(), MoveFault> {
         let kept = stage.filter(|stage| stage.is_kept());
-        let row = kept.map(|stage| MoveRow { tenant: tenant.to_string(), stage, other: other.to_string() });
+        let waiting = arrival.map_or_else(Vec::new, |arrival| arrival.waiting.clone());
+        let row = kept.map(|stage| MoveRow { tenant: tenant.to_string(), stage, other: other.to_string(), robots: waiting });
         if let Some(writer) = &self.writer {
-            let change = Change::SetMove { tenant: tenant.to_string(), row };
+            let robots = arrival.map_or_else(Vec::new, Arrival::rows);
+            let change = Change::SetMove { tenant: tenant.to_string(), row, robots };
             writer.write(change).await.map_err(MoveFault::Write)?;
         }
         Ok(())
@@ -187,13 +198,26 @@ impl Moves {
 
     /// Writes a stage into the database, and then sets it.
     async fn set(&self, tenant: &str, stage: Option<Stage>, other: &str) -> Result<(), MoveFault> {
-        self.record(tenant, stage, other).await?;
+        self.set_with(tenant, stage, other, None).await.map(|_| ())
+    }
+
+    /// Writes a stage into the database with what becomes of robots, and then sets it. Returns the names of the robots that arrived.
+    async fn set_with(
+        &self,
+        tenant: &str,
+        stage: Option<Stage>,
+        other: &str,
+        arrival: Option<Arrival<'_>>,
+    ) -> Result<Vec<String>, MoveFault> {
+        self.record(tenant, stage, other, arrival.as_ref()).await?;
+        // A robot is accepted before a client writes.
+        let arrived = arrival.map_or_else(Vec::new, Arrival::end);
         let mut state = self.state(tenant)?;
         (state.stage, state.other, state.closing_until) = (stage, other.to_string(), None);
         if stage.is_none() {
             state.named.clear();
         }
-        Ok(())
+        Ok(arrived)
     }
 
     /// Begins or continues a move of a tenant to another registry. Returns the secret of the command, which is the only one from now on.
@@ -213,12 +237,14 @@ impl Moves {
         robots.begin_move(tenant).map_err(MoveFault::NoSecret)
     }
 
-    /// Begins or continues the arrival of a tenant from another registry. `may_have_content` is whether it may replace what is here.
+    /// Begins or continues the arrival of a tenant from another registry. `may_have_content` is whether it may replace what is here. These
+    /// robots wait for the tenant, or those that wait already.
     pub(crate) async fn begin_target(
         &self,
         tenant: &str,
         source: &str,
         may_have_content: bool,
+        moved: Option<Vec<MovedRobot>>,
         robots: &Robots,
     ) -> Result<String, MoveFault> {
         let _changing = self.changing.lock().await;
@@ -230,9 +256,22 @@ impl Moves {
                 let why = "already has content of its own here: delete it, or give --replace to let the move delete it";
                 return Err(MoveFault::Stage(format!("{tenant} {why}")));
             }
-            None | Some(Stage::Left | Stage::Arriving) => self.set(tenant, Some(Stage::Arriving), source).await?,
+            None | Some(Stage::Left | Stage::Arriving) => {}
         }
+        let arrival = robots.expect(tenant, moved).await.map_err(MoveFault::Robot)?;
+        self.set_with(tenant, Some(Stage::Arriving), source, Some(arrival)).await?;
         robots.begin_move(tenant).map_err(MoveFault::NoSecret)
+    }
+
+    /// Lets robots wait for a tenant that arrives, in place of those that wait for it.
+    pub(crate) async fn expect_robots(&self, tenant: &str, moved: Vec<MovedRobot>, robots: &Robots) -> Result<(), MoveFault> {
+        let _changing = self.changing.lock().await;
+        let Shown { stage, other, .. } = self.show(tenant)?;
+        if stage != Some(Stage::Arriving) {
+            return Err(MoveFault::Stage(format!("{tenant} is not arriving here")));
+        }
+        let arrival = robots.expect(tenant, Some(moved)).await.map_err(MoveFault::Robot)?;
+        self.set_with(tenant, stage, &other, Some(arrival)).await.map(|_| ())
     }
 
     /// Lets nobody write a tenant any more, if no request is changing it and no upload is open. `ignores_uploads` is whether requests
@@ -259,7 +298,7 @@ impl Moves {
             state.stage = Some(Stage::Closed);
             state.other.clone()
         };
-        let recorded = self.record(tenant, Some(Stage::Closed), &other).await;
+        let recorded = self.record(tenant, Some(Stage::Closed), &other, None).await;
         if let Err(MoveFault::Write(WriteFailure::NoRoom)) = recorded {
             self.state(tenant)?.stage = Some(Stage::Copying);
         }
@@ -283,8 +322,9 @@ impl Moves {
         }
     }
 
-    /// Lets clients write a tenant: one that has arrived, or whose move away is given up before its end.
-    pub(crate) async fn open(&self, tenant: &str, robots: &Robots) -> Result<(), MoveFault> {
+    /// Lets clients write a tenant: one that has arrived, or whose move away is given up before its end. Makes the robots that wait for it,
+    /// and returns their names.
+    pub(crate) async fn open(&self, tenant: &str, robots: &Robots) -> Result<Vec<String>, MoveFault> {
         let _changing = self.changing.lock().await;
         let Shown { stage, other, requests, .. } = self.show(tenant)?;
         match stage {
@@ -292,9 +332,10 @@ impl Moves {
             Some(Stage::Arriving) if requests > 0 => return Err(MoveFault::Busy { requests, uploads: 0 }),
             None | Some(Stage::Copying | Stage::Closed | Stage::Arriving) => {}
         }
-        self.set(tenant, None, "").await?;
+        let arrival = robots.arrive(tenant).await.map_err(MoveFault::Robot)?;
+        let arrived = self.set_with(tenant, None, "", Some(arrival)).await?;
         robots.end_move(tenant);
-        Ok(())
+        Ok(arrived)
     }
 }
 
@@ -318,7 +359,7 @@ mod tests {
         let (target, others) = moves();
         assert_eq!((admits(&source), admits(&target)), ((true, true), (true, true)));
         source.begin_source("acme", "http://two", &robots).await.unwrap();
-        target.begin_target("acme", "http://one", true, &others).await.unwrap();
+        target.begin_target("acme", "http://one", true, None, &others).await.unwrap();
         assert_eq!((admits(&source), admits(&target)), ((true, true), (false, true)));
         assert!(source.leave("acme").await.is_err(), "it is not closed");
         source.close("acme", false, || 0).await.unwrap();
@@ -331,7 +372,7 @@ mod tests {
         assert!(source.begin_source("acme", "http://three", &robots).await.is_err());
         // Back again.
         target.begin_source("acme", "http://one", &others).await.unwrap();
-        source.begin_target("acme", "http://two", false, &robots).await.unwrap();
+        source.begin_target("acme", "http://two", false, None, &robots).await.unwrap();
         assert_eq!((admits(&source), admits(&target)), ((false, true), (true, true)));
     }
 
@@ -365,16 +406,16 @@ mod tests {
     #[tokio::test]
     async fn a_target_with_content_of_its_own_is_not_overwritten() {
         let (moves, robots) = moves();
-        assert!(moves.begin_target("acme", "x", false, &robots).await.is_err());
-        moves.begin_target("acme", "x", true, &robots).await.unwrap();
+        assert!(moves.begin_target("acme", "x", false, None, &robots).await.is_err());
+        moves.begin_target("acme", "x", true, None, &robots).await.unwrap();
         // The copies of an interrupted move are no content of its own.
-        moves.begin_target("acme", "x", false, &robots).await.unwrap();
+        moves.begin_target("acme", "x", false, None, &robots).await.unwrap();
         assert!(moves.begin_source("acme", "y", &robots).await.is_err());
         let change = moves.begin("acme/web", Kind::Other, true).ok().unwrap();
         assert!(matches!(moves.open("acme", &robots).await, Err(MoveFault::Busy { .. })));
         drop(change);
         moves.open("acme", &robots).await.unwrap();
-        assert!(matches!(moves.begin_target("none", "x", true, &robots).await, Err(MoveFault::NoTenant(_))));
+        assert!(matches!(moves.begin_target("none", "x", true, None, &robots).await, Err(MoveFault::NoTenant(_))));
     }
 
     #[tokio::test]
@@ -392,7 +433,7 @@ mod tests {
 
     #[test]
     fn a_restart_keeps_who_may_write() {
-        let row = |stage| MoveRow { tenant: "acme".to_string(), stage, other: "x".to_string() };
+        let row = |stage| MoveRow { tenant: "acme".to_string(), stage, other: "x".to_string(), robots: Vec::new() };
         for (stage, expected) in [(Stage::Closed, (false, false)), (Stage::Left, (false, true)), (Stage::Arriving, (false, true))]
         {
             assert_eq!(admits(&Moves::new(&["acme".to_string()], None, vec![row(stage)])), expected, "{stage:?}");

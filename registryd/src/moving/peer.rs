@@ -1,8 +1,10 @@
 //! A registry as the command reaches it that moves a tenant: by its socket for the steps, and by its URL for the contents.
+use crate::auth::moved_robots::MovedRobot;
 use crate::control::client::{message, next_part, send, value_of};
 use crate::control::moves::{State, Step};
 use crate::control::server::{CONTENTS, MOVES, ROBOTS};
 use crate::http::client::{with_causes, HttpClient, AGENT};
+use crate::metadata::names::{tenant_of, EVERYWHERE};
 use crate::moving::contents::{Image, Line};
 use bytes::Bytes;
 use hyper::header::{HeaderValue, AUTHORIZATION, CONTENT_LENGTH, CONTENT_TYPE, RETRY_AFTER, USER_AGENT};
@@ -111,17 +113,25 @@ impl Peer {
         self.step(&Step::Open { secret: self.secret.clone() }).await
     }
 
-    /// Returns the names of the accounts of machines that have rights in the tenant there.
-    pub(super) async fn robots(&self) -> Result<Vec<String>, String> {
+    /// Lets robots wait for the tenant there.
+    pub(super) async fn expect_robots(&self, robots: Vec<MovedRobot>) -> Result<State, String> {
+        self.step(&Step::Robots { secret: self.secret.clone(), robots }).await
+    }
+
+    /// Returns the names of the robots that have rights in the tenant there and were not revoked and have not ended. `in_all` is whether
+    /// those count that have rights everywhere.
+    pub(super) async fn robots(&self, in_all: bool) -> Result<Vec<String>, String> {
         let value = value_of(send(&self.control, Method::GET, ROBOTS, Vec::new()).await?).await?;
         let robots = value["robots"].as_array().cloned().unwrap_or_default();
         let reaches = |robot: &Value| {
             let rights = robot["rights"].as_array().into_iter().flatten().filter_map(Value::as_str);
-            rights
-                .filter_map(|right| right.split_once(' '))
-                .any(|(_, prefix)| prefix == "*" || prefix == self.tenant || prefix.starts_with(&format!("{}/", self.tenant)))
+            rights.filter_map(|right| right.split_once(' ')).any(|(_, prefix)| match prefix == EVERYWHERE {
+                true => in_all,
+                false => tenant_of(prefix) == self.tenant,
+            })
         };
-        Ok(robots.iter().filter(|robot| reaches(robot)).filter_map(|robot| robot["name"].as_str().map(str::to_string)).collect())
+        let active = robots.iter().filter(|robot| robot["state"] == "active" && reaches(robot));
+        Ok(active.filter_map(|robot| robot["name"].as_str().map(str::to_string)).collect())
     }
 
     /// Returns what the tenant has there.

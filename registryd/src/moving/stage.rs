@@ -1,4 +1,5 @@
 //! The stages of a move, at the registry that has the tenant (the source) and at the one that gets it (the target).
+use crate::auth::moved_robots::MovedRobot;
 use serde::{Deserialize, Serialize};
 
 /// The stage of a move at one registry.
@@ -22,6 +23,8 @@ pub(crate) struct MoveRow {
     pub(crate) stage: Stage,
     /// The URL of the other registry.
     pub(crate) other: String,
+    /// The robots that wait for the opening of the tenant here.
+    pub(crate) robots: Vec<MovedRobot>,
 }
 
 impl Stage {
@@ -45,16 +48,25 @@ impl Stage {
 }
 
 impl MoveRow {
-    /// Returns the text of the stage and of the other registry, for the database.
+    /// Returns the text of the stage and of the other registry, for the database. A second line has the robots, if there are any.
     pub(crate) fn text(&self) -> String {
-        format!("{} {}", self.stage.word(), self.other)
+        let robots = match self.robots.is_empty() {
+            true => String::new(),
+            false => serde_json::to_string(&self.robots).map_or_else(|_| String::new(), |text| format!("\n{text}")),
+        };
+        format!("{} {}{robots}", self.stage.word(), self.other)
     }
 
     /// Returns the row of a text of the database, if it is understood.
     pub(crate) fn of(tenant: &str, text: &str) -> Option<MoveRow> {
-        let (word, other) = text.split_once(' ')?;
+        let (line, robots) = text.split_once('\n').unwrap_or((text, "[]"));
+        let (word, other) = line.split_once(' ')?;
         let stage = Stage::KEPT.into_iter().find(|stage| stage.word() == word)?;
-        Some(MoveRow { tenant: tenant.to_string(), stage, other: other.to_string() })
+        let robots = serde_json::from_str(robots).unwrap_or_else(|error| {
+            tracing::error!(%tenant, %error, "dropped robots that wait for a tenant: their row in the database is damaged");
+            Vec::new()
+        });
+        Some(MoveRow { tenant: tenant.to_string(), stage, other: other.to_string(), robots })
     }
 }
 
@@ -70,6 +82,11 @@ mod tests {
             let row = MoveRow::of("acme", text).unwrap();
             assert_eq!((row.stage, row.text().as_str(), row.stage.is_kept()), (stage, text, true));
         }
+        let robot = r#"{"name":"robot+ci","hash":"00","rights":["read acme"],"made":1,"ends":2}"#;
+        let text = format!("arriving x\n[{robot},{robot}]");
+        let row = MoveRow::of("acme", &text).unwrap();
+        assert_eq!((row.other.as_str(), row.robots.len(), row.text()), ("x", 2, text));
+        assert!(MoveRow::of("acme", "arriving x\n[{}]").unwrap().robots.is_empty());
         assert!(!Stage::Copying.is_kept());
         for text in ["", "closed", "copying http://two", "Closed x"] {
             assert_eq!(MoveRow::of("acme", text), None, "{text}");

@@ -162,7 +162,7 @@ impl Tables {
         let manifests = Arc::new(recovered.manifests);
         let thread = writer.start(recovered.database, manifests.clone(), recovered.recorded)?;
         let database = Some((writer.clone(), thread));
-        let robots = Robots::new(Some(writer.clone()), recovered.robots);
+        let robots = Robots::new(Some(writer.clone()), recovered.robots, &recovered.moves);
         let cached = CachedContents::new(Some(writer.clone()), recovered.cached);
         let (loose_blobs, pulls_since, moves) = (recovered.loose_blobs, recovered.pulls_since, recovered.moves);
         Ok(Tables { uploads, repositories, manifests, loose_blobs, robots, pulls_since, cached, moves, database })
