@@ -16,7 +16,9 @@ from server import BLOBD, REGISTRYD, Client
 PORT = 5600
 TENANTS = ("acme=1000000000,65536", "other=1000000000,65536")
 # docs/MACHINES.md names these.
-OPTIONS = (("client.strict-locks", "on"), ("network.ping-timeout", "10"))
+OPTIONS = (
+    ("client.strict-locks", "on"), ("network.ping-timeout", "10"), ("server.tcp-user-timeout", "10"), ("server.keepalive-time", "4"),
+    ("server.keepalive-interval", "2"), ("server.keepalive-count", "3"))
 # The time between two starts, and the statuses after which none follows (package/debian/registryd.service).
 REST, FINAL = 1, (0, 2, 6, 8, 10)
 BALANCER = """
@@ -31,7 +33,7 @@ frontend registry
 backend standby
     option httpchk
     http-check send meth GET uri /readyz ver HTTP/1.1 hdr Host balancer
-    default-server check inter 500 fall 2 rise 1
+    default-server check inter 500 fall 2 rise 1 on-marked-down shutdown-sessions
     server one {one}
     server two {two} backup
 """
