@@ -115,6 +115,9 @@ def cluster(folder, options=()):
         for machine in machines:
             machine.kill()
             machine.first.wait()
+            # Its end of the link goes with the network, which may last.
+            with contextlib.suppress(subprocess.CalledProcessError):
+                run("ip", "link", "delete", machine.link)
         run("ip", "link", "delete", "bridge0")
         # The copies are gone with the machines' mounts a moment later.
         time.sleep(0.2)

@@ -561,15 +561,28 @@ def users_of_files_are_those_of_each_registry():
 
 
 def rules_of_files_hold_where_they_are():
-    """The operator has copied the file to the target."""
-    with users("acme/app v*") as first, users("acme/app v*") as second:
-        with pair(two_words=("--immutable-tags", second)) as both:
+    """The operator has copied the files to the target. Rules of other tenants do not count, nor does the order of lines."""
+    with users("acme/app v*", "* release-?", "other x") as first, users("* release-?", "acme/app v*", "acmes y") as second, users("acme/x * last=9") as rules:
+        with pair("--retention", rules, two_words=("--immutable-tags", second)) as both:
             both.more["one"] = ("--immutable-tags", first)
             both.restart("one")
             assert push(both.one.client(), "acme", "v1") == push(both.one.client(), "acme", "latest") == 201
-            both.move()
+            assert "warning" not in both.move()
             put = lambda tag: both.two.client().ask("PUT", f"/v2/acme/app/manifests/{tag}", manifest_of(b"{}", [b"layer"]), {"Content-Type": MANIFEST}).status
             assert (put("v1"), put("latest")) == (409, 201) and pulls(both.two.client(), "acme", "v1")
+
+
+def settings_that_differ_are_named():
+    with users("acme/app v*") as tags, users("acme * last=9") as first, users("acme * last=8") as second:
+        with pair(two_words=("--immutable-tags", tags, "--retention", second, "--max-blob", "3000")) as both:
+            both.more["one"] = ("--retention", first)
+            both.restart("one")
+            assert push(both.one.client(), "acme", "v1") == 201
+            sides = f"http://{both.one.address} and http://{both.two.address}"
+            expected = [f"warning: http://{both.two.address} takes blobs of at most 3000 bytes, and http://{both.one.address} of {4 << 30}",
+                        f"warning: the lines of --immutable-tags for acme differ at {sides}", f"warning: the lines of --retention for acme differ at {sides}"]
+            printed = both.move()
+            assert re.findall("warning: .*", printed) == expected, printed
 
 
 def robots_arrive_with_their_tenant():
@@ -701,5 +714,5 @@ if __name__ == "__main__":
                    limits_that_are_not_checked, a_target_whose_disk_is_full, other_content_is_not_overwritten, a_move_is_given_up,
                    a_backup_from_before_a_move_does_not_have_it, routes_are_checked_first,
                    open_uploads_are_waited_for, open_uploads_are_cut, pushes_that_are_in_progress_go_on, users_of_files_are_those_of_each_registry,
-                   rules_of_files_hold_where_they_are, robots_arrive_with_their_tenant, robots_of_a_killed_move_arrive_once, robots_wait_over_restarts,
+                   rules_of_files_hold_where_they_are, settings_that_differ_are_named, robots_arrive_with_their_tenant, robots_of_a_killed_move_arrive_once, robots_wait_over_restarts,
                    a_robot_that_differs_is_refused, a_target_without_users_gets_no_robots])

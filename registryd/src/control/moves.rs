@@ -12,6 +12,7 @@ use crate::store::calls::SlotUse;
 use crate::store::frames::{Reason, Refusal};
 use hyper::StatusCode;
 use serde::{Deserialize, Serialize};
+use std::collections::BTreeMap;
 use std::time::Duration;
 use tokio::time::sleep;
 
@@ -114,6 +115,9 @@ pub(crate) struct State {
     /// The robots that move with the tenant. Missing after a step, and in the reply of an earlier version.
     #[serde(default)]
     pub(crate) robots: Option<Vec<MovedRobot>>,
+    /// The lines of the files of rules that may cover tags of the tenant, by the option of the file. Missing as the robots are.
+    #[serde(default)]
+    pub(crate) rules: Option<BTreeMap<String, Vec<String>>>,
 }
 
 /// Returns the state of a tenant's move.
@@ -142,6 +146,7 @@ async fn state(registry: &Registry, tenant: &str) -> Result<State, Fault> {
         max_blob: registry.max_blob,
         secret: None,
         robots: None,
+        rules: None,
     })
 }
 
@@ -153,7 +158,7 @@ fn reply_with(state: &State) -> HandlerResult {
 /// Returns the state of a tenant's move.
 pub(super) async fn show(registry: &Registry, tenant: &str) -> HandlerResult {
     let robots = Some(registry.access.robots.moving_with(tenant));
-    reply_with(&State { robots, ..state(registry, tenant).await? })
+    reply_with(&State { robots, rules: Some(registry.rules_for(tenant)), ..state(registry, tenant).await? })
 }
 
 /// Makes a step of a move, and returns the state after it, which is that before it if requests are open that it waits for.

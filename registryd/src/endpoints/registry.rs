@@ -30,7 +30,7 @@ use crate::signatures::checking::SignedTags;
 use crate::start::provenance::Provenance;
 use crate::store::client::Store;
 use hyper::StatusCode;
-use std::collections::HashMap;
+use std::collections::{BTreeMap, HashMap};
 use std::sync::Arc;
 use std::time::Duration;
 
@@ -133,6 +133,23 @@ impl Registry {
     /// Returns whether no client moves or deletes a tag of a repository.
     pub(crate) fn is_immutable(&self, repo: &str, tag: &str) -> bool {
         self.immutable_tags.as_ref().map_or(false, |tags| tags.cover(repo, tag))
+    }
+
+    /// Returns the lines that may cover tags of a tenant, sorted, by the option of their file. They have a form in which two registries can
+    /// be compared.
+    pub(crate) fn rules_for(&self, tenant: &str) -> BTreeMap<String, Vec<String>> {
+        let lines = [
+            ("--immutable-tags", self.immutable_tags.as_ref().map(|tags| tags.current().lines_for(tenant))),
+            ("--signed-tags", self.signed_tags.as_ref().map(|tags| tags.current().lines_for(tenant))),
+            ("--retention", self.retention.as_ref().map(|retention| retention.current().lines_for(tenant))),
+        ];
+        let mut found = BTreeMap::new();
+        for (option, lines) in lines {
+            let mut lines = lines.unwrap_or_default();
+            lines.sort();
+            found.insert(option.to_string(), lines);
+        }
+        found
     }
 
     /// Returns the reporter of the registry's own work, if there are receivers of events.

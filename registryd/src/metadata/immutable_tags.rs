@@ -40,6 +40,11 @@ impl Rules {
         parse_lines(text, |_, line| parse_line(line)).map(Rules)
     }
 
+    /// Returns the lines that may cover tags of a tenant.
+    pub(crate) fn lines_for(&self, tenant: &str) -> Vec<String> {
+        self.0.iter().filter(|rule| rule.reaches(tenant)).map(TagPattern::to_string).collect()
+    }
+
     /// Returns whether a line covers a tag of a repository.
     pub(crate) fn cover(&self, repo: &str, tag: &str) -> bool {
         self.0.iter().any(|rule| rule.covers(repo, tag))
@@ -89,6 +94,11 @@ mod tests {
             assert_eq!(rules.cover(repo, tag), expected, "{repo} {tag}");
         }
         assert_eq!(Rules::parse("").unwrap(), Rules::default());
+        assert_eq!(rules.lines_for("acme"), ["acme/app v*", "* release-?"]);
+        assert_eq!(
+            (rules.lines_for("acm"), rules.lines_for("app")),
+            (vec!["* release-?".to_string()], vec!["* release-?".to_string()])
+        );
     }
 
     #[test]

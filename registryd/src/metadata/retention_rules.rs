@@ -184,6 +184,11 @@ impl RetentionRules {
         parse_lines(text, Rule::parse).map(RetentionRules)
     }
 
+    /// Returns the lines that may cover tags of a tenant.
+    pub(crate) fn lines_for(&self, tenant: &str) -> Vec<String> {
+        self.0.iter().filter(|rule| rule.tags.reaches(tenant)).map(Rule::to_string).collect()
+    }
+
     /// Returns the rules that cover tags of a repository.
     pub(super) fn of(&self, repo: &str) -> Vec<&Rule> {
         self.0.iter().filter(|rule| rule.is_of(repo)).collect()
@@ -222,6 +227,8 @@ mod tests {
         assert_eq!(texts, ["acme/app v* last=10 pushed=30d", "* pr-? pulled=2d", "acme * last=1 pushed=90s pulled=2d"]);
         assert_eq!((rules.len(), rules.least_time()), (3, Some(90)));
         assert_eq!(RetentionRules::parse("* * last=1").unwrap().least_time(), None);
+        let rules = RetentionRules::parse("acme/x v* last=2 pushed=1d\nother * pulled=2d\n* a last=3").unwrap();
+        assert_eq!(rules.lines_for("acme"), ["acme/x v* last=2 pushed=1d", "* a last=3"]);
         assert_eq!(RetentionRules::parse("").unwrap(), RetentionRules::default());
     }
 

@@ -1,5 +1,5 @@
 //! Tags that a line of a file covers: a prefix of repositories, and a pattern of tags.
-use crate::metadata::names::{check_prefix, is_below, is_tag};
+use crate::metadata::names::{check_prefix, is_below, is_tag, tenant_of};
 use crate::metadata::wildcards::is_matched;
 use std::fmt;
 
@@ -28,6 +28,11 @@ impl TagPattern {
     /// Returns whether it may cover tags of a repository.
     pub(crate) fn is_of(&self, repo: &str) -> bool {
         is_below(repo, &self.prefix)
+    }
+
+    /// Returns whether it may cover tags of a tenant.
+    pub(crate) fn reaches(&self, tenant: &str) -> bool {
+        self.is_of(tenant) || tenant_of(&self.prefix) == tenant
     }
 
     /// Returns whether it covers a tag of each repository that it is of.

@@ -126,6 +126,19 @@ fn check_room(source: &State, target: &State) -> Result<(), String> {
     check("tags", source.tags, target.most_tags)
 }
 
+/// Prints the settings of the target that differ from those of the source, so that the tenant may be served in another way there.
+fn warn_of_settings(options: &MoveCommand, source: &State, target: &State) {
+    let MoveCommand { tenant, from, to, .. } = options;
+    if target.max_blob < source.max_blob {
+        print(&format!("warning: {to} takes blobs of at most {} bytes, and {from} of {}", target.max_blob, source.max_blob));
+    }
+    if let (Some(rules), Some(others)) = (&source.rules, &target.rules) {
+        for (option, _) in rules.iter().filter(|(option, lines)| others.get(*option) != Some(*lines)) {
+            print(&format!("warning: the lines of {option} for {tenant} differ at {from} and {to}"));
+        }
+    }
+}
+
 /// Begins or continues the move at both registries. Returns the stage at the source, and the robots that wait at the target.
 async fn begin(
     options: &MoveCommand,
@@ -135,6 +148,7 @@ async fn begin(
     let MoveCommand { tenant, from, to, replace, .. } = options;
     let (before, room) = (source.state().await?, target.state().await?);
     check_room(&before, &room)?;
+    warn_of_settings(options, &before, &room);
     if before.stage == Some(Stage::Left) && room.stage != Some(Stage::Arriving) {
         // The target was opened. Only the route and the delete may be left.
         let state = source.begin(&Step::Copy { other: to.clone() }).await?;

@@ -37,6 +37,11 @@ impl Retention {
         Retention { rules, removed: IntCounterVec::new(help, &["rule"]).expect("a counter's name") }
     }
 
+    /// Returns the rules that hold now.
+    pub(crate) fn current(&self) -> Arc<RetentionRules> {
+        self.rules.get()
+    }
+
     /// Returns the pause between two rounds: a 60th of the least time of a rule.
     fn rest(&self) -> Duration {
         let least = self.rules.get().least_time();

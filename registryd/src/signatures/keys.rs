@@ -11,7 +11,7 @@ use std::path::Path;
 #[derive(Debug, PartialEq, Eq)]
 pub(super) struct PublicKey {
     /// The point, uncompressed (SEC 1, 2.3.3).
-    point: Vec<u8>,
+    pub(super) point: Vec<u8>,
 }
 
 /// Returns whether bytes are an uncompressed point of the curve. The library checks a point when it is used, so this uses it once.

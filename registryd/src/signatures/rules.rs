@@ -69,6 +69,16 @@ impl SigningRules {
         self.0.iter().enumerate().filter(is_covered)
     }
 
+    /// Returns the lines that may cover tags of a tenant, each with its keys.
+    pub(crate) fn lines_for(&self, tenant: &str) -> Vec<String> {
+        let line = |Rule { tags, keys }: &Rule| {
+            let mut keys: Vec<String> = keys.iter().map(|key| base64::encode(&key.point)).collect();
+            keys.sort();
+            format!("{tags} {}", keys.join(" "))
+        };
+        self.0.iter().filter(|rule| rule.tags.reaches(tenant)).map(line).collect()
+    }
+
     /// Returns the number of lines.
     pub(crate) fn len(&self) -> usize {
         self.0.len()
@@ -109,6 +119,9 @@ mod tests {
         assert_eq!((covering("acme/app", "v1"), covering("acme/app/web", "release-1")), (vec![0], vec![1]));
         assert_eq!((covering("acme/apple", "v1"), covering("acme/app", "latest")), (vec![], vec![]));
         assert_eq!(rules.0[0].to_string(), "acme/app v*");
+        let lines = rules.lines_for("acme");
+        assert!(lines.len() == 2 && lines[0].starts_with("acme/app v* ") && lines[0].split(' ').count() == 5, "{lines:?}");
+        assert_eq!(rules.lines_for("other"), lines[1..]);
         assert_eq!(SigningRules::parse("", &folder.0).unwrap(), SigningRules::default());
     }
 
