@@ -26,14 +26,14 @@ const MUCH: u64 = 64 << 20;
 /// file of the log.
 const LEAST: u64 = 1 << 20;
 
-/// What is held of that for the last file of the log, and as much for its next file, while little is free, in bytes. For content it is all
-/// of that.
+/// The part of that which is held for the last file of the log while little is free, and again for its next file, in bytes. For content
+/// it is all of that.
 const HELD: u64 = LEAST / 4;
 
-/// What is free after a part of the reserve was given up, in bytes.
+/// The number of bytes that are free after a part of the reserve was given up.
 const GIVEN: u64 = 2 * LEAST;
 
-/// What has to be free for content at least, in bytes: what is held, and what a change without content needs.
+/// The least number of bytes that have to be free for content: those that are held, and those that a change without content needs.
 const CONTENT: u64 = 3 * LEAST;
 
 /// The names of the files in the folder: the reserve, and the number of bytes that a rewriting of the log may take.
