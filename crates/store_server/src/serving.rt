@@ -113,35 +113,39 @@ pub fn serve_streams<'s, W: Wait, S: Naming, L: LeaseNaming, D: FileBacked, I: R
     Ok(ending)
 }
 
+/// The values that all connections share.
+#[derive(Drop)]
+struct Shared<'s, 'l, W, S: Naming, L: LeaseNaming, D: FileBacked> {
+    rt: &'s W,
+    alloc: Global,
+    store: &'s Store<S>,
+    device: Option<&'s SharedLogDevice<S, D>>,
+    end: &'l EndCell,
+    table: &'l Mutex<LockedLeaseTable<'s, StorePins<S>, L>>,
+}
+
 /// Serves a connection until it ends, and then drops its input and output.
 fn serve_connection<
     's,
+    'l,
     W: Wait,
     S: Naming,
     L: LeaseNaming,
     D: FileBacked,
     I: Read + Drop,
     O: Write + Drop,
->(
-    rt: &'s W,
-    alloc: Global,
-    store: &'s Store<S>,
-    device: Option<&'s SharedLogDevice<S, D>>,
-    end: &EndCell,
-    table: &Mutex<LockedLeaseTable<'s, StorePins<S>, L>>,
-    line: &mut Connection<I, O>,
-)
+>(shared: &Shared<'s, 'l, W, S, L, D>, line: &mut Connection<I, O>)
     ensures { IsClosedConnection S.names L.log I.remaining O.contents line.old line.new }
 {
     if let Some((mut input, output)) = line.ends.take() {
         let mut replies = ReplyStream::new(output);
         let served = serve_streams(
-            rt,
-            alloc,
-            store,
-            device,
-            end,
-            table,
+            shared.rt,
+            shared.alloc,
+            shared.store,
+            shared.device,
+            shared.end,
+            shared.table,
             &mut input,
             &mut replies,
         );
@@ -161,22 +165,14 @@ fn serve_connections<
     D: FileBacked + Send,
     I: Read + Send + Drop,
     O: Write + Send + Drop,
->(
-    rt: &'s W,
-    alloc: Global,
-    store: &'s Store<S>,
-    device: Option<&'s SharedLogDevice<S, D>>,
-    end: &EndCell,
-    table: &'l Mutex<LockedLeaseTable<'s, StorePins<S>, L>>,
-    lines: &mut [Connection<I, O>],
-)
+>(rt: &'s W, shared: &Shared<'s, 'l, W, S, L, D>, lines: &mut [Connection<I, O>])
     ensures { AreServed S.names L.log I.remaining O.contents lines.old lines.new }
 {
     thread::for_each_mut(
         rt,
         lines,
         MAX_DESKS as usize,
-        &|_, line| serve_connection(rt, alloc, store, device, end, table, line),
+        &|_, line| serve_connection(shared, line),
     );
 }
 
@@ -204,7 +200,18 @@ fn serve_with<
     ensures totals { result.received ≡ result.in_sessions + result.closed + result.abandoned }
 {
     let table = Mutex::new(LockedLeaseTable::<'s, StorePins<S>, L>::new(alloc, log));
-    serve_connections(rt, alloc, store, device, end, &table, lines);
+    serve_connections(
+        rt,
+        &Shared {
+            rt,
+            alloc,
+            store,
+            device,
+            end,
+            table: &table,
+        },
+        lines,
+    );
     table.into_inner().end();
     store.totals(rt)
 }
