@@ -6,9 +6,10 @@ the folder, and takes over when the first one is killed, or cut off from the net
 
 Each kind of failure (`kill`, `cut`) is tried N times. --table prints the times. It ends with status 3 if machines or GlusterFS
 cannot be made here."""
-import argparse, contextlib, statistics, subprocess, tempfile, threading, time
+import argparse, contextlib, statistics, subprocess, sys, tempfile, threading, time
 
 from cluster import as_machine_0, cluster
+from mounts import CANNOT
 from playing import until
 from pushing import Raw, Skopeo
 from server import BLOBD, REGISTRYD, Client
@@ -118,6 +119,15 @@ def round_of(kind, machines, folder, number):
             unit.end()
 
 
+def made(stack, folder):
+    """Makes the machines. Ends with status 3 if they cannot be made here."""
+    try:
+        return stack.enter_context(cluster(folder, OPTIONS))
+    except (AssertionError, OSError, subprocess.CalledProcessError) as error:
+        print("takeover: the machines cannot be made:", error, getattr(error, "stderr", None) or "")
+        sys.exit(CANNOT)
+
+
 def main():
     parser = argparse.ArgumentParser()
     parser.add_argument("--rounds", type=int, default=1)
@@ -127,7 +137,8 @@ def main():
     for kind in options.kinds:
         rows = []
         for number in range(options.rounds):
-            with tempfile.TemporaryDirectory() as folder, cluster(folder, OPTIONS) as machines:
+            with tempfile.TemporaryDirectory() as folder, contextlib.ExitStack() as stack:
+                machines = made(stack, folder)
                 rows.append(round_of(kind, machines, folder, number))
                 if options.table:
                     print("%s: ready after %.1f s, pushes after %.1f s, %d images" % (kind, *rows[-1]), flush=True)
