@@ -224,7 +224,7 @@ def a_wrong_digest_is_never_complete():
         with concurrent.futures.ThreadPoolExecutor(10) as pool:
             assert all(pool.map(lambda _: is_cut(server, long), range(10)))
         assert until(lambda: used(server) == 0), used(server)
-        assert server.metric("registryd_uploads") == 0 and state(server)["copies"] == 0
+        assert until(lambda: server.metric("registryd_uploads") == 0 and state(server)["copies"] == 0)
         assert "another digest" in state(server)["last_failure"]["why"]
         proxy.heal()
         assert blob(server, small).body == small and blob(server, long).body == long

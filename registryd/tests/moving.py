@@ -81,7 +81,7 @@ class SlowPull(threading.Thread):
         """Checks that it was not at its end before, and lets it get the rest."""
         assert len(self.got) < self.SIZE - 1_000_000, "the pull was not slow"
         self.is_hurried.set()
-        self.join(60)
+        self.join(300)
         assert self.got.split(b"\r\n\r\n", 1)[1] == self.data, (self.repo, len(self.got))
 
 
