@@ -6,9 +6,10 @@ the folder, and takes over when the first one is killed, or cut off from the net
 
 Each kind of failure (`kill`, `cut`) is tried N times. --table prints the times. It ends with status 3 if machines or GlusterFS
 cannot be made here."""
-import argparse, contextlib, statistics, subprocess, sys, tempfile, threading, time
+import argparse, contextlib, re, statistics, subprocess, sys, tempfile, threading, time
 
 from cluster import as_machine_0, cluster
+from documented import blocks
 from mounts import CANNOT
 from playing import until
 from pushing import Raw, Skopeo
@@ -16,28 +17,26 @@ from server import BLOBD, REGISTRYD, Client
 
 PORT = 5600
 TENANTS = ("acme=1000000000,65536", "other=1000000000,65536")
-# docs/MACHINES.md names these.
-OPTIONS = (
-    ("client.strict-locks", "on"), ("network.ping-timeout", "10"), ("server.tcp-user-timeout", "10"), ("server.keepalive-time", "4"),
-    ("server.keepalive-interval", "2"), ("server.keepalive-count", "3"))
+DOCUMENT = "docs/MACHINES.md"
 # The time between two starts, and the statuses after which none follows (package/debian/registryd.service).
 REST, FINAL = 1, (0, 2, 6, 8, 10)
-BALANCER = """
+FRONTEND = """
 defaults
     mode http
     timeout connect 2s
     timeout client 1m
     timeout server 1m
 frontend registry
-    bind 127.0.0.1:{port}
-    default_backend standby
-backend standby
-    option httpchk
-    http-check send meth GET uri /readyz ver HTTP/1.1 hdr Host balancer
-    default-server check inter 500 fall 2 rise 1 on-marked-down shutdown-sessions
-    server one {one}
-    server two {two} backup
+    bind {address}
+    default_backend one
 """
+
+
+def volume_options():
+    """Returns the options that the document gives to the volume."""
+    found = re.findall(r"^gluster volume set registry (\S+) (\S+)$", blocks(DOCUMENT, "A standby")[0], re.MULTILINE)
+    assert ("client.strict-locks", "on") in found, found
+    return found
 
 
 class Unit(threading.Thread):
@@ -72,11 +71,16 @@ class Unit(threading.Thread):
 @contextlib.contextmanager
 def balancer(folder, one, two):
     """Sends clients to the first registry, and to the second one if that is not ready. Gives its address."""
+    address = f"127.0.0.1:{PORT}"
+    (backend,) = blocks(DOCUMENT, "A standby", "haproxy")
+    for old, new in (("10.0.0.1:5000", one), ("10.0.0.2:5000", two)):
+        assert backend.count(old) == 1, backend
+        backend = backend.replace(old, new)
     with open(f"{folder}/haproxy.cfg", "w") as file:
-        file.write(BALANCER.format(port=PORT, one=one, two=two))
+        file.write(FRONTEND.format(address=address) + backend)
     process = subprocess.Popen(["haproxy", "-db", "-q", "-f", f"{folder}/haproxy.cfg"])
     try:
-        yield f"127.0.0.1:{PORT}"
+        yield address
     finally:
         process.terminate()
         process.wait()
@@ -122,7 +126,7 @@ def round_of(kind, machines, folder, number):
 def made(stack, folder):
     """Makes the machines. Ends with status 3 if they cannot be made here."""
     try:
-        return stack.enter_context(cluster(folder, OPTIONS))
+        return stack.enter_context(cluster(folder, volume_options()))
     except (AssertionError, OSError, subprocess.CalledProcessError) as error:
         print("takeover: the machines cannot be made:", error, getattr(error, "stderr", None) or "")
         sys.exit(CANNOT)
