@@ -158,6 +158,24 @@ def lower_limits():
             check(ended("--data", path, option, str(number)), 2, option, str(number))
 
 
+def the_most_tenants_and_slots():
+    """As many tenants as there may be are served, also after a restart, in a store of more slots than by default."""
+    tenants, body = tuple(f"t{number}=1000000" for number in range(4096)), b"of the last tenant"
+    path = f"/v2/t4095/app/blobs/{sha256(body)}"
+    with folder() as data:
+        for is_new in (True, False):
+            with serving("--data", data, "--slots", "70000", tenants=tenants) as server:
+                client = server.client()
+                if is_new:
+                    assert client.ask("POST", f"/v2/t4095/app/blobs/uploads/?digest={sha256(body)}", body, PATCH).status == 201
+                assert client.ask("GET", path).body == body
+                assert server.metric("registryd_free_slots") == 69999
+                by_signal(server)
+    check(ended(tenants=(*tenants, "more=1")), 2, "too many tenants: 4097: the maximum is 4096")
+    for number in (0, 16777217):
+        check(ended("--slots", str(number)), 2, "--slots", str(number))
+
+
 def other_settings():
     with folder() as path:
         with serving("--data", path, "--slots", "8") as server:
@@ -313,7 +331,7 @@ def main():
     play("statuses", [
         a_folder_that_cannot_be_used, a_folder_that_another_process_has, a_database_that_another_process_has,
         a_folder_is_released_after_a_kill, a_damaged_log, a_damaged_database, a_log_that_cannot_be_written,
-        a_database_that_cannot_be_written, other_settings, lower_limits, each_program_ends_after_the_other_is_killed, options_of_a_folder_need_one,
+        a_database_that_cannot_be_written, the_most_tenants_and_slots, other_settings, lower_limits, each_program_ends_after_the_other_is_killed, options_of_a_folder_need_one,
         a_disk_that_is_almost_full_takes_no_content, a_disk_never_gets_full,
         a_manifest_that_the_store_keeps_is_shown_again, a_manifest_whose_delete_is_late_has_no_tag,
         the_number_of_an_upload_that_is_undone_is_recorded])
