@@ -44,7 +44,7 @@ class Unit(threading.Thread):
 
     def __init__(self, machine, log):
         super().__init__(daemon=True)
-        self.machine, self.log, self.is_ended, self.statuses = machine, open(log, "ab"), threading.Event(), []
+        self.machine, self.log, self.is_ended, self.statuses = machine, open(log, "a+b"), threading.Event(), []
         self.address = f"{machine.address}:{PORT}"
         self.start()
 
@@ -60,6 +60,11 @@ class Unit(threading.Thread):
         with contextlib.suppress(OSError):
             return Client(self.address).ask("GET", "/readyz").status == 200
         return False
+
+    def tail(self):
+        """Returns the statuses with which it ended, and what it logged last."""
+        self.log.seek(0)
+        return f"{self.address}: {self.statuses[-20:]}: " + self.log.read()[-2500:].decode(errors="replace")
 
     def end(self):
         self.is_ended.set()
@@ -118,6 +123,8 @@ def round_of(kind, machines, folder, number):
             for pusher, images in zip(pushers, pushed):
                 pusher.check(Client(units[1].address), images)
         return ready, again, sum(map(len, pushed))
+    except AssertionError as error:
+        raise AssertionError("\n".join([str(error), *(unit.tail() for unit in units)])) from error
     finally:
         for unit in units:
             unit.end()

@@ -160,6 +160,12 @@ def log_files(folder):
     return {path.name: path.read_bytes() for kind in ("log", "base") for path in folder.glob(f"{kind}*") if path.is_file()}
 
 
+def base_in_the_way(folder):
+    """Returns the path at which a folder keeps the program that owns a folder from writing a base."""
+    (owner,) = folder.glob("owner-*")
+    return owner / "base.new"
+
+
 def puts_log(folder, files):
     """Leaves these files in a folder as those of its log, and no others."""
     for name in log_files(folder):
@@ -184,12 +190,13 @@ class Trace:
         self.calls = [(call, name) for call, name, _ in self.lines]
 
     def syncs_by_name(self):
-        """Returns the lengths at its syncs of each file, by the name that it has at last."""
+        """Returns the lengths at its syncs of each file, by the name that it has at last: `replaced-NAME` if a rename has replaced it."""
         found = collections.defaultdict(list)
         for call, name, last in self.lines:
             if call == "sync":
                 found[name].append(int(last))
             elif call == "rename":
+                found[f"replaced-{last}"] = found.get(last, [])
                 found[last] = found.pop(name, [])
         return found
 

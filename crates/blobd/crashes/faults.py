@@ -5,7 +5,7 @@ import subprocess
 import threading
 import time
 
-from data_folder import PATIENCE, Ended, Trace, log_length
+from data_folder import PATIENCE, Ended, Trace, base_in_the_way, log_length
 from frames import GREETING, SWEEP
 from kills import lose_power
 from logs import SmallLog
@@ -52,7 +52,7 @@ def failing(room, name, status, settings=None, around=(), lost=False):
 
 def failing_disks(room):
     """Tests calls on the log that fail: each once, at several places."""
-    for number in (4, 5, 40):
+    for number in (5, 6, 40):
         for lost in (False, True):
             failing(room, f"a failed sync {number}", 9, {"CRASH_FAIL_SYNC": str(number)}, lost=lost)
         failing(room, f"a failed write {number}", 9, {"CRASH_FAIL_WRITE": str(number)})
@@ -74,7 +74,7 @@ def failing_reads(room):
             pass
         status, text = blobd.ends()
         if status != 0 or number <= 2:
-            stops(f"a failed read {number}", (status, b"", text), 6, f"cannot read {small.log}: Input/output error (os error 5)")
+            stops(f"a failed read {number}", (status, b"", text), 6, f"{small.log}: Input/output error (os error 5)")
             failed += 1
     compares("whether a read of the replay failed too", failed > 2, True)
 
@@ -114,6 +114,7 @@ def folders(room):
         compares("a first start", room.runs(folder)[:2], (0, GREETING))
         folder.chmod(0o777)
         (folder / "lock").chmod(0o666)
+        next(folder.glob("owner-*")).chmod(0o777)
         (folder / "log.1").chmod(rights)
         stops(f"a log with the rights {rights:o}", room.runs(folder, user=user), 6, folder / "log.1")
     (other / "log.1").mkdir()
@@ -197,7 +198,7 @@ def memory(room):
     (line,) = blobd.opens()
     (client, *_) = clients(room)
     # a folder in the way keeps the program from rewriting the log while it runs
-    (folder / "base.new").mkdir()
+    base_in_the_way(folder).mkdir()
     for number in range(100):
         client.plays(line, client.state.starts("t0/one"))
         client.plays(line, client.state.closes(number + 1, room.rng.randbytes(MIB)))
@@ -205,7 +206,7 @@ def memory(room):
             client.plays(line, client.state.deletes("t0/one", list(client.state.links)[-1][1]))
             line.calls(SWEEP)
     ends_well("a store with few slots", blobd)
-    (folder / "base.new").rmdir()
+    base_in_the_way(folder).rmdir()
     compares("a log that is long", log_length(folder) > 100 * MIB, True)
     begun = time.monotonic()
     blobd = room.starts(folder, **words)

@@ -6,7 +6,7 @@ import threading
 import time
 
 import data_folder
-from data_folder import HEADER, MARK, Ended, FolderLog, Trace, log_files, log_length, puts_log
+from data_folder import HEADER, MARK, Ended, FolderLog, Trace, base_in_the_way, log_files, log_length, puts_log
 from frames import FREE_SLOTS, GREETING, SWEEP
 from model import MIB, Fault
 from room import SLOTS, all_there, all_there_still, calls_of, clients, compares, counts, ends_well, fault, looks, together
@@ -116,6 +116,10 @@ def forgets_names(room, folder):
         if moved.exists() and room.rng.random() < 0.5:
             moved.rename(folder / name)
             syncs[name] = syncs.pop(new, [])
+            replaced = room.kept / f"replaced-{new}"
+            if new and replaced.exists():
+                replaced.rename(folder / new)
+                syncs[new] = syncs.pop(f"replaced-{new}", [])
     return syncs
 
 
@@ -235,7 +239,7 @@ def litter(room, folder, everybody):
     MiB. The last tenant keeps nothing but its next number. The program does not rewrite the log, since a folder is in the way."""
     blobd = room.starts(folder, "--sync", "never", connections=len(everybody))
     lines = blobd.opens()
-    (folder / "base.new").mkdir()
+    base_in_the_way(folder).mkdir()
     together(everybody, lines, "each", 100)
     for client, line in zip(everybody, lines):
         client.plays(line, client.state.starts(f"{client.tenant}/one"))
@@ -251,7 +255,7 @@ def litter(room, folder, everybody):
     for client in everybody:
         client.promises_all()
     ends_well("a log with litter", blobd)
-    (folder / "base.new").rmdir()
+    base_in_the_way(folder).rmdir()
 
 
 def rewriting(room):

@@ -167,7 +167,9 @@ def permissions(room):
     wait_until("a base", lambda: FolderLog(folder).base)
     ends_well("a program in a folder of its own", blobd)
     found = {path.name: oct(path.stat().st_mode & 0o777) for path in (folder, *folder.iterdir())}
-    compares("the permissions", found, {name: "0o700" if name == folder.name else "0o600" for name in found})
+    of_folders = {path.name for path in (folder, *folder.glob("owner-*"))}
+    compares("the permissions", found, {name: "0o700" if name in of_folders else "0o600" for name in found})
+    compares("the number of owners", len(of_folders), 2)
     compares("whether the last segment and a base are among the files", len(found) >= 4, True)
 
 

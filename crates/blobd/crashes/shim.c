@@ -5,7 +5,8 @@
      CRASH_TRACE=PATH      appends a line for each call that succeeded: `sync NAME LENGTH` (of the file when the call began) or
                            `cut NAME LENGTH`, before the call returns; and before the call `rename OLD NEW` and `unlink NAME 0`. NAME
                            is that of a file of the log (`log.1`, `base.3`, `log.new`, ..) or the path of a folder
-     CRASH_KEEP=FOLDER     moves the files of the log that the program removes into a folder
+     CRASH_KEEP=FOLDER     moves the files of the log that the program removes into a folder, and keeps there those that a rename replaces,
+                           as `replaced-NAME`
      CRASH_WRITES=PATH     appends each change of a file of the database that succeeded: a line `write NAME OFFSET LENGTH` and the
                            bytes written, `sync NAME LENGTH`, `cut NAME LENGTH` or `unlink NAME 0`. NAME begins with `registry.db`.
                            Appends `sync PATH LENGTH` for the sync of a folder
@@ -175,11 +176,17 @@ int ftruncate64(int fd, off_t length) { return cut_by(REAL(ftruncate64), fd, len
 
 int rename(const char *from, const char *to) {
     const char *old = log_name(from), *new = log_name(to);
-    char line[1024];
+    char line[1024], place[4096];
     if (!old || !new)
         return REAL(rename)(from, to);
     snprintf(line, sizeof line, "rename %.255s %.255s\n", old, new);
     traces(new, line);
+    if (getenv("CRASH_KEEP")) {
+        snprintf(place, sizeof place, "%s/replaced-%.255s", getenv("CRASH_KEEP"), new);
+        REAL(unlink)(place);
+        if (link(to, place) && errno != ENOENT)
+            abort();
+    }
     int result = REAL(rename)(from, to);
     counts_call();
     return result;

@@ -38,6 +38,8 @@ pub struct ExaminedLog<'w> {
     pub host: HostRuntime,
     /// The folder.
     pub folder: &'w str,
+    /// The owner of the folder that this process is.
+    pub owner: u64,
     /// The files.
     pub log: OpenLog,
     /// The outcome of their examination.
@@ -291,6 +293,7 @@ fn following(
     alloc: Global,
     host: HostRuntime,
     folder: &str,
+    owner: u64,
     outcome: Outcome,
     number: u64,
     id: u64,
@@ -299,9 +302,9 @@ fn following(
 {
     let close = CloseRequest::new(alloc)?;
     let path = String::from_str(alloc, folder)?;
-    let watch = Watch::new(host, path, outcome, close.share()?);
+    let watch = Watch::new(host, path, owner, outcome, close.share()?);
     let path = String::from_str(alloc, folder)?;
-    let next = NextSegments::after(host, path, number, id, close)?;
+    let next = NextSegments::after(host, path, owner, number, id, close)?;
     Ok((next, watch))
 }
 
@@ -389,10 +392,12 @@ fn serve_log_parts<
     let ExaminedLog {
         host,
         folder,
+        owner,
         log,
         outcome,
     } = examined;
-    let (next, watch) = following(alloc, host, folder, outcome, log.number, log.last.id)?;
+    let (number, id) = (log.number, log.last.id);
+    let (next, watch) = following(alloc, host, folder, owner, outcome, number, id)?;
     let replayed = ReplayedDisk::new(alloc)?;
     let (store, device) = Store::<S>::with_log(parts, replayed);
     let started = replay_hashed(rt, &host, folder, alloc, &store, device, log, next)?;

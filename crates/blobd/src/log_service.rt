@@ -2,7 +2,7 @@
 ghost use Rattle.server_cli.specs.Arguments.{IsWithin};
 
 use crate::durable_serving::{ExaminedLog, ServeFault, serve_log};
-use crate::folder_stop::folder_stop;
+use crate::folder_stop::{folder_stop, log_stop};
 use crate::totals::conclude;
 use blob_store::Parts;
 use log_folder::{
@@ -114,7 +114,15 @@ fn examined<'w>(
     when: When,
 ) -> Result<ExaminedLog<'w>, Stop<'w>> {
     let (mut segments, number) = segments_of(log)?;
-    let outcome = match compact(rt, folder.path, segments.as_mut_slice(), number, when) {
+    let owner = folder.ownership.owner;
+    let outcome = match compact(
+        rt,
+        folder.path,
+        owner,
+        segments.as_mut_slice(),
+        number,
+        when,
+    ) {
         Ok(outcome) => outcome,
         Err(error) => return Err(folder_stop(how.folder, error)),
     };
@@ -124,6 +132,7 @@ fn examined<'w>(
         return Ok(ExaminedLog {
             host: *rt,
             folder: how.folder,
+            owner,
             log,
             outcome,
         });
@@ -141,6 +150,7 @@ fn examined<'w>(
     Ok(ExaminedLog {
         host: *rt,
         folder: how.folder,
+        owner,
         log,
         outcome,
     })
@@ -191,7 +201,7 @@ fn fault_stop<'w>(folder: &'w str, fault: ServeFault) -> Stop<'w> {
         ServeFault::Read(file, error) => {
             folder_stop(folder, FolderError::of_file("read", file, error))
         }
-        ServeFault::Log(error) => Stop::LogFailed { folder, error },
+        ServeFault::Log(error) => log_stop(folder, error),
         ServeFault::Record { place, cause } => record_stop(folder, place, cause),
     }
 }

@@ -27,10 +27,12 @@ mod hashers;
 mod log_service;
 mod totals;
 
-use crate::folder_stop::folder_stop;
+use crate::folder_stop::{folder_stop, log_stop, owner_stop};
 use crate::log_service::{open_folder, serve_folder};
 use crate::totals::conclude;
 use blob_store::Parts;
+use durable_log::CommitError;
+use log_disk::DiskError;
 use log_folder::DataFolder;
 use server_cli::{LogOptions, Options, Stop, read_arguments};
 use std::env;
@@ -129,6 +131,35 @@ fn run_in_memory<'w>(
     serve_all(rt, threads, parts, lines.as_mut_slice())
 }
 
+/// Serves the connections of the options on a store with the log of a folder that this process has.
+fn run_in_folder<'w, W: Threads + Wait + Sync + Copy + Send + 'static>(
+    rt: &HostRuntime,
+    threads: &W,
+    options: &Options<'w>,
+    folder: &DataFolder<'w>,
+    how: LogOptions<'w>,
+    end: &EndCell,
+) -> Result<(), Stop<'w>>
+    requires { IsWithin (options.now).store }
+{
+    let log = open_folder(rt, folder, how)?;
+    if options.paths.is_empty() {
+        let line = buffered(rt, rt.reader(), io::writer(rt))?;
+        return serve_folder(rt, threads, options, folder, how, log, end, &mut [line]);
+    }
+    let mut lines = open_connections(rt, options.paths)?;
+    serve_folder(
+        rt,
+        threads,
+        options,
+        folder,
+        how,
+        log,
+        end,
+        lines.as_mut_slice(),
+    )
+}
+
 /// Serves the connections of the options on a store with the log of a folder.
 fn run_with_log<'w, W: Threads + Wait + Sync + Copy + Send + 'static>(
     rt: &HostRuntime,
@@ -143,22 +174,10 @@ fn run_with_log<'w, W: Threads + Wait + Sync + Copy + Send + 'static>(
         Ok(folder) => folder,
         Err(error) => return Err(folder_stop(how.folder, error)),
     };
-    let log = open_folder(rt, &folder, how)?;
-    if options.paths.is_empty() {
-        let line = buffered(rt, rt.reader(), io::writer(rt))?;
-        return serve_folder(rt, threads, options, &folder, how, log, end, &mut [line]);
+    match run_in_folder(rt, threads, options, &folder, how, end) {
+        Ok(()) => Ok(()),
+        Err(stop) => Err(owner_stop(rt, &folder, stop)),
     }
-    let mut lines = open_connections(rt, options.paths)?;
-    serve_folder(
-        rt,
-        threads,
-        options,
-        &folder,
-        how,
-        log,
-        end,
-        lines.as_mut_slice(),
-    )
 }
 
 /// Returns the stop for arguments that cannot be read: memory ran out, or one of them is not UTF-8.
@@ -191,6 +210,11 @@ fn status_of(rt: &HostRuntime, done: Result<(), Stop<'_>>) -> u8 {
     }
 }
 
+/// Returns the error of a commit after another process has become the owner of the folder.
+fn lost_folder() -> CommitError {
+    CommitError::Disk(DiskError::Content)
+}
+
 /// Serves a store with a log as the arguments say, and returns how the service ended.
 fn serve_words<W: Threads + Wait + Sync + Copy + Send + 'static>(
     rt: &HostRuntime,
@@ -208,6 +232,8 @@ fn serve_words<W: Threads + Wait + Sync + Copy + Send + 'static>(
     };
     match done {
         Err(Stop::LogFailed { folder: _, error }) => ServiceEnd::Failed(error),
+        // The main thread prints it, perhaps after a commit has failed for the same reason.
+        Err(Stop::Lost { folder: _ }) => ServiceEnd::Failed(lost_folder()),
         done => ServiceEnd::Ended(status_of(rt, done)),
     }
 }
@@ -240,7 +266,7 @@ fn run_beside<W: Threads + Wait + Sync + Copy + Send + 'static>(
         Err(refused) => (refused.value)(),
     }
     match end.wait(threads) {
-        ServiceEnd::Failed(error) => report(rt, Stop::LogFailed { folder, error }),
+        ServiceEnd::Failed(error) => report(rt, log_stop(folder, error)),
         ServiceEnd::Ended(status) => status,
     }
 }

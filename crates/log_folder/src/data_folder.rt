@@ -1,6 +1,7 @@
 //! The folder of a log: its lock and its files.
 
 use crate::error::FolderError;
+use crate::ownership::{Ownership, is_owner, take_folder};
 use log_frames::header_bytes;
 use std::fs::{self, DirBuilder, File, TryLockError};
 use std::io::{self, ErrorKind, Read, Write};
@@ -11,7 +12,7 @@ use std::time::Duration;
 use store_replay::FolderFile;
 
 /// The permissions of a new folder: its user may list and change it, and nobody else may.
-const FOLDER_MODE: u32 = 0o700;
+pub const FOLDER_MODE: u32 = 0o700;
 
 /// The permissions of a new file: its user may read and write it, and nobody else may.
 const FILE_MODE: u32 = 0o600;
@@ -22,11 +23,14 @@ const TRIES: u32 = 100;
 /// The pause between two tries, in milliseconds.
 const PAUSE_MILLIS: u64 = 50;
 
-/// The folder of a log. While the value exists, no other process has the folder.
+/// The folder of a log. While the value exists, no other process has the folder, if the file system keeps its lock. If it does not, a
+/// process that has the folder later is its owner, and this one is not ([`DataFolder::is_lost`]).
 #[derive(Drop)]
 pub struct DataFolder<'w> {
     /// The path of the folder.
     pub path: &'w str,
+    /// The owner that this process is.
+    pub ownership: Ownership,
     /// Whether this start may go on with what is left of a damaged log: the file `accept-loss` was in the folder.
     pub accepts_loss: bool,
     lock: File,
@@ -85,16 +89,20 @@ pub fn remove(rt: &HostRuntime, folder: &str, file: FolderFile) -> io::Result<bo
     }
 }
 
-/// Makes an empty file in a folder, in place of an old one. It can be read and written, by this user alone.
+/// Makes an empty file in a folder, in place of an old one. It can be read and written, by this user alone. An empty file stays as it is, so
+/// that room which is held for it on the disk stays held.
 pub fn create(rt: &HostRuntime, folder: &str, file: FolderFile) -> io::Result<File> {
     let path = file.path(rt.alloc(), folder)?;
-    File::options()
+    let file = File::options()
         .read(true)
         .write(true)
         .create(true)
-        .truncate(true)
         .mode(FILE_MODE)
-        .open(rt, path.as_str())
+        .open(rt, path.as_str())?;
+    if file.metadata()?.len() > 0 {
+        file.set_len(0)?;
+    }
+    Ok(file)
 }
 
 /// Opens a file of a folder to read and write it.
@@ -106,12 +114,18 @@ pub fn open(rt: &HostRuntime, folder: &str, file: FolderFile) -> io::Result<File
         .open(rt, path.as_str())
 }
 
-/// Makes a log without frames, with this id, so that a crash leaves it.
-pub fn create_log(rt: &HostRuntime, folder: &str, file: FolderFile, id: u64) -> io::Result<()> {
-    let mut new = create(rt, folder, FolderFile::NewLog)?;
+/// Makes a log without frames, with this id, so that a crash leaves it. Only the owner can.
+pub fn create_log(
+    rt: &HostRuntime,
+    folder: &str,
+    owner: u64,
+    file: FolderFile,
+    id: u64,
+) -> io::Result<()> {
+    let mut new = create(rt, folder, FolderFile::NewLog(owner))?;
     new.write_all(&header_bytes(id))?;
     new.sync_all()?;
-    rename_synced(rt, folder, FolderFile::NewLog, file)
+    rename_synced(rt, folder, FolderFile::NewLog(owner), file)
 }
 
 /// Creates a folder, if it does not exist, so that it survives a crash. This user alone may use it. Its parent must exist. A folder that exists may be
@@ -151,12 +165,12 @@ pub fn random_id(rt: &HostRuntime) -> io::Result<u64> {
 }
 
 impl<'w> DataFolder<'w> {
-    /// Creates a folder, if it does not exist, locks it, and removes the files that were being made.
+    /// Creates a folder, if it does not exist, locks it, becomes its owner, and removes the files that were being made.
     ///
     /// # Errors
     ///
     /// - `File`, if the folder or its lock cannot be used.
-    /// - `Held`, if another process has the folder for five seconds.
+    /// - `Held`, if another process has the folder for five seconds, or has become the owner meanwhile.
     /// - `Memory`
     pub fn lock(rt: &HostRuntime, folder: &'w str) -> Result<DataFolder<'w>, FolderError> {
         if let Err(error) = create_folder(rt, folder) {
@@ -181,14 +195,21 @@ impl<'w> DataFolder<'w> {
             Ok(accepts) => accepts,
             Err(error) => return Err(FolderError::of_file("use", FolderFile::Folder, error)),
         };
+        let ownership = take_folder(rt, folder)?;
         let opened = DataFolder {
             path: folder,
+            ownership,
             accepts_loss,
             lock,
         };
-        opened.remove_one(rt, FolderFile::NewLog)?;
-        opened.remove_one(rt, FolderFile::NewBase)?;
+        opened.remove_one(rt, FolderFile::EarlierNewLog)?;
+        opened.remove_one(rt, FolderFile::EarlierNewBase)?;
         Ok(opened)
+    }
+
+    /// Returns whether another process has become the owner of the folder. If that is not known, it is not.
+    pub fn is_lost(&self, rt: &HostRuntime) -> bool {
+        matches!(is_owner(rt, self.path, self.ownership.owner), Ok(false))
     }
 
     /// Removes a file, if it exists.

@@ -16,6 +16,8 @@ pub struct Listing {
     bases: Vec<u64>,
     /// Whether there is a log of an earlier version.
     pub has_earlier: bool,
+    /// The numbers of the owners that have a folder.
+    pub owners: Vec<u64>,
 }
 
 /// Returns the number that a name has after a prefix. It has no zero in front.
@@ -35,6 +37,7 @@ impl Listing {
             logs: Vec::new(rt.alloc()),
             bases: Vec::new(rt.alloc()),
             has_earlier: false,
+            owners: Vec::new(rt.alloc()),
         };
         for entry in fs::read_dir(rt, folder)? {
             found.add(entry?.file_name())?;
@@ -50,6 +53,9 @@ impl Listing {
         if let Some(number) = number_after(name, "base.") {
             self.bases.push(number)?;
             self.base = self.base.max(number);
+        }
+        if let Some(number) = number_after(name, "owner-") {
+            self.owners.push(number)?;
         }
         if name == "log" {
             self.has_earlier = true;

@@ -5,6 +5,7 @@ ghost use Rattle.segmented_disk.specs.Views.{starting};
 
 use crate::close_request::CloseRequest;
 use crate::data_folder::{create, rename_synced};
+use crate::ownership::{check_owner, is_owner};
 use framed_disk::FramedDisk;
 use log_disk::{DiskError, FileDisk};
 use segmented_disk::{BytesCell, NoBytes, SegmentFolder};
@@ -20,6 +21,8 @@ use store_replay::FolderFile;
 pub struct NextSegments {
     rt: HostRuntime,
     folder: String,
+    /// The owner that this process is.
+    owner: u64,
     /// The number of the last segment.
     number: u64,
     /// Its id.
@@ -28,6 +31,8 @@ pub struct NextSegments {
     close: CloseRequest,
     /// The payloads of the segments that have ended.
     ended: BytesCell,
+    /// The payloads up to which it was confirmed that this process is the owner.
+    confirmed: BytesCell,
 }
 
 impl Model for NextSegments {
@@ -35,11 +40,11 @@ impl Model for NextSegments {
 
     ghost Value = { FolderView };
 
-    ghost view = { λ f. record { ended = f.ended; last_id = f.id } };
+    ghost view = { λ f. record { ended = f.ended; last_id = f.id; confirmed = f.confirmed } };
 }
 
 impl NextSegments {
-    /// Continues the segments of a folder after the one with this number and id. The last one is closed at a request.
+    /// Continues the segments of a folder after the one with this number and id, as this owner. The last one is closed at a request.
     ///
     /// # Errors
     ///
@@ -47,6 +52,7 @@ impl NextSegments {
     pub fn after(
         rt: HostRuntime,
         folder: String,
+        owner: u64,
         number: u64,
         id: u64,
         close: CloseRequest,
@@ -54,13 +60,16 @@ impl NextSegments {
         ensures { IfOk result (λ f. f ≡ starting id) }
     {
         let ended = BytesCell::new::<NoBytes>(rt.alloc())?;
+        let confirmed = BytesCell::new::<NoBytes>(rt.alloc())?;
         Ok(NextSegments {
             rt,
             folder,
+            owner,
             number,
             id,
             close,
             ended,
+            confirmed,
         })
     }
 }
@@ -75,12 +84,13 @@ impl SegmentFolder<FileDisk> for NextSegments {
 
     /// Makes `log.new`. Its id follows that of the last segment.
     fn create(&mut self) -> Result<(FileDisk, u64), DiskError> {
-        let file = create(&self.rt, self.folder.as_str(), FolderFile::NewLog)?;
+        let name = FolderFile::NewLog(self.owner);
+        let file = create(&self.rt, self.folder.as_str(), name)?;
         let disk = FileDisk::new::<NoBytes>(self.rt.alloc(), file, 0)?;
         Ok((disk, self.id.wrapping_add(1)))
     }
 
-    /// Gives `log.new` the next number, and syncs the folder.
+    /// Gives `log.new` the next number, and syncs the folder. The call fails if another process is the owner.
     fn publish(
         &mut self,
         ended: &FramedDisk<FileDisk>,
@@ -90,11 +100,26 @@ impl SegmentFolder<FileDisk> for NextSegments {
             return Err(DiskError::Io(io::Error::from(ErrorKind::FileTooLarge)));
         };
         let (folder, name) = (self.folder.as_str(), FolderFile::Log(number));
-        rename_synced(&self.rt, folder, FolderFile::NewLog, name)?;
+        rename_synced(&self.rt, folder, FolderFile::NewLog(self.owner), name)?;
         self.number = number;
         self.id = next.id();
         self.ended.add_payloads(ended);
         self.close.set(false);
         Ok(())
+    }
+
+    /// Looks in the folder whether this process is still its owner.
+    fn confirm(&mut self, segment: &FramedDisk<FileDisk>) -> Result<(), DiskError> {
+        check_owner(&self.rt, self.folder.as_str(), self.owner)?;
+        self.confirmed.set_payloads(&self.ended, segment);
+        Ok(())
+    }
+
+    /// Looks in the folder whether another process is its owner.
+    fn cause_of(&self, cause: DiskError) -> DiskError {
+        match is_owner(&self.rt, self.folder.as_str(), self.owner) {
+            Ok(false) => DiskError::Content,
+            _ => cause,
+        }
     }
 }

@@ -1,6 +1,6 @@
 //! Opens the log of a folder, and cuts off what a crash left of the last writes.
 
-use crate::data_folder::{DataFolder, create_log, random_id, rename_synced};
+use crate::data_folder::{DataFolder, create_log, open, random_id, remove, rename_synced};
 use crate::error::FolderError;
 use crate::listing::Listing;
 use crate::noting::Noting;
@@ -8,12 +8,16 @@ use crate::segment::Segment;
 use log_frames::{
     Cursor, Ending, FramesRead, HEADER_LENGTH, MAX_PAYLOAD, read_frames, start_of, write_frame,
 };
-use std::fs::File;
+use std::fs::{self, File};
 use std::io::{self, BufReader, ErrorKind, Seek, SeekFrom};
 use store_replay::{Cause, Damage, FolderFile, LogPlace, PrefixSink, Scan, scan_log};
 
 /// The length of a frame without payload, in bytes.
 const MARK_LENGTH: u64 = 40;
+
+/// The length up to which the last file of a log of an earlier version is copied, in bytes. This version makes no longer ones, but for one
+/// write.
+const LONG: u64 = 67_108_864;
 
 /// The files of a log, in order, without a torn end. Only the last one is written, and it is no base.
 #[derive(Drop)]
@@ -238,7 +242,7 @@ fn mend(
 
 /// Returns the files of the log of a folder. If there is none, it is made, so that a crash leaves it: `log.1`, or the file of an
 /// earlier version with this name.
-fn listed(rt: &HostRuntime, folder: &str) -> io::Result<Listing> {
+fn listed(rt: &HostRuntime, folder: &str, owner: u64) -> io::Result<Listing> {
     let listing = Listing::read(rt, folder)?;
     if !listing.is_empty() {
         return Ok(listing);
@@ -246,7 +250,7 @@ fn listed(rt: &HostRuntime, folder: &str) -> io::Result<Listing> {
     if listing.has_earlier {
         rename_synced(rt, folder, FolderFile::EarlierLog, FolderFile::Log(1))?;
     } else {
-        create_log(rt, folder, FolderFile::Log(1), random_id(rt)?)?;
+        create_log(rt, folder, owner, FolderFile::Log(1), random_id(rt)?)?;
     }
     Listing::read(rt, folder)
 }
@@ -312,18 +316,106 @@ pub(crate) fn open_following(
     Ok(segment)
 }
 
+/// Copies the last file of a log into `log.new` of the owner, and opens it.
+fn copy_last(
+    rt: &HostRuntime,
+    folder: &DataFolder<'_>,
+    name: FolderFile,
+) -> io::Result<(File, u64)> {
+    let new = FolderFile::NewLog(folder.ownership.owner);
+    let from = name.path(rt.alloc(), folder.path)?;
+    let to = new.path(rt.alloc(), folder.path)?;
+    let _ = fs::copy(rt, from.as_str(), to.as_str())?;
+    let mut file = open(rt, folder.path, new)?;
+    let length = file.seek(SeekFrom::End(0))?;
+    Ok((file, length))
+}
+
+/// Returns whether the last file of a log is copied before it is written on. A process that was the owner before may write to the file
+/// that it has open, and the copy is another one. A process of an earlier version was no owner: its long file is not copied.
+fn is_copied(folder: &DataFolder<'_>, last: &Segment) -> bool {
+    folder.ownership.has_earlier || last.length <= LONG
+}
+
+/// Puts a copy in the place of the last file of a log, which is opened. Returns whether there is one. If the disk is full, there is none,
+/// and it is printed.
+fn replace_last(
+    rt: &HostRuntime,
+    folder: &DataFolder<'_>,
+    last: &mut Segment,
+) -> Result<bool, FolderError> {
+    if !is_copied(folder, last) {
+        return Ok(false);
+    }
+    let name = last.name;
+    match copy_last(rt, folder, name) {
+        Ok((file, length)) => {
+            last.file = file;
+            last.length = length;
+            Ok(true)
+        }
+        Err(error) => match error.kind() {
+            ErrorKind::StorageFull | ErrorKind::QuotaExceeded => {
+                let path = folder.path;
+                // The begin of a copy would take room.
+                let _ = remove(rt, path, FolderFile::NewLog(folder.ownership.owner));
+                let _ = eprint!(rt;
+                    "blobd: {path}{name} is not copied: {error}: only the lock keeps an earlier process from it\n"
+                );
+                Ok(false)
+            }
+            _ => Err(FolderError::of_file("copy", name, error)),
+        },
+    }
+}
+
+/// Gives the copy of the last file its name, so that a crash leaves it. Only the owner can.
+fn publish_copy(
+    rt: &HostRuntime,
+    folder: &DataFolder<'_>,
+    copy: &Segment,
+) -> Result<(), FolderError> {
+    let new = FolderFile::NewLog(folder.ownership.owner);
+    if let Err(error) = copy.file.sync_all() {
+        return Err(FolderError::of_file("sync", new, error));
+    }
+    match rename_synced(rt, folder.path, new, copy.name) {
+        Ok(()) => Ok(()),
+        Err(error) => Err(FolderError::of_file("replace", copy.name, error)),
+    }
+}
+
+/// Mends the last file of a log, in a copy that takes its place.
+fn mend_last(
+    rt: &HostRuntime,
+    folder: &DataFolder<'_>,
+    last: &mut Segment,
+    buffer: &mut Vec<u8>,
+) -> Result<(), FolderError> {
+    let has_copy = replace_last(rt, folder, last)?;
+    mend(rt, folder.path, last, buffer, true)?;
+    if has_copy {
+        publish_copy(rt, folder, last)?;
+    }
+    Ok(())
+}
+
 /// Opens the files of a log, and mends the last one.
 fn open_files(
     rt: &HostRuntime,
-    folder: &str,
+    folder: &DataFolder<'_>,
     files: &[FolderFile],
 ) -> Result<Vec<Segment>, FolderError> {
     let mut segments: Vec<Segment> = Vec::new(rt.alloc());
     let mut buffer = Vec::new(rt.alloc()); // One for all files, so that memory does not grow with their number.
     for (place, name) in files.iter().enumerate() {
         let is_last = place + 1 == files.len() && !matches!(name, FolderFile::Base(_));
-        let mut next = open_following(rt, folder, *name, segments.last())?;
-        mend(rt, folder, &mut next, &mut buffer, is_last)?;
+        let mut next = open_following(rt, folder.path, *name, segments.last())?;
+        if is_last {
+            mend_last(rt, folder, &mut next, &mut buffer)?;
+        } else {
+            mend(rt, folder.path, &mut next, &mut buffer, false)?;
+        }
         if segments.push(next).is_err() {
             return Err(FolderError::Memory);
         }
@@ -334,17 +426,18 @@ fn open_files(
 /// Makes the first segment after a base, which was the last file of a log.
 fn add_segment(
     rt: &HostRuntime,
-    folder: &str,
+    folder: &DataFolder<'_>,
     base: Segment,
     number: u64,
     closed: Vec<Segment>,
 ) -> Result<OpenLog, FolderError> {
     let mut closed = closed;
     let name = FolderFile::Log(number);
-    if let Err(error) = create_log(rt, folder, name, base.id.wrapping_add(1)) {
+    let (path, owner) = (folder.path, folder.ownership.owner);
+    if let Err(error) = create_log(rt, path, owner, name, base.id.wrapping_add(1)) {
         return Err(FolderError::of_file("create", name, error));
     }
-    let last = Segment::open(rt, folder, name, base.end())?;
+    let last = Segment::open(rt, path, name, base.end())?;
     if closed.push(base).is_err() {
         return Err(FolderError::Memory);
     }
@@ -358,6 +451,9 @@ fn add_segment(
 /// Opens the log of a folder, and makes it before if there is none. A torn end is cut off: writes that a crash interrupted. Removes
 /// the files that a base has replaced.
 ///
+/// The last file is a copy that this process has made. So nothing that a process which was the owner before still writes into the file that it
+/// has open is in the log.
+///
 /// # Errors
 ///
 /// - `File`, if the log cannot be made, opened, read or cut.
@@ -365,13 +461,13 @@ fn add_segment(
 /// - `Memory`
 pub fn open_log(rt: &HostRuntime, folder: &DataFolder<'_>) -> Result<OpenLog, FolderError> {
     let path = folder.path;
-    let listing = listed(rt, path).map_err(list_error)?;
+    let listing = listed(rt, path, folder.ownership.owner).map_err(list_error)?;
     if listing.has_earlier {
         return Err(second_log());
     }
     let files = listing.files(rt.alloc()).map_err(list_error)?;
     folder.sync(rt)?; // A process that made a file may have crashed before it synced the folder.
-    let mut closed = open_files(rt, path, files.as_slice())?;
+    let mut closed = open_files(rt, folder, files.as_slice())?;
     let Some(last) = closed.pop() else {
         return Err(FolderError::of_file(
             "open",
@@ -383,7 +479,7 @@ pub fn open_log(rt: &HostRuntime, folder: &DataFolder<'_>) -> Result<OpenLog, Fo
     folder.remove_all(rt, replaced.as_slice())?;
     let number = listing.last();
     if matches!(last.name, FolderFile::Base(_)) {
-        return add_segment(rt, path, last, number.saturating_add(1), closed);
+        return add_segment(rt, folder, last, number.saturating_add(1), closed);
     }
     Ok(OpenLog {
         closed,

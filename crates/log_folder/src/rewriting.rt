@@ -119,9 +119,9 @@ fn write_needed(
     Ok(rewriting.finish()?)
 }
 
-/// Makes `base.new`, a log with this id and without frames.
-pub(crate) fn begin_base(rt: &HostRuntime, folder: &str, id: u64) -> io::Result<File> {
-    let mut file = create(rt, folder, FolderFile::NewBase)?;
+/// Makes `base.new` of an owner, a log with this id and without frames.
+pub(crate) fn begin_base(rt: &HostRuntime, folder: &str, owner: u64, id: u64) -> io::Result<File> {
+    let mut file = create(rt, folder, FolderFile::NewBase(owner))?;
     file.write_all(&header_bytes(id))?;
     Ok(file)
 }
@@ -130,12 +130,13 @@ pub(crate) fn begin_base(rt: &HostRuntime, folder: &str, id: u64) -> io::Result<
 fn write_base(
     rt: &HostRuntime,
     folder: &str,
+    owner: u64,
     filter: &Filter,
     segments: &mut [Segment],
     buffer: &mut Vec<u8>,
     id: u64,
 ) -> Result<Segment, RewriteFault> {
-    let mut file = match begin_base(rt, folder, id) {
+    let mut file = match begin_base(rt, folder, owner, id) {
         Ok(file) => file,
         Err(error) => return Err(RewriteFault::from(RewriteError::of_write(error))),
     };
@@ -145,7 +146,7 @@ fn write_base(
     }
     match file.seek(SeekFrom::End(0)) {
         Ok(length) => Ok(Segment {
-            name: FolderFile::NewBase,
+            name: FolderFile::NewBase(owner),
             file,
             id,
             length,
@@ -171,6 +172,7 @@ fn has_room(rt: &HostRuntime, folder: &str, records: u64) -> bool {
 fn rewrite(
     rt: &HostRuntime,
     folder: &str,
+    owner: u64,
     segments: &mut [Segment],
     when: When,
 ) -> Result<Outcome, RewriteFault> {
@@ -191,7 +193,7 @@ fn rewrite(
         return Ok(Outcome::Kept(was));
     }
     let filter = inventory.filter()?;
-    let mut base = [write_base(rt, folder, &filter, segments, &mut buffer, id)?];
+    let mut base = [write_base(rt, folder, owner, &filter, segments, &mut buffer, id)?];
     let left = inventory_of(rt, folder, &mut base, &mut buffer)?;
     if !inventory.has_same_state(&left) {
         return Err(RewriteFault::from(RewriteError::Differs));
@@ -204,11 +206,12 @@ fn rewrite(
 fn replace(
     rt: &HostRuntime,
     folder: &str,
+    owner: u64,
     segments: &[Segment],
     number: u64,
 ) -> Result<(), FolderError> {
     let base = FolderFile::Base(number);
-    if let Err(error) = rename_synced(rt, folder, FolderFile::NewBase, base) {
+    if let Err(error) = rename_synced(rt, folder, FolderFile::NewBase(owner), base) {
         return Err(FolderError::of_file("create", base, error));
     }
     for segment in segments {
@@ -222,7 +225,7 @@ fn replace(
     Ok(())
 }
 
-/// Rewrites the segments up to the one with this number, which are closed, into a base, if it is the time to. Prints both lengths. If
+/// Rewrites the segments up to the one with this number, which are closed, into a base, if it is the time to, as this owner. Prints both lengths. If
 /// the base cannot be written, or needs more room than it may take, prints why, and the segments stay as they are.
 ///
 /// The base is synced, and leaves the same state as the segments, before it takes their place. A crash leaves either.
@@ -236,26 +239,27 @@ fn replace(
 pub fn compact(
     rt: &HostRuntime,
     folder: &str,
+    owner: u64,
     segments: &mut [Segment],
     number: u64,
     when: When,
 ) -> Result<Outcome, FolderError> {
     let was = length_of(segments);
-    let outcome = match rewrite(rt, folder, segments, when) {
+    let outcome = match rewrite(rt, folder, owner, segments, when) {
         Ok(outcome) => outcome,
         Err(error) => {
             let _ = eprint!(rt;
                 "blobd: {folder}{} was not written: {error}\n",
                 FolderFile::Base(number)
             );
-            let _ = remove(rt, folder, FolderFile::NewBase);
+            let _ = remove(rt, folder, FolderFile::NewBase(owner));
             return Ok(Outcome::Kept(was));
         }
     };
     let Outcome::Rewritten(is) = outcome else {
         return Ok(outcome);
     };
-    replace(rt, folder, segments, number)?;
+    replace(rt, folder, owner, segments, number)?;
     let base = FolderFile::Base(number);
     let _ = eprint!(rt; "blobd: {folder}{base} was written: {is} of {was} bytes are left\n");
     Ok(outcome)

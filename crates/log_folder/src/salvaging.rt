@@ -17,6 +17,8 @@ const KEPT: &str = "damaged";
 #[derive(Drop)]
 struct DamagedLog<'w> {
     folder: &'w str,
+    /// The owner that this process is.
+    owner: u64,
     /// The files from the base on, also those that are missing.
     files: Vec<FolderFile>,
     /// The id of the file with the number 0, if there were one.
@@ -96,6 +98,7 @@ impl<'w> DamagedLog<'w> {
     fn find(
         rt: &HostRuntime,
         folder: &'w str,
+        owner: u64,
         listing: &Listing,
     ) -> Result<DamagedLog<'w>, FolderError> {
         let files = match listing.all_files(rt.alloc()) {
@@ -113,6 +116,7 @@ impl<'w> DamagedLog<'w> {
         match most_frequent(origins.as_slice()) {
             Some(origin) => Ok(DamagedLog {
                 folder,
+                owner,
                 files,
                 origin,
             }),
@@ -138,7 +142,7 @@ impl<'w> DamagedLog<'w> {
                     let id = self.id(number_of(*name));
                     match salvage.take_file(bytes.as_slice(), id) {
                         Ok(gaps) => print_gaps(rt, folder, *name, gaps.as_slice()),
-                        Err(error) => return Err(salvage_error(*name, error)),
+                        Err(error) => return Err(salvage_error(self.owner, *name, error)),
                     }
                 }
                 None => {
@@ -152,9 +156,10 @@ impl<'w> DamagedLog<'w> {
 
     /// Writes what is left into `base.new` with this id, and syncs it.
     fn write(&self, rt: &HostRuntime, id: u64) -> Result<Salvaged, FolderError> {
-        let mut file = match begin_base(rt, self.folder, id) {
+        let new = FolderFile::NewBase(self.owner);
+        let mut file = match begin_base(rt, self.folder, self.owner, id) {
             Ok(file) => file,
-            Err(error) => return Err(FolderError::of_file("write", FolderFile::NewBase, error)),
+            Err(error) => return Err(FolderError::of_file("write", new, error)),
         };
         let Ok(output) = BufWriter::new(rt.alloc(), &file) else {
             return Err(FolderError::Memory);
@@ -163,11 +168,11 @@ impl<'w> DamagedLog<'w> {
         self.read(rt, &mut salvage)?;
         let salvaged = match salvage.finish() {
             Ok(salvaged) => salvaged,
-            Err(error) => return Err(salvage_error(FolderFile::NewBase, error)),
+            Err(error) => return Err(salvage_error(self.owner, new, error)),
         };
         match sync_and_mark(&mut file, id, salvaged.end) {
             Ok(()) => Ok(salvaged),
-            Err(error) => Err(FolderError::of_file("write", FolderFile::NewBase, error)),
+            Err(error) => Err(FolderError::of_file("write", new, error)),
         }
     }
 
@@ -212,18 +217,18 @@ fn print_gaps(rt: &HostRuntime, folder: &str, name: FolderFile, gaps: &[Gap]) {
 }
 
 /// Returns the error for a log that is not salvaged.
-fn salvage_error(name: FolderFile, error: SalvageError) -> FolderError {
+fn salvage_error(owner: u64, name: FolderFile, error: SalvageError) -> FolderError {
     match error {
         SalvageError::Memory => FolderError::Memory,
         SalvageError::LaterKind(kind) => {
             header_error(name, Damage::Record(Cause::UnknownKind(kind)))
         }
         SalvageError::Write(RewriteError::Write(error)) => {
-            FolderError::of_file("write", FolderFile::NewBase, error)
+            FolderError::of_file("write", FolderFile::NewBase(owner), error)
         }
         SalvageError::Write(_) => {
             let error = io::Error::from(ErrorKind::FileTooLarge);
-            FolderError::of_file("write", FolderFile::NewBase, error)
+            FolderError::of_file("write", FolderFile::NewBase(owner), error)
         }
     }
 }
@@ -241,23 +246,23 @@ fn salvage_error(name: FolderFile, error: SalvageError) -> FolderError {
 /// - `Damaged`, if no file shows the id of the log, or a file or a record is of another version.
 /// - `Memory`
 pub fn salvage(rt: &HostRuntime, folder: &DataFolder<'_>) -> Result<(), FolderError> {
-    let path = folder.path;
+    let (path, owner) = (folder.path, folder.ownership.owner);
     let listing = match Listing::read(rt, path) {
         Ok(listing) => listing,
         Err(error) => return Err(FolderError::of_file("read", FolderFile::Folder, error)),
     };
-    let log = DamagedLog::find(rt, path, &listing)?;
+    let log = DamagedLog::find(rt, path, owner, &listing)?;
     let number = listing.last().saturating_add(1);
     let salvaged = match log.write(rt, log.id(number)) {
         Ok(salvaged) => salvaged,
         Err(error) => {
-            let _ = remove(rt, path, FolderFile::NewBase);
+            let _ = remove(rt, path, FolderFile::NewBase(owner));
             return Err(error);
         }
     };
     log.keep(rt)?;
     let base = FolderFile::Base(number);
-    if let Err(error) = rename_synced(rt, path, FolderFile::NewBase, base) {
+    if let Err(error) = rename_synced(rt, path, FolderFile::NewBase(owner), base) {
         return Err(FolderError::of_file("create", base, error));
     }
     for loss in salvaged.losses.iter() {

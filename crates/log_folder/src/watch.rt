@@ -5,6 +5,7 @@ use crate::data_folder::remove;
 use crate::error::FolderError;
 use crate::listing::Listing;
 use crate::opening::{check_closed, open_following};
+use crate::ownership::is_owner;
 use crate::rewriting::{Outcome, When, compact, length_of};
 use crate::segment::Segment;
 use std::thread;
@@ -26,6 +27,8 @@ const PATIENCE: u64 = 2;
 pub struct Watch {
     rt: HostRuntime,
     folder: String,
+    /// The owner that this process is.
+    owner: u64,
     /// The length of the closed segments from which on they are examined, in bytes.
     next: u64,
     /// The number of the last segment when they were last looked at.
@@ -69,11 +72,19 @@ fn open_closed(
 }
 
 impl Watch {
-    /// Begins after the segments of a folder were examined with this outcome. It asks by this handle for the end of the last segment.
-    pub fn new(rt: HostRuntime, folder: String, outcome: Outcome, close: CloseRequest) -> Watch {
+    /// Begins after the segments of a folder were examined with this outcome, as this owner. It asks by this handle for the end of the
+    /// last segment.
+    pub fn new(
+        rt: HostRuntime,
+        folder: String,
+        owner: u64,
+        outcome: Outcome,
+        close: CloseRequest,
+    ) -> Watch {
         Watch {
             rt,
             folder,
+            owner,
             next: next_length(outcome),
             last: 0,
             close,
@@ -118,8 +129,15 @@ impl Watch {
         };
         check_closed(&self.rt, segments.as_mut_slice())?;
         let number = listing.last().saturating_sub(1);
-        let folder = self.folder.as_str();
-        let outcome = compact(&self.rt, folder, segments.as_mut_slice(), number, when)?;
+        let (folder, owner) = (self.folder.as_str(), self.owner);
+        let outcome = compact(
+            &self.rt,
+            folder,
+            owner,
+            segments.as_mut_slice(),
+            number,
+            when,
+        )?;
         self.next = next_length(outcome);
         Ok(())
     }
@@ -143,10 +161,21 @@ impl Watch {
         self.rewrite(&listing, is_asked)
     }
 
-    /// Looks at the folder again and again. If a look fails, prints why.
+    /// Returns whether another process has become the owner of the folder.
+    fn is_lost(&self) -> bool {
+        matches!(
+            is_owner(&self.rt, self.folder.as_str(), self.owner),
+            Ok(false)
+        )
+    }
+
+    /// Looks at the folder again and again, until another process is its owner. If a look fails, prints why.
     pub fn run(mut self) {
         for _ in 0..u64::MAX {
             thread::sleep(&self.rt, Duration::from_millis(PAUSE_MILLIS));
+            if self.is_lost() {
+                return;
+            }
             if let Err(error) = self.look() {
                 let folder = self.folder.as_str();
                 let _ = eprint!(self.rt; "blobd: the log in {folder} was not rewritten: {error}\n");

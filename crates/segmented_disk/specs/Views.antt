@@ -2,18 +2,24 @@
 use Rattle.std.specs.Prelude.{◌≡◌, ◌⊎◌, ◌/◌, ℕ, Bool, true, List, [], ◌++◌, IsErr, Result, max, min}
 use Rattle.framed_disk.specs.Views.{AddsFrame, FramedView, attempted, durable, opened}
 
--- what a folder has published: the payloads of the segments after which it has published the next one, and the id of the last segment
+-- what a folder has published: the payloads of the segments after which it has published the next one, the id of the last segment, and the
+-- payloads up to which it was confirmed that this process owns the folder
 pub record FolderView : Type 0 where
   pub ended : List ℕ
   pub last_id : ℕ
+  pub confirmed : List ℕ
 
--- a folder that has published nothing yet, whose last segment has this id
+-- a folder that has published and confirmed nothing yet, whose last segment has this id
 abbrev pub starting : ℕ → FolderView
-starting id = record { ended = []; last_id = id }
+starting id = record { ended = []; last_id = id; confirmed = [] }
 
 -- the same folder after it has published the segment with this id after one with these payloads
 abbrev pub after_publish : FolderView → List ℕ → ℕ → FolderView
-after_publish f payloads id = record { ended = f.ended ++ payloads; last_id = id }
+after_publish f payloads id = record { ended = f.ended ++ payloads; last_id = id; confirmed = f.confirmed }
+
+-- the same folder after it has confirmed all payloads up to these of the last segment
+abbrev pub after_confirm : FolderView → List ℕ → FolderView
+after_confirm f payloads = record { ended = f.ended; last_id = f.last_id; confirmed = f.ended ++ payloads }
 
 -- the payloads of the segments that were closed before the disk was opened, what the folder has published since then, the last segment, the
 -- payloads that are synced, and whether a call has failed
@@ -24,8 +30,9 @@ pub record SegmentedView : Type 0 where
   pub synced : List ℕ
   pub failed : Bool
 
-abbrev pub segmented : List ℕ → FolderView → FramedView → List ℕ → Bool → SegmentedView
-segmented before folder segment synced failed = record { before = before; folder = folder; segment = segment; synced = synced; failed = failed }
+-- a disk whose synced payloads are those from before, and those that the folder has confirmed
+abbrev pub segmented : List ℕ → FolderView → FramedView → Bool → SegmentedView
+segmented before folder segment failed = record { before = before; folder = folder; segment = segment; synced = before ++ folder.confirmed; failed = failed }
 
 -- the payloads of the closed segments
 abbrev pub closed : SegmentedView → List ℕ
@@ -54,6 +61,10 @@ abbrev pub IsNewLog : FramedView → Type 0
 IsNewLog v = v ≡ opened v.id []
 
 -- ---- calls
+
+-- the same disk after a call has failed
+abbrev pub with_failure : SegmentedView → SegmentedView
+with_failure v = record v { failed = true }
 
 -- the payloads are the same, and so are those that are synced
 pub record KeepsPayloads (old new : SegmentedView) : Type 0 where

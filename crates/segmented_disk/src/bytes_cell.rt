@@ -76,12 +76,34 @@ impl BytesCell {
     {
         self.sets.append::<Sets<P>>(&mut self.writer);
     }
+
     /// Adds the payloads of a segment.
     pub fn add_payloads<D: Disk>(&mut self, segment: &FramedDisk<D>)
         ensures { self.new ≡ self.old ++ attempted segment.now }
     {
         add_payloads_as::<Brand, D>(self, segment);
     }
+
+    /// Sets the cell to the bytes of another one and the payloads of a segment after them.
+    pub fn set_payloads<D: Disk>(&mut self, front: &BytesCell, segment: &FramedDisk<D>)
+        ensures { self.new ≡ front.now ++ attempted segment.now }
+    {
+        set_payloads_as::<Brand, D>(self, front, segment);
+    }
+}
+
+/// Sets a cell to the bytes of another one and the payloads of a segment. The bytes are picked in the proof alone.
+fn set_payloads_as<P: BytesName, D: Disk>(
+    cell: &mut BytesCell,
+    front: &BytesCell,
+    last: &FramedDisk<D>,
+)
+    requires { P.bytes ≡ front.now ++ attempted last.now }
+    ensures { cell.new ≡ front.now ++ attempted last.now }
+{
+    let _ = front;
+    let _ = last;
+    cell.set::<P>();
 }
 
 /// Adds the payloads of a segment to a cell. The bytes are picked in the proof alone.

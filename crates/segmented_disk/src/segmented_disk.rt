@@ -6,7 +6,7 @@ ghost use Rattle.framed_disk.specs.Survivors.{AreHarmless, IsReadable, IsUnforge
 ghost use Rattle.framed_disk.specs.Views.{EndsInOrder, IsMarked, attempted};
 ghost use Rattle.segmented_disk.specs.Invariants.{IsPublished};
 ghost use Rattle.segmented_disk.specs.Survivors.{PreservesAll};
-ghost use Rattle.segmented_disk.specs.Views.{AddsPayload, FailsAfterFailure, IsDurable, IsNewLog, KeepsPayloads, StartsNext, after_publish, all_attempted, all_durable, length_limit, segmented, starting};
+ghost use Rattle.segmented_disk.specs.Views.{AddsPayload, FailsAfterFailure, IsDurable, IsNewLog, KeepsPayloads, StartsNext, after_confirm, after_publish, all_attempted, all_durable, length_limit, segmented, starting, with_failure};
 
 use crate::bytes_cell::BytesCell;
 use crate::folder::SegmentFolder;
@@ -28,7 +28,7 @@ const GREATEST_LIMIT: u64 = 67_108_864;
 /// A disk that writes each payload as one frame on the disk of the last segment. Each segment is a log of its own.
 ///
 /// As a `Disk`, contracts see the payloads of all segments, one after another: those whose write was attempted, and those
-/// that are synced. If the last segment is long when a payload is written, or the folder wants the next one, the segment is
+/// that are synced, which the folder has confirmed after they were durable. If the last segment is long when a payload is written, or the folder wants the next one, the segment is
 /// closed before: it ends in order, and the folder has published the next one, into which the payload goes. After a call
 /// has failed, nothing more is written.
 #[derive(Drop)]
@@ -45,8 +45,6 @@ pub struct SegmentedDisk<D: Disk, F: SegmentFolder<D>> {
     failure: Option<DiskError>,
     /// The payloads of the segments that were closed before this disk was made.
     before: BytesCell,
-    /// The payloads that calls of `sync` covered.
-    synced: BytesCell,
 }
 
 impl<D: Disk, F: SegmentFolder<D>> Model for SegmentedDisk<D, F> {
@@ -56,9 +54,9 @@ impl<D: Disk, F: SegmentFolder<D>> Model for SegmentedDisk<D, F> {
 
     ghost Value = { SegmentedView };
 
-    ghost view = { λ d. segmented d.before (F.published d.folder) d.segment d.synced (is_some d.failure) };
+    ghost view = { λ d. segmented d.before (F.published d.folder) d.segment (is_some d.failure) };
 
-    ghost invariant = { λ d. IsPublished (segmented d.before (F.published d.folder) d.segment d.synced (is_some d.failure)) };
+    ghost invariant = { λ d. IsPublished (segmented d.before (F.published d.folder) d.segment (is_some d.failure)) };
 }
 
 /// Returns the length up to which the last segment is written, in bytes.
@@ -100,59 +98,29 @@ fn make_segment<D: Disk, F: SegmentFolder<D>>(
     Ok(next)
 }
 
-/// Records that all payloads are synced. The bytes are picked in the proof alone.
-fn set_synced_as<P: BytesName, D: Disk, F: SegmentFolder<D>>(
-    synced: &mut BytesCell,
-    before: &BytesCell,
-    folder: &F,
-    segment: &FramedDisk<D>,
-)
-    requires { P.bytes ≡ (before.now ++ (F.published folder.now).ended) ++ attempted segment.now }
-    ensures { synced.new ≡ (before.now ++ (F.published folder.now).ended) ++ attempted segment.now }
-{
-    let _ = before;
-    let _ = folder;
-    let _ = segment;
-    synced.set::<P>();
-}
-
-/// Records that all payloads are synced.
-fn set_synced<D: Disk, F: SegmentFolder<D>>(
-    synced: &mut BytesCell,
-    before: &BytesCell,
-    folder: &F,
-    segment: &FramedDisk<D>,
-)
-    ensures { synced.new ≡ (before.now ++ (F.published folder.now).ended) ++ attempted segment.now }
-{
-    set_synced_as::<Brand, D, F>(synced, before, folder, segment);
-}
-
 impl<D: Disk, F: SegmentFolder<D>> SegmentedDisk<D, F> {
     /// Continues a log in segments, all of which are durable. `B` names the payloads of the closed ones, and `closed_length`
     /// is their length. The last segment has this length, and the folder makes those after it. Lengths are in bytes.
     ///
     /// # Errors
     ///
+    /// - The error of the folder, if it does not confirm that this process owns it.
     /// - `Memory`
     pub fn new<B: BytesName>(
         alloc: Global,
-        folder: F,
+        mut folder: F,
         segment: FramedDisk<D>,
         closed_length: u64,
         length: u64,
     ) -> Result<SegmentedDisk<D, F>, DiskError>
         requires durable { IsDurable segment }
         requires folder { F.published folder ≡ starting segment.id }
-        ensures { IfOk result (λ d. d ≡ segmented B.bytes (starting segment.id) segment (B.bytes ++ attempted segment) false) }
+        ensures { IfOk result (λ d. d ≡ segmented B.bytes (after_confirm (starting segment.id) (attempted segment)) segment false) }
     {
         let Ok(before) = BytesCell::new::<B>(alloc) else {
             return Err(DiskError::Memory);
         };
-        let Ok(mut synced) = BytesCell::new::<B>(alloc) else {
-            return Err(DiskError::Memory);
-        };
-        set_synced(&mut synced, &before, &folder, &segment);
+        folder.confirm(&segment)?;
         Ok(SegmentedDisk {
             alloc,
             folder,
@@ -161,7 +129,6 @@ impl<D: Disk, F: SegmentFolder<D>> SegmentedDisk<D, F> {
             length,
             failure: None,
             before,
-            synced,
         })
     }
 
@@ -196,8 +163,7 @@ impl<D: Disk, F: SegmentFolder<D>> SegmentedDisk<D, F> {
             return Err(failure);
         }
         if let Err(cause) = self.segment.mark() {
-            self.failure = Some(cause);
-            return Err(cause);
+            return Err(self.fail(cause));
         }
         self.length = self.length.saturating_add(FRAME_LENGTH);
         Ok(())
@@ -235,6 +201,35 @@ impl<D: Disk, F: SegmentFolder<D>> SegmentedDisk<D, F> {
         ensures cut { LeavesCut (self.now).segment.id (left.now ++ behind.now) }
     {
         self.segment.reveal_survivors_before(left, behind);
+    }
+
+    /// Notes that a call has failed, and returns why: that this process does not own the folder any more, or this cause.
+    fn fail(&mut self, cause: DiskError) -> DiskError
+        ensures { self.new ≡ with_failure self.old }
+    {
+        let cause = self.folder.cause_of(cause);
+        self.failure = Some(cause);
+        cause
+    }
+
+    /// Syncs the last segment, and then has the folder confirm that this process still owns it.
+    ///
+    /// # Errors
+    ///
+    /// - The error of a call on the disk or on the folder.
+    #[tactic(auto, using(crate::proofs::Segments::all_confirmed))]
+    fn sync_last(&mut self) -> Result<(), DiskError>
+        ensures same { all_attempted self.new ≡ all_attempted self.old }
+        ensures ok { OnOk result ((self.new).synced ≡ all_attempted self.old) }
+        ensures err { OnErr result ((self.new).synced ≡ (self.old).synced) }
+        ensures durable { OnOk result (all_durable self.new ≡ all_attempted self.new) }
+        ensures failed { (self.new).failed ≡ (self.old).failed }
+        ensures confirmed { OnOk result ((self.new).folder ≡ after_confirm (self.old).folder (attempted (self.new).segment)) }
+    {
+        self.segment.reveal_invariant();
+        self.segment.sync()?;
+        self.folder.confirm(&self.segment)?;
+        Ok(())
     }
 
     /// Returns whether the last segment is closed before the next payload is written.
@@ -309,33 +304,31 @@ impl<D: Disk, F: SegmentFolder<D>> Disk for SegmentedDisk<D, F> {
             return Err(failure);
         }
         if let Err(cause) = self.write_payload(bytes) {
-            self.failure = Some(cause);
-            return Err(cause);
+            return Err(self.fail(cause));
         }
         Ok(())
     }
 
-    /// Waits until all frames are durable.
+    /// Waits until all frames are durable. Then the folder confirms that this process still owns it.
     ///
     /// # Errors
     ///
-    /// - The error of the call that has failed, now or before.
+    /// - The error of the call that has failed, now or before. It is `Content` if another process owns the folder.
     fn sync(&mut self) -> Result<(), DiskError>
         ensures same { all_attempted self.new ≡ all_attempted self.old }
         ensures ok { OnOk result ((self.new).synced ≡ all_attempted self.old) }
         ensures err { OnErr result ((self.new).synced ≡ (self.old).synced) }
         ensures durable { OnOk result (all_durable self.new ≡ all_attempted self.new) }
+        ensures confirmed { OnOk result ((self.new).folder ≡ after_confirm (self.old).folder (attempted (self.new).segment)) }
         ensures stuck { FailsAfterFailure result self.old self.new }
         ensures failed { OnErr result ((self.new).failed ≡ true) }
     {
         if let Some(failure) = self.failure {
             return Err(failure);
         }
-        if let Err(cause) = self.segment.sync() {
-            self.failure = Some(cause);
-            return Err(cause);
+        if let Err(cause) = self.sync_last() {
+            return Err(self.fail(cause));
         }
-        set_synced(&mut self.synced, &self.before, &self.folder, &self.segment);
         Ok(())
     }
 }

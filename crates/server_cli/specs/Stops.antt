@@ -8,7 +8,7 @@ use Rattle.server_cli.specs.declared.need.Need.TheVariants as need
 use Rattle.tenant_args.specs.declared.fault.TenantFault.{TenantFault}
 use Rattle.tenant_args.specs.declared.fault.TenantFault.TheVariants as words
 use Rattle.server_cli.specs.declared.stop.Stop.{Stop}
-use Rattle.server_cli.specs.declared.stop.Stop.TheVariants.{Usage, File, Memory, Folder, Held, Damaged, LogFailed, Settings}
+use Rattle.server_cli.specs.declared.stop.Stop.TheVariants.{Usage, File, Memory, Folder, Held, Lost, Damaged, LogFailed, Settings}
 
 -- the text for wrong arguments
 abbrev pub usage_text : Text
@@ -19,6 +19,7 @@ abbrev pub stop_text : Stop → Option Text
 stop_text Usage = Some usage_text
 stop_text Memory = Some (codes "blobd: out of memory\n")
 stop_text (Held folder) = Some (codes "blobd: another process has " ++ folder.now ++ codes "/lock\n")
+stop_text (Lost folder) = Some (codes "blobd: another process has taken over " ++ folder.now ++ codes "\n")
 stop_text stop = None
 
 -- the exit status
@@ -28,6 +29,7 @@ stop_status (File path error) = 3
 stop_status Memory = 5
 stop_status (Folder action folder file error) = 6
 stop_status (Held folder) = 7
+stop_status (Lost folder) = 7
 stop_status (Damaged folder place damage) = 8
 stop_status (LogFailed folder error) = 9
 stop_status (Settings folder place name need) = 10

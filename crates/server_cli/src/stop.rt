@@ -42,6 +42,11 @@ pub enum Stop<'w> {
         /// The folder.
         folder: &'w str,
     },
+    /// Another process has become the owner of the folder of the log.
+    Lost {
+        /// The folder.
+        folder: &'w str,
+    },
     /// The log is damaged, or is no log of this version.
     Damaged {
         /// The folder of the log.
@@ -115,6 +120,7 @@ impl<'w> Stop<'w> {
             Stop::Memory => 5,
             Stop::Folder { .. } => 6,
             Stop::Held { .. } => 7,
+            Stop::Lost { .. } => 7,
             Stop::Damaged { .. } => 8,
             Stop::LogFailed { .. } => 9,
             Stop::Settings { .. } => 10,
@@ -146,6 +152,9 @@ impl fmt::Display for StopText<'_, '_> {
                 error,
             } => write!(f, "blobd: cannot {action} {folder}{file}: {error}\n"),
             Stop::Held { folder } => write!(f, "blobd: another process has {folder}/lock\n"),
+            Stop::Lost { folder } => {
+                write!(f, "blobd: another process has taken over {folder}\n")
+            }
             Stop::Damaged {
                 folder,
                 place,

@@ -4,6 +4,7 @@
 //! The file `reserve` takes room while the disk has enough. A change that finds too little free cuts a part off it, so that deletes and
 //! a rewriting of the log are possible on a disk that another program has filled.
 use crate::folder::held_room::HeldRoom;
+use crate::folder::ownership::Owner;
 use crate::http::fault::Fault;
 use crate::operation::locks::guard_of;
 use std::ffi::CString;
@@ -40,7 +41,7 @@ const CONTENT: u64 = 3 * LEAST;
 const RESERVE: &str = "reserve";
 const REWRITABLE: &str = "room";
 
-/// The file that the store writes while it rewrites its log.
+/// The file that the store writes in its own folder while it rewrites its log.
 const NEW_BASE: &str = "base.new";
 
 /// What the disk has room for.
@@ -215,6 +216,12 @@ impl DiskRoom {
         }
     }
 
+    /// Returns whether the store is rewriting its log.
+    fn is_rewritten(&self) -> bool {
+        let base = Owner::of(&self.path).ok().and_then(|owner| owner.path_of(NEW_BASE));
+        base.map_or(false, |base| base.exists())
+    }
+
     /// Makes the reserve if the disk has enough room: no content is refused for it, and no rewriting is disturbed.
     fn keep_reserve(&self) {
         let path = self.path.join(RESERVE);
@@ -227,7 +234,7 @@ impl DiskRoom {
             return;
         }
         let wanted = self.floor().saturating_add(self.reserve).saturating_add(self.reserve - held.min(self.reserve));
-        if held >= self.reserve || !self.has(wanted) || self.path.join(NEW_BASE).exists() {
+        if held >= self.reserve || !self.has(wanted) || self.is_rewritten() {
             return;
         }
         match allocate(&path, self.reserve) {

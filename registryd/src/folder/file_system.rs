@@ -7,8 +7,8 @@ use std::path::{Path, PathBuf};
 /// The list of the mounts that this process sees (proc(5), "mountinfo").
 const MOUNTS: &str = "/proc/self/mountinfo";
 
-/// The kinds that the tests shut down while clients push.
-const TESTED: [&str; 2] = ["ext4", "xfs"];
+/// The kinds that the tests shut down, or whose machines they kill and cut off, while clients push.
+const TESTED: [&str; 3] = ["ext4", "fuse.glusterfs", "xfs"];
 
 /// The kinds that keep nothing when the machine ends.
 const IN_MEMORY: [&str; 2] = ["ramfs", "tmpfs"];
@@ -19,7 +19,7 @@ const BROKEN: [&str; 1] = ["fuse.rclone"];
 /// What is known of a kind of file system.
 #[derive(Clone, Copy, Debug, PartialEq, Eq)]
 pub(crate) enum Known {
-    /// What was acknowledged was there after the file system lost what it had not written.
+    /// What was acknowledged was there after the file system lost what it had not written, or a machine was cut off from it.
     Tested,
     Untested,
     /// All is lost when the machine ends.
@@ -119,7 +119,8 @@ mod tests {
 
     #[test]
     fn kinds_are_known() {
-        let known = ["ext4", "xfs", "tmpfs", "fuse.rclone", "fuse.glusterfs"].map(Known::of);
-        assert_eq!(known, [Known::Tested, Known::Tested, Known::InMemory, Known::Broken, Known::Untested]);
+        let known = ["ext4", "xfs", "fuse.glusterfs", "tmpfs", "fuse.rclone", "btrfs"].map(Known::of);
+        let tested = Known::Tested;
+        assert_eq!(known, [tested, tested, tested, Known::InMemory, Known::Broken, Known::Untested]);
     }
 }

@@ -1,8 +1,8 @@
 //! The room that is held after the ends of files to which changes are added, so that no other program takes it between a look at the
-//! disk and a write. The next file of the log has its room before the store begins it: the store empties the file in which it is held,
-//! and writes to it at once.
+//! disk and a write. The next file of the log has its room before the store begins it, in the folder of the store that owns the folder.
 use crate::database::sqlite::FILE_NAME;
 use crate::folder::log_end::last_file;
+use crate::folder::ownership::Owner;
 use crate::operation::locks::guard_of;
 use std::fs::{File, OpenOptions};
 use std::io;
@@ -14,7 +14,7 @@ use std::sync::Mutex;
 /// What is held for a transaction of the database, in bytes.
 const TRANSACTION: u64 = 256 << 10;
 
-/// The name of the next file of the log until the store has begun it.
+/// The name of the next file of the log until the store gives it its number.
 const NEXT: &str = "log.new";
 
 /// The number and the path of the last file of the log after whose end room is held.
@@ -69,7 +69,9 @@ impl HeldRoom {
                 }
             }
         }
-        let is_held = |path: &Path| has_room(open(path), bytes) && has_room(open_next(&folder.join(NEXT)), bytes);
+        let next = Owner::of(folder).ok().and_then(|owner| owner.path_of(NEXT));
+        let has_next = || next.map_or(true, |next| has_room(open_next(&next), bytes));
+        let is_held = |path: &Path| has_room(open(path), bytes) && has_next();
         let of_database = folder.join(format!("{FILE_NAME}-wal"));
         held.as_ref().map_or(true, |(_, path)| is_held(path)) && has_room(open(&of_database), TRANSACTION)
     }
@@ -78,24 +80,29 @@ impl HeldRoom {
 #[cfg(test)]
 mod tests {
     use super::*;
+    use std::io::Write;
     use std::os::unix::fs::MetadataExt;
 
     #[test]
     fn room_is_held_after_the_end_of_the_last_file_and_for_the_next() {
         let folder = std::env::temp_dir().join(format!("registryd-held-{}", uuid::Uuid::new_v4()));
-        std::fs::create_dir(&folder).unwrap();
-        let (first, second, next) = (folder.join("log.1"), folder.join("log.2"), folder.join("log.new"));
+        std::fs::create_dir_all(folder.join("owner-7")).unwrap();
+        let (first, second, next) = (folder.join("log.1"), folder.join("log.2"), folder.join("owner-7/log.new"));
         std::fs::write(&first, "abc").unwrap();
         let held = HeldRoom::default();
         let taken = |path: &Path| std::fs::metadata(path).unwrap().blocks() * 512;
         assert!(held.hold(&folder, 1 << 20) && taken(&first) >= 1 << 20 && taken(&next) >= 1 << 20);
         assert_eq!(std::fs::metadata(&next).unwrap().len(), 0);
-        // As the store does: it empties the file, writes to it, and gives it its number.
-        std::fs::write(&next, "abcd").unwrap();
+        // As the store does: it writes to the file, and gives it its number.
+        std::fs::File::options().write(true).open(&next).and_then(|mut file| file.write_all(b"abcd")).unwrap();
         assert!(held.hold(&folder, 1 << 20) && taken(&next) >= 1 << 20);
         std::fs::rename(&next, &second).unwrap();
         assert!(held.hold(&folder, 1 << 20) && taken(&first) < 1 << 20 && taken(&second) >= 1 << 20 && taken(&next) >= 1 << 20);
         assert_eq!((std::fs::read(&first).unwrap(), std::fs::read(&second).unwrap()), (b"abc".to_vec(), b"abcd".to_vec()));
+        // Without an owner, and with two, none is held for the next file.
+        std::fs::create_dir(folder.join("owner-8")).unwrap();
+        std::fs::remove_file(&next).unwrap();
+        assert!(held.hold(&folder, 1 << 20) && !next.exists() && !folder.join("owner-8/log.new").exists());
         assert!(HeldRoom::default().hold(Path::new("/no/such/folder"), 1));
         std::fs::remove_dir_all(folder).unwrap();
     }

@@ -6,6 +6,7 @@ pub(crate) mod files;
 mod frame_check;
 mod held_room;
 pub(crate) mod log_end;
+pub(crate) mod ownership;
 pub(crate) mod page_cache;
 pub(crate) mod scrub;
 pub(crate) mod unsynced;

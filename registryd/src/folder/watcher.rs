@@ -6,6 +6,7 @@ use crate::database::writer::Writer;
 use crate::folder::disk_room::DiskRoom;
 use crate::folder::log_end;
 use crate::folder::log_end::LogEnd;
+use crate::folder::ownership::Owner;
 use crate::operation::exit::Failure;
 use crate::start::recovery::blocking;
 use std::io;
@@ -83,6 +84,7 @@ pub(crate) struct Watcher {
     room: Arc<DiskRoom>,
     /// The writer of the database, if each change is on the disk before its reply.
     writer: Option<Arc<Writer>>,
+    owner: Owner,
     files: Files,
     /// The end of the log at the last look, and the last one that was recorded.
     seen: Option<LogEnd>,
@@ -95,7 +97,9 @@ impl Watcher {
     /// Makes a watch of a folder whose programs have started. With a writer it records the end of the log.
     pub(crate) fn new(folder: PathBuf, room: Arc<DiskRoom>, writer: Option<Arc<Writer>>) -> Watcher {
         let files = Files::of(&folder);
-        Watcher { folder, room, writer, files, seen: None, kept: None, looks: 0 }
+        // If the owner is not found, the store still is the one to notice that it is another one.
+        let owner = Owner::of(&folder).unwrap_or_default();
+        Watcher { folder, room, writer, owner, files, seen: None, kept: None, looks: 0 }
     }
 
     /// Looks at the folder until something is wrong, and returns what.
@@ -114,10 +118,14 @@ impl Watcher {
     }
 
     fn look(&mut self) -> Result<(), Failure> {
+        // Another store that takes the folder over replaces the last file of the log after that.
+        if matches!(self.owner.is_current(), Ok(false)) {
+            return Err(Failure::of_lost_folder());
+        }
         if self.files.gone(&self.folder).is_some() {
             std::thread::sleep(SECOND_LOOK);
             if let Some(path) = self.files.gone(&self.folder) {
-                return Err(Failure::of_gone(&path));
+                return Err(self.why_gone(&path));
             }
         }
         self.room.tend();
@@ -128,6 +136,14 @@ impl Watcher {
         }
         self.seen = end;
         Ok(())
+    }
+
+    /// Returns why a file is gone: another store has taken the folder over, or somebody has removed it.
+    fn why_gone(&self, path: &Path) -> Failure {
+        match self.owner.is_current() {
+            Ok(false) => Failure::of_lost_folder(),
+            _ => Failure::of_gone(path),
+        }
     }
 
     /// Records the end of the log, if each change is on the disk before its reply.
