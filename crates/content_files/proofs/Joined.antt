@@ -1,6 +1,6 @@
 -- The pieces of a content after one deed more.
 use Rattle.std.proofs.Common.{◌≡◌, ◌≤◌, ◌<◌, ◌-◌, ◌+◌, ◌∙◌, ℕ, List, [], ◌∷◌, ◌++◌, true, ap, arith, length, length-append, refl, subst, sym}
-use Rattle.std.specs.Prelude.{Option, drop, map, sum, sum_by, take, get_or}
+use Rattle.std.specs.Prelude.{drop, map, sum, sum_by, take, get_or}
 use Rattle.content_files.specs.Reads.{IsPieceAt, IsPlaceOf, IsReadOf}
 use Rattle.std.proofs.Math.Seq.{drop-cons, take-add, take-append_seam, take-length}
 use Rattle.std.proofs.lemmas.Grind.{flat_map-append}
@@ -108,7 +108,7 @@ note_at notes pieces i n each within at =
     let there : i < length notes = omega (arith, within, ap length each, length-map notes note_shown, length-map pieces note_of) in
     ap note_shown at ∙ sym (get_or-map note_shown notes i n (note_shown n) there) ∙ ap (λ l. get_or l i (note_shown n)) each ∙ get_or-map note_of pieces i [] (note_shown n) within
 
-lens_of : (notes : List Note) (pieces : List (List ℕ)) → map note_shown notes ≡ map note_of pieces → sum_by (λ (n : Note). n.len) notes ≡ sum_by (λ (p : List ℕ). length p) pieces
+pub lens_of : (notes : List Note) (pieces : List (List ℕ)) → map note_shown notes ≡ map note_of pieces → sum_by (λ (n : Note). n.len) notes ≡ sum_by (λ (p : List ℕ). length p) pieces
 lens_of notes pieces each =
     sym (sum-map (λ (n : Note). n.len) notes) ∙ ap sum (sym (map-map (λ (x : PieceNote). x.len) note_shown notes) ∙ ap (map (λ (x : PieceNote). x.len)) each ∙ map-map (λ (x : PieceNote). x.len) note_of pieces)
     ∙ sum-map (λ (p : List ℕ). length p) pieces

@@ -5,3 +5,4 @@ pub mod Pieces
 pub mod Shown
 pub mod Places
 pub mod Reads
+pub mod Parts

@@ -1,6 +1,6 @@
 -- What is noted of the pieces of a content: their lengths and their sums. A content is a list of numbers. A number below 256 is a byte. Every other
 -- number stands for a byte that was not read since the start.
-use Rattle.std.specs.Prelude.{◌≡◌, ℕ, ◌+◌, ◌-◌, nat_lt, ◌&&◌, not, Bool, true, List, [], ◌∷◌, ◌++◌, length, map, replicate, if◌then◌else◌}
+use Rattle.std.specs.Prelude.{◌≡◌, ℕ, ◌+◌, ◌-◌, nat_lt, Bool, List, [], ◌∷◌, length, replicate, if◌then◌else◌}
 use Rattle.std.specs.List.{flat_map, list_all}
 use Rattle.log_frames.specs.Sums.{basis, sum_words}
 

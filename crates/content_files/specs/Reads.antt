@@ -10,6 +10,10 @@ pub record IsPlaceOf (notes : List Note) (offset i start : ℕ) : Type 0 where
   pub from : start ≤ offset
   pub to : (none : Note) → offset < start + (get_or notes i none).len
 
+-- the first `count` pieces have this length together
+abbrev pub IsCountWithin : List Note → ℕ → ℕ → Type 0
+IsCountWithin notes len count = (count ≤ length notes) × (len ≡ sum_by (λ n. n.len) (take count notes))
+
 -- These bytes were read in place of the piece that has the byte at the offset, and that begins at `start`: they have its length and its sum.
 pub record IsPieceAt (pieces : List (List ℕ)) (offset start : ℕ) (bytes : List ℕ) : Type 0 where
   pub front : List ℕ

@@ -1,5 +1,5 @@
 -- The notes that a list of notes in memory shows.
-use Rattle.std.specs.Prelude.{◌≡◌, ℕ, List, length, map, sum_by}
+use Rattle.std.specs.Prelude.{◌≡◌, ℕ, List, length, map}
 use Rattle.content_files.specs.Notes.{PieceNote, joined, note_of}
 use Rattle.content_files.specs.declared.note.Note.{Note}
 

@@ -1,12 +1,14 @@
 //! A content, in memory or in a file.
 
-ghost use Rattle.std.specs.Prelude.{◌≡◌, ◌++◌, length, take, IfOk, IfSome, OnErr, OnOk, [], true};
+ghost use Rattle.std.specs.Prelude.{◌≡◌, ◌<◌, ◌++◌, length, take, IfOk, IfSome, OnErr, OnOk, [], true};
 ghost use Rattle.content_files.specs.Notes.{is_read};
+ghost use Rattle.content_files.specs.Parts.{IsPart};
 
 use crate::disk_content::DiskContent;
 use crate::error::ContentError;
 use crate::name::ContentName;
 use crate::note::reveal_read;
+use crate::pieces::part_of;
 use crate::store::ContentStore;
 use std::alloc::{AllocError, Global};
 use std::marker::Model;
@@ -124,12 +126,38 @@ impl Content {
         }
     }
 
-    /// Returns a content in memory without bytes, in place of this one.
-    pub fn emptied(&self, alloc: Global) -> Content
-        ensures { result ≡ [] }
+    /// Returns the bytes from `start` to before `end`. If the content is in a file, it reads them, and compares the sums of the
+    /// pieces that have them.
+    ///
+    /// # Errors
+    ///
+    /// - `Cut`: the content was cut within a piece.
+    /// - `Fault`: the content ends before `end`, or the file has other bytes or too few.
+    /// - `Memory`
+    /// - `Io`: the operating system's error.
+    ///
+    /// # Cost
+    ///
+    /// A copy of the bytes, or a read for each piece that has some of them.
+    pub fn read_between<F: ContentStore>(
+        &self,
+        files: &F,
+        alloc: Global,
+        start: u64,
+        end: u64,
+    ) -> Result<Vec<u8>, ContentError>
+        requires { start < end }
+        ensures { IfOk result (λ v. IsPart F.on_disk self.now start end v.items) }
     {
-        let _ = self;
-        Content::resident(Vec::new(alloc))
+        match &self.place {
+            Place::Resident(bytes) => {
+                if end > bytes.len() as u64 {
+                    return Err(ContentError::Fault);
+                }
+                part_of(alloc, bytes.as_slice(), start, end)
+            }
+            Place::OnDisk(content) => content.read_between(files, alloc, start, end),
+        }
     }
 }
 

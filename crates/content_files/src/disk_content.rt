@@ -2,6 +2,7 @@
 
 ghost use Rattle.std.specs.Prelude.{◌≡◌, ◌++◌, ◌<◌, [], IfOk, OnOk, OnErr, length, take, true};
 ghost use Rattle.content_files.specs.Notes.{is_read, unread};
+ghost use Rattle.content_files.specs.Parts.{IsPart};
 ghost use Rattle.content_files.specs.Reads.{IsReadOf};
 
 use crate::error::ContentError;
@@ -136,6 +137,33 @@ impl DiskContent {
         self.len = self.pieces.total();
         self.all_read = false;
         Ok(())
+    }
+
+    /// Reads the bytes from `start` to before `end`, piece by piece, and compares the pieces' sums.
+    ///
+    /// # Errors
+    ///
+    /// - `Cut`: the content was cut within a piece.
+    /// - `Fault`: the content ends before `end`, or the file has other bytes or too few.
+    /// - `Memory`
+    /// - `Io`: the operating system's error.
+    ///
+    /// # Cost
+    ///
+    /// One step for each piece before them, or for each piece if the content was cut. A read for each piece that has some of
+    /// them. Allocations of their length, of a piece, and of the bytes of these pieces.
+    pub fn read_between<F: ContentStore>(
+        &self,
+        files: &F,
+        alloc: Global,
+        start: u64,
+        end: u64,
+    ) -> Result<Vec<u8>, ContentError>
+        requires { start < end }
+        ensures read { IfOk result (λ v. IsPart true self.now start end v.items) }
+        ensures there { IfOk result (λ _. F.on_disk ≡ true) }
+    {
+        self.pieces.read_between(files, alloc, self.len, start, end)
     }
 
     /// Reads the piece that has the byte at an offset, and compares its sum. Returns the piece's bytes, and where it begins.

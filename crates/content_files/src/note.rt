@@ -2,7 +2,7 @@
 
 ghost use Rattle.std.specs.Prelude.{◌≡◌, true, IfSome};
 ghost use Rattle.content_files.specs.Notes.{is_read, piece_sum};
-ghost use Rattle.content_files.specs.Reads.{IsPlaceOf};
+ghost use Rattle.content_files.specs.Reads.{IsCountWithin, IsPlaceOf};
 
 use log_frames::{BASIS, sum_words};
 
@@ -50,4 +50,18 @@ pub(crate) fn find(notes: &[Note], offset: u64) -> Option<(usize, u64)>
         start = end;
     }
     None
+}
+
+/// Returns how many of the first pieces have this length together, if some have.
+pub(crate) fn count_within(notes: &[Note], len: u64) -> Option<usize>
+    ensures { IfSome result (IsCountWithin notes.now len) }
+{
+    let mut end: u64 = 0;
+    for index in 0..notes.len() {
+        if end == len {
+            return Some(index);
+        }
+        end = end.checked_add(notes[index].len)?;
+    }
+    if end == len { Some(notes.len()) } else { None }
 }

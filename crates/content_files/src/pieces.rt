@@ -1,14 +1,15 @@
 //! The pieces of a content in a file, and what memory keeps of them.
 
-ghost use Rattle.std.specs.Prelude.{◌≡◌, ◌++◌, ◌≤◌, ◌<◌, ◌+◌, ◌-◌, ◌∷◌, [], IfOk, OnOk, OnErr, length, take};
+ghost use Rattle.std.specs.Prelude.{◌≡◌, ◌++◌, ◌≤◌, ◌<◌, ◌+◌, ◌-◌, ◌∷◌, [], IfOk, OnOk, OnErr, drop, length, take, true, IfSome};
 ghost use Rattle.content_files.specs.Notes.{note_of, unread};
+ghost use Rattle.content_files.specs.Parts.{IsAddedRead, IsCountIn, IsReadWithin};
 ghost use Rattle.content_files.specs.Pieces.{BeginsAs, HasRoomFor, IsAtEndOf, bytes_of, pieces_of, with_piece};
 ghost use Rattle.content_files.specs.Reads.{IsPieceAt};
 ghost use Rattle.content_files.specs.Shown.{note_shown};
 
 use crate::error::ContentError;
 use crate::name::ContentName;
-use crate::note::{Note, find, sum_of};
+use crate::note::{Note, count_within, find, sum_of};
 use crate::store::ContentStore;
 use crate::trace::PieceTrace;
 use crate::written::Written;
@@ -204,6 +205,93 @@ impl Pieces {
         read_noted(files, self.name(), start, note, bytes.as_mut_slice())?;
         Ok((bytes, start))
     }
+
+    /// Returns how many pieces a content of this length has, if it ends where one of them does.
+    fn count_within(&self, len: u64) -> Option<usize>
+        ensures { IfSome result (IsCountIn self.now.each len) }
+    {
+        if self.total == len {
+            return Some(self.notes.len());
+        }
+        count_within(self.notes.as_slice(), len)
+    }
+
+    /// Reads the bytes of a content of this length from `start` to before `end`, and compares the sums of the pieces that have
+    /// them.
+    ///
+    /// # Errors
+    ///
+    /// - `Cut`: the content ends within a piece.
+    /// - `Fault`: the content ends before `end`, or the file has other bytes, or too few.
+    /// - `Memory`
+    /// - `Io`: the operating system's error.
+    pub(crate) fn read_between<F: ContentStore>(
+        &self,
+        files: &F,
+        alloc: Global,
+        len: u64,
+        start: u64,
+        end: u64,
+    ) -> Result<Vec<u8>, ContentError>
+        requires { start < end }
+        ensures read { IfOk result (λ v. IsReadWithin self.now.each len start end v.items) }
+        ensures there { IfOk result (λ _. F.on_disk ≡ true) }
+    {
+        let Some(count) = self.count_within(len) else {
+            return Err(ContentError::Cut);
+        };
+        let Some((first, begin)) = find(&self.notes.as_slice()[..count], start) else {
+            return Err(ContentError::Fault);
+        };
+        let mut bytes = Vec::new(alloc);
+        let mut at = begin;
+        for index in first..count {
+            let note = self.notes[index];
+            add_read(files, self.name(), at, note, &mut bytes)?;
+            let Some(next) = at.checked_add(note.len) else {
+                return Err(ContentError::Fault);
+            };
+            if end <= next {
+                return part_of(alloc, bytes.as_slice(), start - begin, end - begin);
+            }
+            at = next;
+        }
+        Err(ContentError::Fault)
+    }
+}
+
+/// Copies the bytes from `start` to before `end`.
+pub(crate) fn part_of(
+    alloc: Global,
+    bytes: &[u8],
+    start: u64,
+    end: u64,
+) -> Result<Vec<u8>, ContentError>
+    requires ordered { start ≤ end }
+    requires within { end ≤ length bytes.now }
+    ensures { IfOk result (λ v. v.items ≡ take (end - start) (drop start bytes.now)) }
+{
+    let part = &bytes[start as usize..end as usize];
+    let mut copy = Vec::with_capacity(alloc, part.len())?;
+    copy.extend_from_slice(part)?;
+    Ok(copy)
+}
+
+/// Reads the piece with a note and adds its bytes.
+fn add_read<F: ContentStore>(
+    files: &F,
+    name: ContentName,
+    start: u64,
+    note: Note,
+    out: &mut Vec<u8>,
+) -> Result<(), ContentError>
+    ensures ok { OnOk result (IsAddedRead (note_shown note) out.old.items out.new.items) }
+    ensures there { OnOk result (F.on_disk ≡ true) }
+{
+    let mut bytes = Vec::from_elem(*out.allocator(), 0u8, note.len as usize)?;
+    read_noted(files, name, start, note, bytes.as_mut_slice())?;
+    out.extend_from_slice(bytes.as_slice())?;
+    Ok(())
 }
 
 /// Reads bytes of which this is noted, and compares their sum.
@@ -217,6 +305,7 @@ fn read_noted<F: ContentStore>(
     requires { length out.old ≡ note.len }
     ensures len { length out.new ≡ length out.old }
     ensures ok { OnOk result (note_of out.new ≡ note_shown note) }
+    ensures there { OnOk result (F.on_disk ≡ true) }
 {
     files.read(name, start, out)?;
     if sum_of(out) != note.sum {

@@ -1,6 +1,6 @@
 //! What a content needs of the files.
 
-ghost use Rattle.std.specs.Prelude.{◌≡◌, ◌≤◌, ◌+◌, IfOk, length};
+ghost use Rattle.std.specs.Prelude.{◌≡◌, ◌≤◌, ◌+◌, Bool, IfOk, OnOk, false, length, true};
 ghost use Rattle.content_files.specs.Placed.{placed};
 
 use crate::error::ContentError;
@@ -12,6 +12,13 @@ use crate::written::Written;
 /// An implementation makes its result of `write` by `write_synced`, on the file of this name. If it creates the file, it
 /// syncs the folder too.
 pub trait ContentStore {
+    // Whether contents may lie in files.
+    ghost on_disk: { Bool };
+
+    /// Returns whether contents may lie in files.
+    fn is_on_disk(&self) -> bool
+        ensures { result ≡ on_disk };
+
     /// Writes bytes at an offset, and syncs them.
     ///
     /// # Errors
@@ -32,7 +39,8 @@ pub trait ContentStore {
     ///
     /// The cause: `Fault` if the file is too short. `out` may then have any bytes.
     fn read(&self, name: ContentName, offset: u64, out: &mut [u8]) -> Result<(), ContentError>
-        ensures { length out.new ≡ length out.old };
+        ensures len { length out.new ≡ length out.old }
+        ensures there { OnOk result (on_disk ≡ true) };
 }
 
 /// No files: all contents are in memory.
@@ -40,6 +48,12 @@ pub trait ContentStore {
 pub struct NoFiles;
 
 impl ContentStore for NoFiles {
+    ghost on_disk = { false };
+
+    fn is_on_disk(&self) -> bool {
+        false
+    }
+
     fn write<'b>(
         &self,
         _name: ContentName,

@@ -6,6 +6,7 @@ use Rattle.ghost_log.specs.declared.view.Entry.{Entry}
 use Rattle.ghost_log.specs.Entries.{entry, events_by, IsPrefix}
 use Rattle.ghost_log.specs.Calls.{Writer}
 use Rattle.spec_lib.specs.Texts.{Text}
+use Rattle.store_api.specs.LeaseViews.{Extent}
 use Rattle.wire_server.specs.LeaseEvents.{TableEvent}
 use Rattle.lease_table.specs.Tables.{LeaseMap, IsTableStep, read_event}
 
@@ -73,8 +74,8 @@ pub record AddsEvent (old : LeaseTrace) (event : TableEvent) (new : LeaseTrace) 
   pub legal : IsLegal (events_of new.seen)
 
 -- the event of a read, or of one that found no lease, was added
-abbrev pub AddsReadEvent : LeaseTrace → ℕ → Text → ℕ → ℕ → LeaseTrace → Option Text → Type 0
-AddsReadEvent old number digest start end new piece = AddsEvent old (read_event number digest start end piece) new
+abbrev pub AddsReadEvent : LeaseTrace → ℕ → Text → ℕ → ℕ → LeaseTrace → Option Extent → Type 0
+AddsReadEvent old number digest start end new found = AddsEvent old (read_event number digest start end found) new
 
 -- two writers see one whole history, which extends that of each, and add nothing
 pub record SeesOneHistory (one other one' other' : LeaseTrace) : Type 0 where

@@ -6,7 +6,7 @@ use Rattle.std.specs.Coded.{Coded, code_by, coded×, coded_ℕ}
 use Rattle.std.specs.FinMap as fmap
 use Rattle.std.proofs.Common.{refl}
 use Rattle.spec_lib.specs.Texts.{Text, coded_text}
-use Rattle.store_api.specs.LeaseViews.{LeaseView, bytes_between}
+use Rattle.store_api.specs.LeaseViews.{Extent, LeaseView, bytes_between, stored_bytes}
 use Rattle.store_book.specs.Leased.{LeaseValue}
 use Rattle.wire_server.specs.LeaseEvents.{TableEvent, LeaseKept, LeaseNotKept, PieceRead, PieceNotRead, LeaseGivenBack, LeaseNotGivenBack}
 
@@ -80,8 +80,8 @@ keep_event lent (Some number) = LeaseKept lent number
 keep_event lent None = LeaseNotKept lent
 
 -- the event of a call to read a piece
-abbrev pub read_event : ℕ → Text → ℕ → ℕ → Option Text → TableEvent
-read_event number digest start end (Some piece) = PieceRead number digest start end piece
+abbrev pub read_event : ℕ → Text → ℕ → ℕ → Option Extent → TableEvent
+read_event number digest start end (Some x) = PieceRead number digest start end (stored_bytes x)
 read_event number digest start end None = PieceNotRead number digest
 
 -- the event of a call to give a lease back
@@ -95,9 +95,9 @@ give_back_event number false = LeaseNotGivenBack number
 abbrev pub AddsLease : LeaseMap → LeaseValue → Option ℕ → LeaseMap → Type 0
 AddsLease old lease number new = IsTableStep old (keep_event (lease_view_of lease) number) new
 
--- the call returns the piece, or there is no such lease
-abbrev pub ReadsLease : LeaseMap → ℕ → Text → ℕ → ℕ → Option Text → Type 0
-ReadsLease leases number digest start end piece = IsTableStep leases (read_event number digest start end piece) leases
+-- the call returns the extent, or there is no such lease
+abbrev pub ReadsLease : LeaseMap → ℕ → Text → ℕ → ℕ → Option Extent → Type 0
+ReadsLease leases number digest start end found = IsTableStep leases (read_event number digest start end found) leases
 
 -- the call removes the lease of the number, and returns whether there was one
 abbrev pub RemovesLease : LeaseMap → ℕ → Bool → LeaseMap → Type 0

@@ -3,7 +3,7 @@
 ghost use Rattle.std.specs.Prelude.{◌≡◌, ◌^◌, ◌<◌, ◌≤◌, [], IfErr, IfOk, IfSome};
 ghost use Rattle.std.specs.FinMap as fmap;
 ghost use Rattle.blob_digest.specs.declared.refusal.Refusal.TheVariants.{Memory};
-ghost use Rattle.wire_server.specs.LeaseEvents.{IsPieceOf};
+ghost use Rattle.wire_server.specs.LeaseEvents.{IsExtentOf};
 ghost use Rattle.lease_table.specs.Histories.{AddsEvent, AddsReadEvent, SeesOneHistory};
 ghost use Rattle.lease_table.specs.Tables.{RemovesLease, AddsLease, ReadsLease, give_back_event, keep_event, lease_view_of};
 
@@ -17,7 +17,7 @@ use ghost_log::SharedLog;
 use std::alloc::Global;
 use std::marker::Model;
 use std::snapshot::Snapshot;
-use store_api::Piece;
+use store_api::Extent;
 use store_book::{Lease, PinsName};
 
 /// A table of leases with its history, which leads from the empty table to this one. Contracts see the table. The value
@@ -89,8 +89,8 @@ impl<'p, N: PinsName, L: LeaseNaming> LockedLeaseTable<'p, N, L> {
         number
     }
 
-    /// Returns a piece of the blob that is leased under `number`, if the blob has the digest. The piece has the bytes from
-    /// `start` to `end`, both included, or to the end of the blob. Returns `None` if there is no such lease.
+    /// Returns the extent of the blob that is leased under `number`, if the blob has the digest: from `start` to `end`, both
+    /// included, or to the end of the blob. Returns `None` if there is no such lease. It reads nothing.
     ///
     /// # Errors
     ///
@@ -98,28 +98,28 @@ impl<'p, N: PinsName, L: LeaseNaming> LockedLeaseTable<'p, N, L> {
     ///
     /// # Cost
     ///
-    /// Logarithmic in the number of leases. It does not copy the bytes.
-    pub fn piece(
+    /// Logarithmic in the number of leases.
+    pub fn extent(
         &mut self,
         writer: &mut LeaseWriter<L>,
         number: u32,
         digest: &Digest,
         start: u64,
         end: u64,
-    ) -> Result<Option<Piece>, Refusal>
+    ) -> Result<Option<Extent>, Refusal>
         requires ordered { start ≤ end }
         requires small { end < 2 ^ 63 }
-        ensures content { IfOk result (λ o. IfSome o (IsPieceOf digest.now start end)) }
+        ensures content { IfOk result (λ o. IfSome o (IsExtentOf digest.now start end)) }
         ensures does { IfOk result (ReadsLease self.old number digest.now start end) }
         ensures same { self.new ≡ self.old }
         ensures history { IfOk result (AddsReadEvent writer.old number digest.now start end
             writer.new) }
         ensures refused { IfErr result (λ e. (e ≡ Memory) × (writer.new ≡ writer.old)) }
     {
-        let piece = self.table.piece(number, digest, start, end)?;
+        let extent = self.table.extent(number, digest, start, end)?;
         self.history
-            .add::<N>(writer, Call::Read(number, digest, start, end, &piece));
-        Ok(piece)
+            .add::<N>(writer, Call::Read(number, digest, start, end, &extent));
+        Ok(extent)
     }
 
     /// Gives the lease of a number back, and returns whether there was one.

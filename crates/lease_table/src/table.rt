@@ -5,14 +5,14 @@ ghost use Rattle.std.specs.BTreeMap as tree;
 ghost use Rattle.std.specs.FinMap as fmap;
 ghost use Rattle.std.specs.Ordering.{nat_cmp};
 ghost use Rattle.blob_digest.specs.declared.refusal.Refusal.TheVariants.{Memory};
-ghost use Rattle.wire_server.specs.LeaseEvents.{IsPieceOf};
+ghost use Rattle.wire_server.specs.LeaseEvents.{IsExtentOf};
 ghost use Rattle.lease_table.specs.Tables.{RemovesLease, AddsLease, ReadsLease, lease_map_of};
 
 use blob_digest::{Digest, Refusal};
 use std::alloc::{AllocFailed, Global};
 use std::collections::BTreeMap;
 use std::marker::Model;
-use store_api::Piece;
+use store_api::Extent;
 use store_book::{Lease, PinsName};
 
 /// The tree of leases by their numbers.
@@ -76,17 +76,17 @@ fn keep_under<'p, N: PinsName>(
     }
 }
 
-/// Returns a piece of the blob that is leased under a number, if the blob has the digest.
-fn piece_in<'p, N: PinsName>(
+/// Returns the extent of the blob that is leased under a number, if the blob has the digest.
+fn extent_in<'p, N: PinsName>(
     leases: &Leases<'p, N>,
     number: u32,
     digest: &Digest,
     start: u64,
     end: u64,
-) -> Result<Option<Piece>, Refusal>
+) -> Result<Option<Extent>, Refusal>
     requires ordered { start ≤ end }
     requires small { end < 2 ^ 63 }
-    ensures content { IfOk result (λ o. IfSome o (IsPieceOf digest.now start end)) }
+    ensures content { IfOk result (λ o. IfSome o (IsExtentOf digest.now start end)) }
     ensures does { IfOk result (ReadsLease (lease_map_of leases.now) number digest.now start end) }
     ensures refused { IfErr result (λ e. e ≡ Memory) }
 {
@@ -96,7 +96,7 @@ fn piece_in<'p, N: PinsName>(
     if lease.digest() != *digest {
         return Ok(None);
     }
-    Ok(Some(Piece::new(lease.blob().clone()?, start, end)))
+    Ok(Some(Extent::new(lease.blob().clone()?, start, end)))
 }
 
 /// Gives the lease of a number back, and returns whether there was one.
@@ -135,26 +135,26 @@ impl<'p, N: PinsName> LeaseTable<'p, N> {
         keep_under(&mut self.leases, number, lease)
     }
 
-    /// Returns a piece of the blob that is leased under `number`, if the blob has the digest. The piece has the bytes from
-    /// `start` to `end`, both included, or to the end of the blob. Returns `None` if there is no such lease.
+    /// Returns the extent of the blob that is leased under `number`, if the blob has the digest: from `start` to `end`, both
+    /// included, or to the end of the blob. Returns `None` if there is no such lease. It reads nothing.
     ///
     /// # Errors
     ///
     /// `Memory`, if the blob's reference count is exhausted.
-    pub fn piece(
+    pub fn extent(
         &self,
         number: u32,
         digest: &Digest,
         start: u64,
         end: u64,
-    ) -> Result<Option<Piece>, Refusal>
+    ) -> Result<Option<Extent>, Refusal>
         requires ordered { start ≤ end }
         requires small { end < 2 ^ 63 }
-        ensures content { IfOk result (λ o. IfSome o (IsPieceOf digest.now start end)) }
+        ensures content { IfOk result (λ o. IfSome o (IsExtentOf digest.now start end)) }
         ensures does { IfOk result (ReadsLease self.now number digest.now start end) }
         ensures refused { IfErr result (λ e. e ≡ Memory) }
     {
-        piece_in(&self.leases, number, digest, start, end)
+        extent_in(&self.leases, number, digest, start, end)
     }
 
     /// Gives the lease of a number back, and returns whether there was one. It does not allocate.

@@ -18,9 +18,10 @@ use crate::row_list::RowList;
 use crate::script_rows::ScriptRows;
 use crate::worker::Worker;
 use blob_digest::{ByteRange, Refusal};
+use content_files::NoFiles;
 use std::alloc::Global;
 use std::collections::VecDeque;
-use store_api::{Backend, Reply, Verb, digest_in, perform, repo_in};
+use store_api::{Backend, Reply, Unread, Verb, digest_in, perform, repo_in};
 
 /// Executes a row that spells a command of the store.
 #[tactic(auto, using(store_api::proofs::Commands::no_lease))]
@@ -89,8 +90,12 @@ fn piece_in(text: &[u8]) -> Result<(u64, u64), Refusal>
     Ok((range.start, range.end))
 }
 
-/// Executes a row that reads a piece of a leased blob. The name is checked before the range.
-fn try_read<B: Backend>(leases: &Leases<B>, row: &BorrowedRow<'_>) -> Result<Reply, Refusal>
+/// Executes a row that reads a piece of a leased blob, whose content is in memory. The name is checked before the range.
+fn try_read<B: Backend>(
+    alloc: Global,
+    leases: &Leases<B>,
+    row: &BorrowedRow<'_>,
+) -> Result<Reply, Refusal>
     requires { row.now.verb ≡ Verb.Read }
     ensures { IsReadResult leases.now (borrowed_view row.now) result }
 {
@@ -98,8 +103,10 @@ fn try_read<B: Backend>(leases: &Leases<B>, row: &BorrowedRow<'_>) -> Result<Rep
         return Ok(Reply::NoLease);
     };
     let (start, end) = piece_in(row.range)?;
-    let piece = B::piece(held, start, end)?;
-    Ok(Reply::Bytes(piece))
+    match B::extent(held, start, end)?.read(&NoFiles, alloc) {
+        Ok(piece) => Ok(Reply::Bytes(piece)),
+        Err(Unread::Memory | Unread::Unreadable) => Err(Refusal::Memory),
+    }
 }
 
 /// Executes a row.
@@ -113,7 +120,7 @@ fn try_row<B: Backend>(
 {
     match row.verb {
         Verb::Lease => try_lease(alloc, backend, leases, row),
-        Verb::Read => try_read(leases, row),
+        Verb::Read => try_read(alloc, leases, row),
         Verb::Share => leases.share(lease_name_of(row), second_name_of(row)),
         Verb::Verify => Ok(verify(backend, leases, lease_name_of(row))),
         Verb::GiveBack => Ok(leases.give_back(lease_name_of(row))),

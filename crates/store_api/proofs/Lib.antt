@@ -1,3 +1,4 @@
 pub mod Commands
 pub mod Digits
+pub mod Extents
 pub mod FieldTexts

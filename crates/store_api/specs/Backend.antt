@@ -11,7 +11,7 @@ use Rattle.blob_digest.specs.declared.refusal.Refusal.TheVariants.{Memory, Weigh
 use Rattle.store_model.specs.declared.mount.Mount.{Mount as MountResult}
 use Rattle.store_api.specs.Answers.{Answer, Abandoned, Body, Bytes, Deleted, Manifest, Received, Refused, Session, Stored, Verified, answer_of, result_answer, mount_answer}
 use Rattle.store_api.specs.Commands.{Command, StoreRequest, Calls, Verifies, Start, Status, Append, Close, Abandon, Mount, Delete, PutManifest, GetManifest, DeleteManifest, RemoveRepo, Lease}
-use Rattle.store_api.specs.LeaseViews.{LeaseView, bytes_between, half_lease}
+use Rattle.store_api.specs.LeaseViews.{Extent, LeaseView, extent, half_lease}
 use Rattle.store_api.specs.declared.reply.Reply.{Reply}
 
 module _ {S : Type 0} (acts : S → StoreRequest → Answer → S → Type 0) where
@@ -76,9 +76,9 @@ module _ {S : Type 0} (acts : S → StoreRequest → Answer → S → Type 0) wh
   abbrev pub ConfirmsLease : S → LeaseView → S → Type 0
   ConfirmsLease old lease new = acts old (Verifies (length lease.bytes)) (Verified (length lease.bytes)) new
 
--- the bytes from `start` to `end` are returned, or `Memory`
-abbrev pub ReadsPiece : Text → ℕ → ℕ → Result Text Refusal → Type 0
-ReadsPiece bytes start end result = MatchResult result (λ p. p ≡ bytes_between bytes start end) (λ e. e ≡ Memory)
+-- the extent from `start` to `end` of these bytes is returned, or `Memory`
+abbrev pub GivesExtent : Text → ℕ → ℕ → Result Extent Refusal → Type 0
+GivesExtent bytes start end result = MatchResult result (λ x. x ≡ extent bytes start end) (λ e. e ≡ Memory)
 
 -- a lease is split into two of half the weight, or is returned unchanged if memory runs out or its weight is 1
 abbrev pub SplitsLease : {L : Type 0} → (L → LeaseView) → L → Result (L × L) (Refusal × L) → Type 0

@@ -1,7 +1,8 @@
 -- Leases as contracts see them.
-use Rattle.std.specs.Prelude.{ℕ, ◌+◌, ◌-◌, ◌/◌, take, drop}
+use Rattle.std.specs.Prelude.{◌≡◌, ℕ, ◌+◌, ◌-◌, ◌/◌, Bool, false, true, take, drop}
 use Rattle.std.specs.Coded.{Coded, code_by, coded×, coded_ℕ}
 use Rattle.std.proofs.Common.{refl}
+use Rattle.content_files.specs.Parts.{IsReadAs}
 use Rattle.spec_lib.specs.Texts.{Text, coded_text}
 
 -- a lease: its blob's bytes, and its weight
@@ -24,3 +25,22 @@ bytes_between bytes start end = take (end - start + 1) (drop start bytes)
 -- the code by which proofs compare leases
 abbrev pub coded_lease_view : Coded LeaseView
 coded_lease_view = code_by (Text × ℕ) (coded× coded_text coded_ℕ) (λ l. (l.bytes, l.weight)) (λ p. record { bytes = p.0; weight = p.1 }) (λ _. refl)
+
+-- bytes of a content that a reader asks for: those from `start` to `end`, both included, or to the end of all bytes
+pub record Extent : Type 0 where
+  pub content : Text
+  pub start : ℕ
+  pub end : ℕ
+
+abbrev pub extent : Text → ℕ → ℕ → Extent
+extent content start end = record { content = content; start = start; end = end }
+
+-- these bytes, as they were stored
+abbrev pub stored_bytes : Extent → Text
+stored_bytes e = bytes_between e.content e.start e.end
+
+-- A reader gets this piece for the bytes: those that were stored. If contents may lie in files, those that were read in their place, of which each
+-- piece of the content has the length and the sum that were stored.
+abbrev pub IsPieceRead : Bool → Extent → Text → Type 0
+IsPieceRead false e piece = piece ≡ stored_bytes e
+IsPieceRead true e piece = (given : Text) × IsReadAs e.content given × (piece ≡ bytes_between given e.start e.end)

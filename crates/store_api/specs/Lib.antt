@@ -4,6 +4,7 @@ pub mod CommandAnswers
 pub mod CommandViews
 pub mod Commands
 pub mod LeaseViews
+pub mod Pieces
 pub mod Queries
 pub mod Replies
 pub mod Steps

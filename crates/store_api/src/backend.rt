@@ -1,13 +1,13 @@
 //! The backends of a store.
 ghost use Rattle.std.specs.Prelude.{◌≡◌, ◌^◌, ◌<◌, ◌≤◌, length};
 ghost use Rattle.store_api.specs.Answers.{Answer, Swept as SweptAnswer};
-ghost use Rattle.store_api.specs.Backend.{Abandons, Appends, Closes, ConfirmsLease, DeletesLink, DeletesManifest, GetsManifest, LeasesBlob, Mounts, PerformsCommand, PutsManifest, ReadsPiece, RemovesRepo, ReportsStatus, SplitsLease, Starts};
+ghost use Rattle.store_api.specs.Backend.{Abandons, Appends, Closes, ConfirmsLease, DeletesLink, DeletesManifest, GetsManifest, GivesExtent, LeasesBlob, Mounts, PerformsCommand, PutsManifest, RemovesRepo, ReportsStatus, SplitsLease, Starts};
 ghost use Rattle.store_api.specs.CommandViews.{command_view};
 ghost use Rattle.store_api.specs.Commands.{StoreRequest, Sweeps};
 ghost use Rattle.store_api.specs.LeaseViews.{LeaseView};
 
 use crate::command::Command;
-use crate::piece::Piece;
+use crate::extent::Extent;
 use crate::reply::{Reply, mount_reply};
 use blob_digest::{ByteRange, Digest, Refusal, RepoName};
 use oci_manifest::Manifest as OciManifest;
@@ -113,14 +113,14 @@ pub trait Backend {
     fn size(lease: &Self::Lease) -> u64
         ensures { result ≡ length (lent lease.now).bytes };
 
-    /// Returns the bytes of a lease's blob from `start` to `end`, both included, or to the blob's end, without a copy.
+    /// Returns the extent of a lease's blob from `start` to `end`, both included, or to the blob's end. Reads nothing.
     ///
     /// # Errors
     /// - `Memory` if memory runs out.
-    fn piece(lease: &Self::Lease, start: u64, end: u64) -> Result<Piece, Refusal>
+    fn extent(lease: &Self::Lease, start: u64, end: u64) -> Result<Extent, Refusal>
         requires ordered { start ≤ end }
         requires small { end < 2 ^ 63 }
-        ensures { ReadsPiece (lent lease.now).bytes start end result };
+        ensures { GivesExtent (lent lease.now).bytes start end result };
 
     /// Splits a lease into two of half its weight.
     ///

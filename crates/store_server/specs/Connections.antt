@@ -28,13 +28,13 @@ AddsTableEvent old event new = new ≡ old ++ event ∷ []
 abbrev pub IsOpen : {I O : Type 0} → Connection I O → I → O → Type 0
 IsOpen {I} line input output = (watched : Watched I) × (line.ends ≡ Some (watched, output)) × (inner_of watched ≡ input) × (has_failed watched ≡ false)
 
--- A connection was served by a new desk. The steps of its requests are the desk's part in a legal history of the store, and their events of leases
--- are its part in the history of this log. Only a store with a log can fail to make its steps durable. Unless it did, the desk's steps are durable,
--- as far as the store promises that.
+-- A connection was served by a new desk, on a store whose contents are in memory. The steps of its requests are the desk's part in a legal history
+-- of the store, and their events of leases are its part in the history of this log. Only a store with a log can fail to make its steps durable.
+-- Unless it did, the desk's steps are durable, as far as the store promises that.
 pub record IsServedConnection (names : StoreNames) (log : TableId) (line held holds : Option (List ℕ)) (ending : Ending) : Type 0 where
   pub desk : DeskView
   pub leases : LeaseTrace
-  pub served : ServesConnection WorkActs (λ _ catalog. IsFound names catalog) AddsTableEvent (zero_work, []) (work_of desk, leases.own) line held holds ending
+  pub served : ServesConnection false WorkActs (λ _ catalog. IsFound names catalog) AddsTableEvent (zero_work, []) (work_of desk, leases.own) line held holds ending
   pub part : IsPart names.opening desk.trace
   pub leases_part : leased.IsLeaseHistoryPart log leases
   pub committed : ending ≡ NotDurable → names.policy ≢ NoLog

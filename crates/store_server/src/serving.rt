@@ -17,6 +17,7 @@ use blob_digest::Refusal;
 use blob_store::{
     Desk, MAX_DESKS, Naming, Parts, SharedLogDevice, StartedLog, Store, StoreBackend, Totals,
 };
+use content_files::NoFiles;
 use durable_log::LeaderCell;
 use ghost_log::SharedLog;
 use lease_table::{LeaseEvent, LeaseNaming, LeaseWriter, LockedLeaseTable};
@@ -56,6 +57,7 @@ fn serve_with_desk<'s, W: Wait, S: Naming, L: LeaseNaming, D: FileBacked, I: Rea
     let mut leases = SharedLeases { rt, table, writer };
     let ending = serve(
         rt,
+        &NoFiles,
         alloc,
         &mut guard,
         &mut backend,

@@ -6,7 +6,7 @@ use blob_store::{Lease, Naming, StoreBackend};
 use lease_table::{LeaseNaming, LeaseWriter, LockedLeaseTable};
 use locked_book::StorePins;
 use std::sync::{Mutex, Wait};
-use store_api::Piece;
+use store_api::Extent;
 use wire_server::LeaseStore;
 
 /// A connection's access to the table of leases that all connections share: the lock, and the connection's writer of the
@@ -31,16 +31,16 @@ impl<'l, 's, W: Wait, S: Naming, L: LeaseNaming> LeaseStore<StoreBackend<'s, W, 
         self.table.lock(self.rt).keep(&mut self.writer, lease)
     }
 
-    fn piece(
+    fn extent(
         &mut self,
         number: u32,
         digest: &Digest,
         start: u64,
         end: u64,
-    ) -> Result<Option<Piece>, Refusal> {
+    ) -> Result<Option<Extent>, Refusal> {
         self.table
             .lock(self.rt)
-            .piece(&mut self.writer, number, digest, start, end)
+            .extent(&mut self.writer, number, digest, start, end)
     }
 
     fn give_back(&mut self, number: u32) -> bool {

@@ -1,3 +1,4 @@
 pub mod Commits
+pub mod Fetching
 pub mod Ranges
 pub mod Serving

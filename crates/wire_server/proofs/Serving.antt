@@ -1,5 +1,5 @@
 -- Lists of requests that are served one after another.
-use Rattle.std.proofs.Common.{◌≡◌, ◌≢◌, ◌+◌, ◌∙◌, ◌++◌, ◌∷◌, [], ℕ, List, Option, ap, arith, inl, length, length-append, append-nil, refl, subst, sym}
+use Rattle.std.proofs.Common.{◌≡◌, ◌≢◌, ◌+◌, ◌∙◌, ◌++◌, ◌∷◌, [], ℕ, Bool, List, Option, ap, arith, inl, length, length-append, append-nil, refl, subst, sym}
 use Rattle.std.proofs.lemmas.Grind.{flat_map-append}
 use Rattle.std.proofs.lemmas.List.{append_assoc}
 use Rattle.std.proofs.lemmas.List.Concat.{flat_map-cons}
@@ -16,22 +16,22 @@ use Rattle.store_model.specs.Catalog.{Catalog}
 use Rattle.watched_reader.specs.Watching.{HasNotFailed, inner_of}
 use Rattle.watched_reader.specs.declared.watched.Watched.{Watched}
 use Rattle.wire_server.specs.LeaseEvents.{TableEvent}
-use Rattle.wire_server.specs.Outcomes.{RequestResult, Answered, NewLease, Fetched, QueryNumbers, NoCommand, ReportsOutcome, ReportsAnswer, answer_reply, outcome_of}
+use Rattle.wire_server.specs.Outcomes.{RequestResult, Answered, NewLease, Fetched, Unreadable, QueryNumbers, NoCommand, ReportsOutcome, ReportsAnswer, answer_reply, outcome_of}
 use Rattle.wire_server.specs.declared.outcome.RequestResult.{RequestResult as Code}
 use Rattle.wire_server.specs.Connections.{IsEndReason, EndsByRead, Frame, FrameStep, PlaysNext, ServesRequests, ServesFrames, WritesReplies, frames_bytes, replies_bytes}
 use Rattle.wire_server.specs.declared.ending.Ending.{Ending}
 use Rattle.wire_server.specs.declared.ending.Ending.TheVariants.{Closed, CutOff, ReadFailed, Malformed, WriteFailed, NotDurable}
 
-module _ {S T : Type 0} (acts : S → StoreRequest → Answer → S → Type 0) (finds : S → Catalog → Type 0) (does : T → TableEvent → T → Type 0) where
+module _ {S T : Type 0} (on_disk : Bool) (acts : S → StoreRequest → Answer → S → Type 0) (finds : S → Catalog → Type 0) (does : T → TableEvent → T → Type 0) where
   -- requests that are served after others are served with them
-  pub serves_append : (old mid new : S × T) (fs gs : List Frame) (rs ss : List Reply) → ServesFrames acts finds does old fs rs mid → ServesFrames acts finds does mid gs ss new → ServesFrames acts finds does old (fs ++ gs) (rs ++ ss) new
-  serves_append old mid new [] gs [] ss p q = subst (λ s. ServesFrames acts finds does s gs ss new) p q
+  pub serves_append : (old mid new : S × T) (fs gs : List Frame) (rs ss : List Reply) → ServesFrames on_disk acts finds does old fs rs mid → ServesFrames on_disk acts finds does mid gs ss new → ServesFrames on_disk acts finds does old (fs ++ gs) (rs ++ ss) new
+  serves_append old mid new [] gs [] ss p q = subst (λ s. ServesFrames on_disk acts finds does s gs ss new) p q
   serves_append old mid new [] gs (r ∷ rs) ss p q = absurd p
   serves_append old mid new (f ∷ fs) gs [] ss p q = absurd p
   serves_append old mid new (f ∷ fs) gs (r ∷ rs) ss p q = (p.0, p.1, serves_append p.0 mid new fs gs rs ss p.2 q)
 
   -- a served request is a list of one
-  pub serves_one : (old new : S × T) (frame : Frame) (reply : Reply) → FrameStep acts finds does old frame reply new → ServesFrames acts finds does old (frame ∷ []) (reply ∷ []) new
+  pub serves_one : (old new : S × T) (frame : Frame) (reply : Reply) → FrameStep on_disk acts finds does old frame reply new → ServesFrames on_disk acts finds does old (frame ∷ []) (reply ∷ []) new
   serves_one old new frame reply step = (new, step, refl)
 
 -- the reason of an end holds after more requests too
@@ -99,6 +99,7 @@ pub outcome_has_reply : (outcome : RequestResult) → (reply : Reply) × Reports
 outcome_has_reply (Answered answer) = (answer_reply answer, reports_answer answer)
 outcome_has_reply (NewLease size number) = (_, refl)
 outcome_has_reply (Fetched size piece) = (_, refl)
+outcome_has_reply Unreadable = (_, refl)
 outcome_has_reply (QueryNumbers first second) = (_, refl)
 outcome_has_reply NoCommand = (_, refl)
 
@@ -145,9 +146,9 @@ writes_later WriteFailed held middle holds rs ss p q = tt
 writes_later NotDurable held middle holds rs ss p q =
     (rs ++ q.0, q.1, ap (λ l. rs ++ l) q.2 ∙ sym (append_assoc rs q.0 (q.1 ∷ [])), appends_replies held middle holds rs q.0 p q.3)
 
-module _ {S T : Type 0} (acts : S → StoreRequest → Answer → S → Type 0) (finds : S → Catalog → Type 0) (does : T → TableEvent → T → Type 0) where
+module _ {S T : Type 0} (on_disk : Bool) (acts : S → StoreRequest → Answer → S → Type 0) (finds : S → Catalog → Type 0) (does : T → TableEvent → T → Type 0) where
   -- a connection that ends at once is served
-  pub served_at_once : (old : S × T) (line held : Option (List ℕ)) (ending : Ending) → IsEndReason ending 0 line → ServesRequests acts finds does old old line held held ending
+  pub served_at_once : (old : S × T) (line held : Option (List ℕ)) (ending : Ending) → IsEndReason ending 0 line → ServesRequests on_disk acts finds does old old line held held ending
   served_at_once old line held ending h = record {
     frames = [];
     replies = [];
@@ -160,13 +161,13 @@ module _ {S T : Type 0} (acts : S → StoreRequest → Answer → S → Type 0) 
 
   -- a connection that ends after a request, without a whole reply, is served
   pub served_unreplied : {R : Type 0} (remaining : R → Option (List ℕ)) (old new : S × T) (from to : Watched R) (held holds : Option (List ℕ)) (outcome : Code) (ending : Ending)
-      → PlaysNext acts finds does remaining (old.0, old.1, from) (new.0, new.1, to) outcome → ((reply : Reply) → WritesReplies ending (reply ∷ []) held holds) → IsEndReason ending 1 (remaining (inner_of to))
-      → ServesRequests acts finds does old new (remaining (inner_of from)) held holds ending
+      → PlaysNext on_disk acts finds does remaining (old.0, old.1, from) (new.0, new.1, to) outcome → ((reply : Reply) → WritesReplies ending (reply ∷ []) held holds) → IsEndReason ending 1 (remaining (inner_of to))
+      → ServesRequests on_disk acts finds does old new (remaining (inner_of from)) held holds ending
   served_unreplied remaining old new from to held holds outcome ending played written ends =
       let told = outcome_has_reply (outcome_of outcome) in record {
         frames = played.0 ∷ [];
         replies = told.0 ∷ [];
-        served = serves_one acts finds does old new played.0 told.0 (_, played.1, told.1);
+        served = serves_one on_disk acts finds does old new played.0 told.0 (_, played.1, told.1);
         rest = remaining (inner_of to);
         read = subst (Consumes (remaining (inner_of from)) (remaining (inner_of to))) (sym (frames_bytes-one played.0)) played.2;
         written = written told.0;
@@ -175,11 +176,11 @@ module _ {S T : Type 0} (acts : S → StoreRequest → Answer → S → Type 0) 
 
   -- a connection is served if its first requests are, and then the rest
   pub then_served : (old mid new : S × T) (line behind held middle holds : Option (List ℕ)) (frames : List Frame) (replies : List Reply) (ending : Ending)
-      → ServesFrames acts finds does old frames replies mid → Consumes line behind (frames_bytes frames) → Appends held middle (replies_bytes replies) → ServesRequests acts finds does mid new behind middle holds ending → ServesRequests acts finds does old new line held holds ending
+      → ServesFrames on_disk acts finds does old frames replies mid → Consumes line behind (frames_bytes frames) → Appends held middle (replies_bytes replies) → ServesRequests on_disk acts finds does mid new behind middle holds ending → ServesRequests on_disk acts finds does old new line held holds ending
   then_served old mid new line behind held middle holds frames replies ending served read written last = record {
     frames = frames ++ last.frames;
     replies = replies ++ last.replies;
-    served = serves_append acts finds does old mid new frames last.frames replies last.replies served last.served;
+    served = serves_append on_disk acts finds does old mid new frames last.frames replies last.replies served last.served;
     rest = last.rest;
     read = subst (Consumes line last.rest) (sym (frames_bytes-append frames last.frames)) (Consumes-trans line behind last.rest (frames_bytes frames) (frames_bytes last.frames) read last.read);
     written = writes_later ending held middle holds replies last.replies written last.written;
@@ -188,11 +189,11 @@ module _ {S T : Type 0} (acts : S → StoreRequest → Answer → S → Type 0) 
 
   -- a list of served requests grows by one
   pub serves_push : (old mid new : S × T) (line behind rest held middle holds : Option (List ℕ)) (frames : List Frame) (replies : List Reply) (frame : Frame) (reply : Reply)
-      → ServesFrames acts finds does old frames replies mid → Consumes line behind (frames_bytes frames) → Appends held middle (replies_bytes replies)
-      → FrameStep acts finds does mid frame reply new → Consumes behind rest (request_bytes frame.head frame.payload) → Appends middle holds (reply_bytes reply)
-      → ServesFrames acts finds does old (frames ++ frame ∷ []) (replies ++ reply ∷ []) new × Consumes line rest (frames_bytes (frames ++ frame ∷ [])) × Appends held holds (replies_bytes (replies ++ reply ∷ []))
+      → ServesFrames on_disk acts finds does old frames replies mid → Consumes line behind (frames_bytes frames) → Appends held middle (replies_bytes replies)
+      → FrameStep on_disk acts finds does mid frame reply new → Consumes behind rest (request_bytes frame.head frame.payload) → Appends middle holds (reply_bytes reply)
+      → ServesFrames on_disk acts finds does old (frames ++ frame ∷ []) (replies ++ reply ∷ []) new × Consumes line rest (frames_bytes (frames ++ frame ∷ [])) × Appends held holds (replies_bytes (replies ++ reply ∷ []))
   serves_push old mid new line behind rest held middle holds frames replies frame reply served read written step more told = (
-    serves_append acts finds does old mid new frames (frame ∷ []) replies (reply ∷ []) served (serves_one acts finds does mid new frame reply step),
+    serves_append on_disk acts finds does old mid new frames (frame ∷ []) replies (reply ∷ []) served (serves_one on_disk acts finds does mid new frame reply step),
     subst (Consumes line rest) (sym (frames_bytes-append frames (frame ∷ []) ∙ ap (λ l. frames_bytes frames ++ l) (frames_bytes-one frame))) (Consumes-trans line behind rest (frames_bytes frames) (request_bytes frame.head frame.payload) read more),
     subst (Appends held holds) (sym (replies_bytes-append replies (reply ∷ []) ∙ ap (λ l. replies_bytes replies ++ l) (replies_bytes-one reply))) (Appends-trans held middle holds (replies_bytes replies) (reply_bytes reply) written told),
   )

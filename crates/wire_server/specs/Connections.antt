@@ -1,5 +1,5 @@
 -- A connection that is served.
-use Rattle.std.specs.Prelude.{true, ◌≡◌, ◌≢◌, ◌⊎◌, ◌<◌, ℕ, ⊤, List, [], ◌∷◌, ◌++◌, Option, IfSome, MatchOption, MatchResult, Result, length}
+use Rattle.std.specs.Prelude.{Bool, true, ◌≡◌, ◌≢◌, ◌⊎◌, ◌<◌, ℕ, ⊤, List, [], ◌∷◌, ◌++◌, Option, IfSome, MatchOption, MatchResult, Result, length}
 use Rattle.std.specs.List.{flat_map}
 use Rattle.std.specs.Io.KnownBytes.{Appends, Consumes, IsAtEnd}
 use Rattle.wire_format.specs.Frames.{greeting, head_bytes, max_body, request_bytes}
@@ -33,14 +33,14 @@ abbrev pub replies_bytes : List Reply → Text
 replies_bytes replies = flat_map reply_bytes replies
 
 -- the request was played, and the reply reports its outcome
-abbrev pub FrameStep : {S T : Type 0} → (S → StoreRequest → Answer → S → Type 0) → (S → Catalog → Type 0) → (T → TableEvent → T → Type 0) → S × T → Frame → Reply → S × T → Type 0
-FrameStep acts finds does old frame reply new = (outcome : RequestResult) × RequestStep acts finds does old frame.head frame.payload outcome new × ReportsOutcome outcome reply
+abbrev pub FrameStep : {S T : Type 0} → Bool → (S → StoreRequest → Answer → S → Type 0) → (S → Catalog → Type 0) → (T → TableEvent → T → Type 0) → S × T → Frame → Reply → S × T → Type 0
+FrameStep on_disk acts finds does old frame reply new = (outcome : RequestResult) × RequestStep on_disk acts finds does old frame.head frame.payload outcome new × ReportsOutcome outcome reply
 
 -- the requests were played in order, each once and with one reply
-abbrev pub ServesFrames : {S T : Type 0} → (S → StoreRequest → Answer → S → Type 0) → (S → Catalog → Type 0) → (T → TableEvent → T → Type 0) → S × T → List Frame → List Reply → S × T → Type 0
-ServesFrames acts finds does old [] [] new = new ≡ old
-ServesFrames {S} {T} acts finds does old (frame ∷ frames) (reply ∷ replies) new = (mid : S × T) × FrameStep acts finds does old frame reply mid × ServesFrames acts finds does mid frames replies new
-ServesFrames acts finds does old frames replies new = ⊥
+abbrev pub ServesFrames : {S T : Type 0} → Bool → (S → StoreRequest → Answer → S → Type 0) → (S → Catalog → Type 0) → (T → TableEvent → T → Type 0) → S × T → List Frame → List Reply → S × T → Type 0
+ServesFrames on_disk acts finds does old [] [] new = new ≡ old
+ServesFrames {S} {T} on_disk acts finds does old (frame ∷ frames) (reply ∷ replies) new = (mid : S × T) × FrameStep on_disk acts finds does old frame reply mid × ServesFrames on_disk acts finds does mid frames replies new
+ServesFrames on_disk acts finds does old frames replies new = ⊥
 
 -- the call read these bytes
 abbrev pub ReadsBytes : {R : Type 0} → (R → Option (List ℕ)) → Watched R → Watched R → List ℕ → Type 0
@@ -51,15 +51,15 @@ abbrev pub WritesBytes : {W : Type 0} → (W → Option (List ℕ)) → W → W 
 WritesBytes contents old new bytes = Appends (contents old) (contents new) bytes
 
 -- a request was read and played, with this outcome
-abbrev pub PlaysNext : {S T R : Type 0} → (S → StoreRequest → Answer → S → Type 0) → (S → Catalog → Type 0) → (T → TableEvent → T → Type 0) → (R → Option (List ℕ)) → S × T × Watched R → S × T × Watched R → Code → Type 0
-PlaysNext acts finds does remaining old new outcome =
-    (frame : Frame) × RequestStep acts finds does (old.0, old.1) frame.head frame.payload (outcome_of outcome) (new.0, new.1)
+abbrev pub PlaysNext : {S T R : Type 0} → Bool → (S → StoreRequest → Answer → S → Type 0) → (S → Catalog → Type 0) → (T → TableEvent → T → Type 0) → (R → Option (List ℕ)) → S × T × Watched R → S × T × Watched R → Code → Type 0
+PlaysNext on_disk acts finds does remaining old new outcome =
+    (frame : Frame) × RequestStep on_disk acts finds does (old.0, old.1) frame.head frame.payload (outcome_of outcome) (new.0, new.1)
     × ReadsBytes remaining old.2 new.2 (request_bytes frame.head frame.payload)
 
 -- a request was read and played, and its reply was written
-abbrev pub ServesNext : {S T R W : Type 0} → (S → StoreRequest → Answer → S → Type 0) → (S → Catalog → Type 0) → (T → TableEvent → T → Type 0) → (R → Option (List ℕ)) → (W → Option (List ℕ)) → S × T × Watched R × W → S × T × Watched R × W → Type 0
-ServesNext acts finds does remaining contents old new =
-    (frame : Frame) × (reply : Reply) × FrameStep acts finds does (old.0, old.1) frame reply (new.0, new.1)
+abbrev pub ServesNext : {S T R W : Type 0} → Bool → (S → StoreRequest → Answer → S → Type 0) → (S → Catalog → Type 0) → (T → TableEvent → T → Type 0) → (R → Option (List ℕ)) → (W → Option (List ℕ)) → S × T × Watched R × W → S × T × Watched R × W → Type 0
+ServesNext on_disk acts finds does remaining contents old new =
+    (frame : Frame) × (reply : Reply) × FrameStep on_disk acts finds does (old.0, old.1) frame reply (new.0, new.1)
     × ReadsBytes remaining old.2 new.2 (request_bytes frame.head frame.payload) × WritesBytes contents old.3 new.3 (reply_bytes reply)
 
 -- a connection ends with `ReadFailed` if a read failed, and only then
@@ -92,10 +92,10 @@ WritesReplies ending replies held holds = Appends held holds (replies_bytes repl
 
 -- After the greetings, the first requests of the connection were played in order and replied to, until the connection ended. The last has no
 -- reply if it was not durable or a write failed.
-pub record ServesRequests {S T : Type 0} (acts : S → StoreRequest → Answer → S → Type 0) (finds : S → Catalog → Type 0) (does : T → TableEvent → T → Type 0) (old new : S × T) (line held holds : Option (List ℕ)) (ending : Ending) : Type 0 where
+pub record ServesRequests {S T : Type 0} (on_disk : Bool) (acts : S → StoreRequest → Answer → S → Type 0) (finds : S → Catalog → Type 0) (does : T → TableEvent → T → Type 0) (old new : S × T) (line held holds : Option (List ℕ)) (ending : Ending) : Type 0 where
   pub frames : List Frame
   pub replies : List Reply
-  pub served : ServesFrames acts finds does old frames replies new
+  pub served : ServesFrames on_disk acts finds does old frames replies new
   pub rest : Option (List ℕ)
   pub read : Consumes line rest (frames_bytes frames)
   pub written : WritesReplies ending replies held holds
@@ -111,7 +111,7 @@ EndsBeforeGreeting WriteFailed line = (rest : Option (List ℕ)) × Consumes lin
 EndsBeforeGreeting NotDurable line = ⊥
 
 -- the greetings were exchanged and then requests served, or the connection ended before with nothing played
-abbrev pub ServesConnection : {S T : Type 0} → (S → StoreRequest → Answer → S → Type 0) → (S → Catalog → Type 0) → (T → TableEvent → T → Type 0) → S × T → S × T → (line held holds : Option (List ℕ)) → Ending → Type 0
-ServesConnection acts finds does old new line held holds ending =
+abbrev pub ServesConnection : {S T : Type 0} → Bool → (S → StoreRequest → Answer → S → Type 0) → (S → Catalog → Type 0) → (T → TableEvent → T → Type 0) → S × T → S × T → (line held holds : Option (List ℕ)) → Ending → Type 0
+ServesConnection on_disk acts finds does old new line held holds ending =
     ((new ≡ old) × EndsBeforeGreeting ending line)
-    ⊎ ((rest mid : Option (List ℕ)) × Consumes line rest greeting × Appends held mid greeting × ServesRequests acts finds does old new rest mid holds ending)
+    ⊎ ((rest mid : Option (List ℕ)) × Consumes line rest greeting × Appends held mid greeting × ServesRequests on_disk acts finds does old new rest mid holds ending)

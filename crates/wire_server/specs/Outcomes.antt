@@ -9,12 +9,13 @@ use Rattle.store_api.specs.declared.reply.Reply.{Reply as StoreReply}
 use Rattle.wire_server.specs.declared.outcome.RequestResult.{RequestResult as Code}
 use Rattle.wire_server.specs.declared.outcome.RequestResult.TheVariants as code
 
--- the outcome of a request: an answer, a lease of a blob of this size under this number, a piece of a blob of this size, the two numbers of a
--- query, or no command
+-- the outcome of a request: an answer, a lease of a blob of this size under this number, a piece of a blob of this size, bytes in a file that
+-- cannot be read, the two numbers of a query, or no command
 pub data RequestResult : Type 0 where
   Answered : Answer → RequestResult
   NewLease : ℕ → ℕ → RequestResult
   Fetched : ℕ → Text → RequestResult
+  Unreadable : RequestResult
   QueryNumbers : ℕ → ℕ → RequestResult
   NoCommand : RequestResult
 
@@ -23,6 +24,7 @@ abbrev pub outcome_of : Code → RequestResult
 outcome_of (code.Answered reply) = Answered (answer_of reply)
 outcome_of (code.NewLease size number) = NewLease size number
 outcome_of (code.Fetched size piece) = Fetched size piece
+outcome_of code.Unreadable = Unreadable
 outcome_of (code.QueryNumbers first second) = QueryNumbers first second
 outcome_of code.NoCommand = NoCommand
 
@@ -57,12 +59,17 @@ abbrev pub ReportsOutcome : RequestResult → Reply → Type 0
 ReportsOutcome (Answered answer) reply = ReportsAnswer answer reply
 ReportsOutcome (NewLease size number) reply = reply ≡ numbers_reply 0 size number
 ReportsOutcome (Fetched size piece) reply = reply ≡ body_reply size piece
+ReportsOutcome Unreadable reply = reply ≡ numbers_reply 253 0 0
 ReportsOutcome (QueryNumbers first second) reply = reply ≡ numbers_reply 0 first second
 ReportsOutcome NoCommand reply = reply ≡ numbers_reply 255 0 0
 
 -- the outcome is the result of the call
 abbrev pub IsResultOf : Result StoreReply RefusalCode → RequestResult → Type 0
 IsResultOf result outcome = MatchResult result (λ reply. outcome ≡ Answered (answer_of reply)) (λ e. outcome ≡ Answered (Refused e))
+
+-- the outcome is that of the call, or its refusal
+abbrev pub IsOutcomeOf : Result Code RefusalCode → RequestResult → Type 0
+IsOutcomeOf result outcome = MatchResult result (λ o. outcome ≡ outcome_of o) (λ e. outcome ≡ Answered (Refused e))
 
 -- a call that succeeds wrote this reply
 abbrev pub Sends : {W A E : Type 0} → (W → Option (List ℕ)) → Result A E → W → W → Reply → Type 0

@@ -10,15 +10,15 @@ use Rattle.wire_format.specs.declared.request.RequestFrame.{RequestFrame as Inco
 use Rattle.spec_lib.specs.Texts.{Text}
 use Rattle.store_api.specs.Answers.{Answer, Bytes, GivenBack, NoLease, Refused, Swept as SweptAnswer, answer_of}
 use Rattle.store_api.specs.Commands.{Command, StoreRequest, Calls, Sweeps, digest_in}
-use Rattle.store_api.specs.LeaseViews.{LeaseView as LentView, bytes_between}
+use Rattle.store_api.specs.LeaseViews.{Extent, IsPieceRead, LeaseView as LentView, bytes_between, extent, stored_bytes}
 use Rattle.store_api.specs.Steps.{StepOf}
 use Rattle.store_api.specs.declared.reply.Reply.{Reply}
 use Rattle.store_api.specs.declared.verb.Verb.{Verb}
 use Rattle.store_api.specs.declared.verb.Verb.TheVariants as verb
 use Rattle.store_model.specs.Catalog.{Catalog}
 use Rattle.store_model.specs.declared.swept.Swept.{Swept as SweptCounts}
-use Rattle.wire_server.specs.LeaseEvents.{TableEvent, LeaseKept, LeaseNotKept, PieceRead, PieceNotRead, LeaseGivenBack as GaveBack, LeaseNotGivenBack, IsPieceOf}
-use Rattle.wire_server.specs.Outcomes.{RequestResult, Answered, NewLease, Fetched, outcome_of}
+use Rattle.wire_server.specs.LeaseEvents.{TableEvent, LeaseKept, LeaseNotKept, PieceRead, PieceNotRead, LeaseGivenBack as GaveBack, LeaseNotGivenBack, IsExtentOf}
+use Rattle.wire_server.specs.Outcomes.{RequestResult, Answered, NewLease, Fetched, Unreadable, outcome_of}
 use Rattle.wire_server.specs.Queries.{QueryStep, query_has_fields, query_in, request_query}
 use Rattle.wire_server.specs.Requests.{command_in, ends_of, fetch_number, max_fetched, range_of, request_command, verb_has_fields, verb_of}
 use Rattle.wire_server.specs.declared.outcome.RequestResult.{RequestResult as Code}
@@ -76,57 +76,80 @@ LosesLease does lent old new refusal = (refusal ≡ Memory) × does old (LeaseNo
 abbrev pub IsPieceLen : ℕ → ℕ → ℕ → ℕ → Type 0
 IsPieceLen size start end n = (bytes : Text) → length bytes ≡ size → n ≡ length (bytes_between bytes start end)
 
--- the outcome is the piece of the lent blob, or memory ran out
-abbrev pub HandsOver : LentView → ℕ → ℕ → Result Code Refusal → Type 0
-HandsOver lent start end result = MatchResult result (λ o. outcome_of o ≡ Fetched (length lent.bytes) (bytes_between lent.bytes start end)) (λ e. e ≡ Memory)
+-- the outcome is a piece of the content that is read for the extent; or contents may lie in files, and it cannot be read
+abbrev pub IsReadOutcome : Bool → Extent → RequestResult → Type 0
+IsReadOutcome on_disk x (Fetched size piece) = (size ≡ length x.content) × IsPieceRead on_disk x piece
+IsReadOutcome on_disk x Unreadable = on_disk ≡ true
+IsReadOutcome on_disk x outcome = ⊥
 
--- The store lends a blob, or it fails. A short piece between the ends is the outcome, and no lease is kept. For a long piece the lease is kept
--- under a number, or given back for lack of memory.
-abbrev pub FetchesPiece : {S T : Type 0} → (S → StoreRequest → Answer → S → Type 0) → (T → TableEvent → T → Type 0) → Command → ℕ × ℕ → S × T → RequestResult → S × T → Type 0
-FetchesPiece acts does command ends old (Fetched size piece) new =
-    (lent : LentView) × (size ≡ length lent.bytes) × (piece ≡ bytes_between lent.bytes ends.0 ends.1) × (length piece ≤ max_fetched)
+-- the outcome is the piece that is read for the extent, or memory ran out
+abbrev pub ReadsFetched : Bool → Extent → Result Code Refusal → Type 0
+ReadsFetched on_disk x result = MatchResult result (λ o. IsReadOutcome on_disk x (outcome_of o)) (λ e. e ≡ Memory)
+
+-- the outcome is the piece that is read of the lent blob, or memory ran out
+abbrev pub HandsOver : Bool → LentView → ℕ → ℕ → Result Code Refusal → Type 0
+HandsOver on_disk lent start end result = ReadsFetched on_disk (extent lent.bytes start end) result
+
+-- The store lends a blob, or it fails. A short piece between the ends is the outcome, or that it cannot be read, and no lease is kept. For a long
+-- piece the lease is kept under a number, or given back for lack of memory.
+abbrev pub FetchesPiece : {S T : Type 0} → Bool → (S → StoreRequest → Answer → S → Type 0) → (T → TableEvent → T → Type 0) → Command → ℕ × ℕ → S × T → RequestResult → S × T → Type 0
+FetchesPiece on_disk acts does command ends old (Fetched size piece) new =
+    (lent : LentView) × (size ≡ length lent.bytes) × IsPieceRead on_disk (extent lent.bytes ends.0 ends.1) piece × (length (bytes_between lent.bytes ends.0 ends.1) ≤ max_fetched)
     × acts old.0 (Calls command) (Bytes lent.bytes) new.0 × (new.1 ≡ old.1)
-FetchesPiece acts does command ends old (NewLease size number) new =
+FetchesPiece on_disk acts does command ends old Unreadable new =
+    (lent : LentView) × (on_disk ≡ true) × acts old.0 (Calls command) (Bytes lent.bytes) new.0 × (new.1 ≡ old.1)
+FetchesPiece on_disk acts does command ends old (NewLease size number) new =
     (lent : LentView) × (size ≡ length lent.bytes) × (max_fetched < length (bytes_between lent.bytes ends.0 ends.1))
     × acts old.0 (Calls command) (Bytes lent.bytes) new.0 × does old.1 (LeaseKept lent number) new.1
-FetchesPiece acts does command ends old (Answered answer) new =
+FetchesPiece on_disk acts does command ends old (Answered answer) new =
     LeasesBlob acts does command old (Answered answer) new
     ⊎ ((lent : LentView) × (answer ≡ Refused Memory) × acts old.0 (Calls command) (Bytes lent.bytes) new.0 × (new.1 ≡ old.1))
-FetchesPiece acts does command ends old outcome new = ⊥
+FetchesPiece on_disk acts does command ends old outcome new = ⊥
 
 -- the spelled command and range fetch a piece, or the refusal of a field is the outcome
-abbrev pub FetchStep : {S T : Type 0} → (S → StoreRequest → Answer → S → Type 0) → (T → TableEvent → T → Type 0) → Result (Option Command) Refusal → Result (Option ByteRange) Refusal → S × T → RequestResult → S × T → Type 0
-FetchStep acts does (Ok (Some command)) (Ok range) old outcome new = FetchesPiece acts does command (ends_of range) old outcome new
-FetchStep acts does (Ok (Some command)) (Err refusal) old outcome new = (outcome ≡ Answered (Refused refusal)) × (new ≡ old)
-FetchStep acts does (Ok None) range old outcome new = ⊥
-FetchStep acts does (Err refusal) range old outcome new = (outcome ≡ Answered (Refused refusal)) × (new ≡ old)
+abbrev pub FetchStep : {S T : Type 0} → Bool → (S → StoreRequest → Answer → S → Type 0) → (T → TableEvent → T → Type 0) → Result (Option Command) Refusal → Result (Option ByteRange) Refusal → S × T → RequestResult → S × T → Type 0
+FetchStep on_disk acts does (Ok (Some command)) (Ok range) old outcome new = FetchesPiece on_disk acts does command (ends_of range) old outcome new
+FetchStep on_disk acts does (Ok (Some command)) (Err refusal) old outcome new = (outcome ≡ Answered (Refused refusal)) × (new ≡ old)
+FetchStep on_disk acts does (Ok None) range old outcome new = ⊥
+FetchStep on_disk acts does (Err refusal) range old outcome new = (outcome ≡ Answered (Refused refusal)) × (new ≡ old)
 
 -- the result is that of the fetch, or out of memory with nothing changed
-abbrev pub IsFetchResult : {S T : Type 0} → (S → StoreRequest → Answer → S → Type 0) → (T → TableEvent → T → Type 0) → Incoming → S × T → Result Code Refusal → S × T → Type 0
-IsFetchResult acts does request old (Ok outcome) new = FetchStep acts does (command_in verb.Lease request) (range_of request.head) old (outcome_of outcome) new
-IsFetchResult acts does request old (Err refusal) new =
-    ((refusal ≡ Memory) × (new ≡ old)) ⊎ FetchStep acts does (command_in verb.Lease request) (range_of request.head) old (Answered (Refused refusal)) new
+abbrev pub IsFetchResult : {S T : Type 0} → Bool → (S → StoreRequest → Answer → S → Type 0) → (T → TableEvent → T → Type 0) → Incoming → S × T → Result Code Refusal → S × T → Type 0
+IsFetchResult on_disk acts does request old (Ok outcome) new = FetchStep on_disk acts does (command_in verb.Lease request) (range_of request.head) old (outcome_of outcome) new
+IsFetchResult on_disk acts does request old (Err refusal) new =
+    ((refusal ≡ Memory) × (new ≡ old)) ⊎ FetchStep on_disk acts does (command_in verb.Lease request) (range_of request.head) old (Answered (Refused refusal)) new
 
 -- ---- existing leases
 
--- the outcome is a piece of the leased blob, which has the named digest, or there is no such lease
-abbrev pub ReadsPiece : {T : Type 0} → (T → TableEvent → T → Type 0) → ℕ → Text → ℕ × ℕ → T → RequestResult → T → Type 0
-ReadsPiece does number digest ends old outcome new =
-    ((piece : Text) × (outcome ≡ Answered (Bytes piece)) × IsPieceOf digest ends.0 ends.1 piece × does old (PieceRead number digest ends.0 ends.1 piece) new)
+-- the outcome of a read of the extent: the piece that is read; or memory ran out; or contents may lie in files, and it cannot be read
+abbrev pub IsExtentOutcome : Bool → Extent → RequestResult → Type 0
+IsExtentOutcome on_disk x (Answered (Bytes piece)) = IsPieceRead on_disk x piece
+IsExtentOutcome on_disk x (Answered (Refused refusal)) = refusal ≡ Memory
+IsExtentOutcome on_disk x Unreadable = on_disk ≡ true
+IsExtentOutcome on_disk x outcome = ⊥
+
+-- the result is that of a read of the extent
+abbrev pub ReadsExtent : Bool → Extent → Result Code Refusal → Type 0
+ReadsExtent on_disk x result = MatchResult result (λ o. IsExtentOutcome on_disk x (outcome_of o)) (λ e. e ≡ Memory)
+
+-- the outcome is that of a read of the leased blob, which has the named digest, or there is no such lease
+abbrev pub ReadsPiece : {T : Type 0} → Bool → (T → TableEvent → T → Type 0) → ℕ → Text → ℕ × ℕ → T → RequestResult → T → Type 0
+ReadsPiece on_disk does number digest ends old outcome new =
+    ((x : Extent) × IsExtentOf digest ends.0 ends.1 x × IsExtentOutcome on_disk x outcome × does old (PieceRead number digest ends.0 ends.1 (stored_bytes x)) new)
     ⊎ ((outcome ≡ Answered NoLease) × does old (PieceNotRead number digest) new)
 
 -- the spelled digest and range read a piece of the lease, or the refusal of a field is the outcome
-abbrev pub ReadStep : {T : Type 0} → (T → TableEvent → T → Type 0) → ℕ → Result Text Refusal → Result (Option ByteRange) Refusal → T → RequestResult → T → Type 0
-ReadStep does number (Ok digest) (Ok range) old outcome new = ReadsPiece does number digest (ends_of range) old outcome new
-ReadStep does number (Ok digest) (Err refusal) old outcome new = (outcome ≡ Answered (Refused refusal)) × (new ≡ old)
-ReadStep does number (Err refusal) range old outcome new = (outcome ≡ Answered (Refused refusal)) × (new ≡ old)
+abbrev pub ReadStep : {T : Type 0} → Bool → (T → TableEvent → T → Type 0) → ℕ → Result Text Refusal → Result (Option ByteRange) Refusal → T → RequestResult → T → Type 0
+ReadStep on_disk does number (Ok digest) (Ok range) old outcome new = ReadsPiece on_disk does number digest (ends_of range) old outcome new
+ReadStep on_disk does number (Ok digest) (Err refusal) old outcome new = (outcome ≡ Answered (Refused refusal)) × (new ≡ old)
+ReadStep on_disk does number (Err refusal) range old outcome new = (outcome ≡ Answered (Refused refusal)) × (new ≡ old)
 
 -- the result is that of the read, or out of memory with nothing changed
-abbrev pub IsReadResult : {T : Type 0} → (T → TableEvent → T → Type 0) → Incoming → T → Result Reply Refusal → T → Type 0
-IsReadResult does request old result new =
+abbrev pub IsReadResult : {T : Type 0} → Bool → (T → TableEvent → T → Type 0) → Incoming → T → Result Code Refusal → T → Type 0
+IsReadResult on_disk does request old result new =
     let digest = digest_in (digest_of request.head request.payload.now) in
-    MatchResult result (λ r. ReadStep does request.head.number digest (range_of request.head) old (Answered (answer_of r)) new)
-    (λ e. ((e ≡ Memory) × (new ≡ old)) ⊎ ReadStep does request.head.number digest (range_of request.head) old (Answered (Refused e)) new)
+    MatchResult result (λ o. ReadStep on_disk does request.head.number digest (range_of request.head) old (outcome_of o) new)
+    (λ e. ((e ≡ Memory) × (new ≡ old)) ⊎ ReadStep on_disk does request.head.number digest (range_of request.head) old (Answered (Refused e)) new)
 
 -- the lease of the number is given back, or there is no such lease
 abbrev pub GiveBackStep : {T : Type 0} → (T → TableEvent → T → Type 0) → ℕ → T → RequestResult → T → Type 0
@@ -141,31 +164,31 @@ abbrev pub SweepStep : {S : Type 0} → (S → StoreRequest → Answer → S →
 SweepStep acts old outcome new = (swept : SweptCounts) × (outcome ≡ Answered (SweptAnswer swept)) × acts old Sweeps (SweptAnswer swept) new
 
 -- the step of a request whose first byte names no verb: a fetch, or a query, which changes nothing
-abbrev pub NoVerbStep : {S T : Type 0} → (S → StoreRequest → Answer → S → Type 0) → (S → Catalog → Type 0) → (T → TableEvent → T → Type 0) → (fetch : Bool) → S × T → Head → Text → RequestResult → S × T → Type 0
-NoVerbStep acts finds does true old h payload outcome new = FetchStep acts does (request_command verb.Lease h payload) (range_of h) old outcome new
-NoVerbStep acts finds does false old h payload outcome new = QueryStep finds old.0 (request_query h payload) outcome × (new ≡ old)
+abbrev pub NoVerbStep : {S T : Type 0} → Bool → (S → StoreRequest → Answer → S → Type 0) → (S → Catalog → Type 0) → (T → TableEvent → T → Type 0) → (fetch : Bool) → S × T → Head → Text → RequestResult → S × T → Type 0
+NoVerbStep on_disk acts finds does true old h payload outcome new = FetchStep on_disk acts does (request_command verb.Lease h payload) (range_of h) old outcome new
+NoVerbStep on_disk acts finds does false old h payload outcome new = QueryStep finds old.0 (request_query h payload) outcome × (new ≡ old)
 
 -- the step of a request, by the verb of its first byte
-abbrev pub VerbStep : {S T : Type 0} → (S → StoreRequest → Answer → S → Type 0) → (S → Catalog → Type 0) → (T → TableEvent → T → Type 0) → Option Verb → S × T → Head → Text → RequestResult → S × T → Type 0
-VerbStep acts finds does None old h payload outcome new = NoVerbStep acts finds does (h.command == fetch_number) old h payload outcome new
-VerbStep acts finds does (Some verb.Lease) old h payload outcome new = LeaseStep acts does (request_command verb.Lease h payload) old outcome new
-VerbStep acts finds does (Some verb.Read) old h payload outcome new = ReadStep does h.number (digest_in (digest_of h payload)) (range_of h) old.1 outcome new.1 × (new.0 ≡ old.0)
-VerbStep acts finds does (Some verb.GiveBack) old h payload outcome new = GiveBackStep does h.number old.1 outcome new.1 × (new.0 ≡ old.0)
-VerbStep acts finds does (Some verb.Sweep) old h payload outcome new = SweepStep acts old.0 outcome new.0 × (new.1 ≡ old.1)
-VerbStep acts finds does (Some verb) old h payload outcome new = CommandStep acts (request_command verb h payload) old outcome new
+abbrev pub VerbStep : {S T : Type 0} → Bool → (S → StoreRequest → Answer → S → Type 0) → (S → Catalog → Type 0) → (T → TableEvent → T → Type 0) → Option Verb → S × T → Head → Text → RequestResult → S × T → Type 0
+VerbStep on_disk acts finds does None old h payload outcome new = NoVerbStep on_disk acts finds does (h.command == fetch_number) old h payload outcome new
+VerbStep on_disk acts finds does (Some verb.Lease) old h payload outcome new = LeaseStep acts does (request_command verb.Lease h payload) old outcome new
+VerbStep on_disk acts finds does (Some verb.Read) old h payload outcome new = ReadStep on_disk does h.number (digest_in (digest_of h payload)) (range_of h) old.1 outcome new.1 × (new.0 ≡ old.0)
+VerbStep on_disk acts finds does (Some verb.GiveBack) old h payload outcome new = GiveBackStep does h.number old.1 outcome new.1 × (new.0 ≡ old.0)
+VerbStep on_disk acts finds does (Some verb.Sweep) old h payload outcome new = SweepStep acts old.0 outcome new.0 × (new.1 ≡ old.1)
+VerbStep on_disk acts finds does (Some verb) old h payload outcome new = CommandStep acts (request_command verb h payload) old outcome new
 
 -- the request can run out of memory before the store is called: it has a payload, or its command, query or fetch has fields
 abbrev pub TakesMemory : Head → Type 0
 TakesMemory h = (0 < payload_len h) ⊎ (verb_has_fields (verb_of h.command) ≡ true) ⊎ (query_has_fields h.command ≡ true) ⊎ (h.command ≡ fetch_number)
 
 -- the request is played; or it takes memory, memory runs out, and nothing changes
-abbrev pub RequestStep : {S T : Type 0} → (S → StoreRequest → Answer → S → Type 0) → (S → Catalog → Type 0) → (T → TableEvent → T → Type 0) → S × T → Head → Text → RequestResult → S × T → Type 0
-RequestStep acts finds does old h payload outcome new =
-    (TakesMemory h × (outcome ≡ Answered (Refused Memory)) × (new ≡ old)) ⊎ VerbStep acts finds does (verb_of h.command) old h payload outcome new
+abbrev pub RequestStep : {S T : Type 0} → Bool → (S → StoreRequest → Answer → S → Type 0) → (S → Catalog → Type 0) → (T → TableEvent → T → Type 0) → S × T → Head → Text → RequestResult → S × T → Type 0
+RequestStep on_disk acts finds does old h payload outcome new =
+    (TakesMemory h × (outcome ≡ Answered (Refused Memory)) × (new ≡ old)) ⊎ VerbStep on_disk acts finds does (verb_of h.command) old h payload outcome new
 
 -- the step of a request frame
-abbrev pub PlaysRequest : {S T : Type 0} → (S → StoreRequest → Answer → S → Type 0) → (S → Catalog → Type 0) → (T → TableEvent → T → Type 0) → S × T → Incoming → Code → S × T → Type 0
-PlaysRequest acts finds does old request outcome new = RequestStep acts finds does old request.head request.payload.now (outcome_of outcome) new
+abbrev pub PlaysRequest : {S T : Type 0} → Bool → (S → StoreRequest → Answer → S → Type 0) → (S → Catalog → Type 0) → (T → TableEvent → T → Type 0) → S × T → Incoming → Code → S × T → Type 0
+PlaysRequest on_disk acts finds does old request outcome new = RequestStep on_disk acts finds does old request.head request.payload.now (outcome_of outcome) new
 
 -- the outcome is that of the request as a query, or out of memory
 abbrev pub IsQueryResult : {S : Type 0} → (S → Catalog → Type 0) → S → Incoming → Code → Type 0

@@ -13,6 +13,7 @@ use crate::reply_guard::ReplyGuard;
 use crate::reply_stream::ReplyStream;
 use crate::step::execute_request;
 use blob_digest::Refusal;
+use content_files::ContentStore;
 use std::alloc::Global;
 use std::io::{Read, Write};
 use std::sync::Wait;
@@ -45,14 +46,15 @@ fn exchange_greetings<G, I: Read, O: Write>(
 }
 
 /// Reads a request and plays it. `Err` says why the connection has no further request.
-fn execute_next<B: Backend + Queries, L: LeaseStore<B>, I: Read>(
+fn execute_next<F: ContentStore, B: Backend + Queries, L: LeaseStore<B>, I: Read>(
+    files: &F,
     alloc: Global,
     backend: &mut B,
     leases: &mut L,
     input: &mut Watched<I>,
     buffer: &mut Vec<u8>,
 ) -> Result<RequestResult, Ending>
-    ensures played { IfOk result (PlaysNext B.acts B.finds L.does I.remaining
+    ensures played { IfOk result (PlaysNext F.on_disk B.acts B.finds L.does I.remaining
         (backend.old, leases.old, input.old) (backend.new, leases.new, input.new)) }
     ensures same { OnErr result ((backend.new ≡ backend.old) × (leases.new ≡ leases.old)) }
     ensures ended { IfErr result (λ e. IsEndReason e 0 (I.remaining (inner_of input.old))) }
@@ -61,7 +63,7 @@ fn execute_next<B: Backend + Queries, L: LeaseStore<B>, I: Read>(
     match read_request(input, buffer) {
         Ok(Incoming::Request(head)) => {
             let request = RequestFrame::new(head, &buffer.as_slice()[..head.payload_len()]);
-            Ok(execute_request(alloc, backend, leases, &request))
+            Ok(execute_request(files, alloc, backend, leases, &request))
         }
         Ok(Incoming::OutOfMemory) => Ok(RequestResult::Answered(Reply::Refused(Refusal::Memory))),
         Ok(Incoming::End) => Err(Ending::Closed),
@@ -73,7 +75,15 @@ fn execute_next<B: Backend + Queries, L: LeaseStore<B>, I: Read>(
 
 /// Reads a request, plays it, makes its effects durable, and sends its reply. Returns why the connection ended, or `None` if
 /// it continues.
-fn serve_next<B: Backend + Queries, G: ReplyGuard<B>, L: LeaseStore<B>, I: Read, O: Write>(
+fn serve_next<
+    F: ContentStore,
+    B: Backend + Queries,
+    G: ReplyGuard<B>,
+    L: LeaseStore<B>,
+    I: Read,
+    O: Write,
+>(
+    files: &F,
     alloc: Global,
     guard: &mut G,
     backend: &mut B,
@@ -83,17 +93,17 @@ fn serve_next<B: Backend + Queries, G: ReplyGuard<B>, L: LeaseStore<B>, I: Read,
     buffer: &mut Vec<u8>,
 ) -> Option<Ending>
     requires { G.durable backend.old }
-    ensures served { IsNone result → ServesNext B.acts B.finds L.does I.remaining O.contents
+    ensures served { IsNone result → ServesNext F.on_disk B.acts B.finds L.does I.remaining O.contents
         (backend.old, leases.old, input.old, output_of output.old)
         (backend.new, leases.new, input.new, output_of output.new) }
-    ensures ended { IfSome result (ServesRequests B.acts B.finds L.does (backend.old, leases.old)
+    ensures ended { IfSome result (ServesRequests F.on_disk B.acts B.finds L.does (backend.old, leases.old)
         (backend.new, leases.new) (I.remaining (inner_of input.old))
         (O.contents (output_of output.old)) (O.contents (output_of output.new))) }
     ensures failed { MayEndByRead result input.old input.new }
     ensures durable { result ≢ Some NotDurable → G.durable backend.new }
     ensures lost { result ≡ Some NotDurable → G.log_failed guard.new }
 {
-    let outcome = match execute_next(alloc, backend, leases, input, buffer) {
+    let outcome = match execute_next(files, alloc, backend, leases, input, buffer) {
         Ok(outcome) => outcome,
         Err(ending) => return Some(ending),
     };
@@ -109,6 +119,7 @@ fn serve_next<B: Backend + Queries, G: ReplyGuard<B>, L: LeaseStore<B>, I: Read,
 /// Serves requests until the connection ends. The backend is durable between two requests.
 fn serve_requests<
     W: Wait,
+    F: ContentStore,
     B: Backend + Queries,
     G: ReplyGuard<B>,
     L: LeaseStore<B>,
@@ -116,6 +127,7 @@ fn serve_requests<
     O: Write,
 >(
     rt: &W,
+    files: &F,
     alloc: Global,
     guard: &mut G,
     backend: &mut B,
@@ -124,7 +136,7 @@ fn serve_requests<
     output: &mut ReplyStream<G, O>,
 ) -> Ending
     requires { G.durable backend.old }
-    ensures served { ServesRequests B.acts B.finds L.does (backend.old, leases.old)
+    ensures served { ServesRequests F.on_disk B.acts B.finds L.does (backend.old, leases.old)
         (backend.new, leases.new) (I.remaining (inner_of input.old))
         (O.contents (output_of output.old)) (O.contents (output_of output.new)) result }
     ensures failed { EndsByRead result input.old input.new }
@@ -134,6 +146,7 @@ fn serve_requests<
     let mut buffer = Vec::new(alloc);
     for _ in rt.forever() {
         if let Some(ending) = serve_next(
+            files,
             alloc,
             guard,
             backend,
@@ -153,14 +166,23 @@ fn serve_requests<
 /// It exchanges the greetings. Then it reads, plays and replies to one request after another. Before each reply the guard
 /// makes the backend durable, and each reply is flushed before the next request is read. If the guard fails, the reply is not
 /// written, and the connection ends with `NotDurable`. If memory runs out for a request, the reply is `Memory`, and the
-/// connection continues. The call does not return while the client sends requests.
+/// connection continues. The call does not return while the client sends requests. The bytes of blobs in files are read from `files`.
 ///
 /// # Cost
 ///
 /// Linear in the bytes that are read and written, in addition to the calls of the store, the table and the guard. It allocates
-/// one buffer for the longest request, at most 4,390,910 bytes. It does not copy the bytes of a blob or a manifest.
-pub fn serve<W: Wait, B: Backend + Queries, G: ReplyGuard<B>, L: LeaseStore<B>, I: Read, O: Write>(
+/// one buffer for the longest request, at most 4,390,910 bytes. It does not copy the bytes of a blob in memory or of a manifest.
+pub fn serve<
+    W: Wait,
+    F: ContentStore,
+    B: Backend + Queries,
+    G: ReplyGuard<B>,
+    L: LeaseStore<B>,
+    I: Read,
+    O: Write,
+>(
     rt: &W,
+    files: &F,
     alloc: Global,
     guard: &mut G,
     backend: &mut B,
@@ -169,7 +191,7 @@ pub fn serve<W: Wait, B: Backend + Queries, G: ReplyGuard<B>, L: LeaseStore<B>, 
     output: &mut ReplyStream<G, O>,
 ) -> Ending
     requires { G.durable backend.old }
-    ensures served { ServesConnection B.acts B.finds L.does (backend.old, leases.old)
+    ensures served { ServesConnection F.on_disk B.acts B.finds L.does (backend.old, leases.old)
         (backend.new, leases.new) (I.remaining (inner_of input.old))
         (O.contents (output_of output.old)) (O.contents (output_of output.new)) result }
     ensures failed { EndsByRead result input.old input.new }
@@ -178,6 +200,6 @@ pub fn serve<W: Wait, B: Backend + Queries, G: ReplyGuard<B>, L: LeaseStore<B>, 
 {
     match exchange_greetings(input, output) {
         Some(ending) => ending,
-        None => serve_requests(rt, alloc, guard, backend, leases, input, output),
+        None => serve_requests(rt, files, alloc, guard, backend, leases, input, output),
     }
 }

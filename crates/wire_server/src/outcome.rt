@@ -28,6 +28,8 @@ pub enum RequestResult {
         /// The piece.
         piece: Piece,
     },
+    /// The bytes that were asked for lie in a file that has others, or that cannot be read.
+    Unreadable,
     /// The result of a query.
     QueryNumbers {
         /// A size in bytes, a number of slots, or a tenant's use in bytes.
@@ -38,6 +40,9 @@ pub enum RequestResult {
     /// The request's first byte names no command.
     NoCommand,
 }
+
+/// The status of a request for bytes that cannot be read as they were stored.
+const UNREADABLE: u32 = 253;
 
 /// The status of a request that names a lease which does not exist.
 const NO_LEASE: u32 = 254;
@@ -121,6 +126,7 @@ pub fn write_outcome<W: Write>(
             u64::from(*number),
         ),
         RequestResult::Fetched { size, piece } => write_piece(output, *size, piece),
+        RequestResult::Unreadable => write_numbers(output, UNREADABLE, 0, 0),
         RequestResult::QueryNumbers { first, second } => write_numbers(output, 0, *first, *second),
         RequestResult::NoCommand => write_numbers(output, NO_COMMAND, 0, 0),
     }

@@ -1,8 +1,8 @@
 //! Plays a request on a store and a table of leases.
-ghost use Rattle.std.specs.Prelude.{◌≡◌, ◌⊎◌, ◌^◌, ◌<◌, ◌≤◌, true, IfErr, IfOk, None, Some};
-ghost use Rattle.wire_server.specs.Outcomes.{Answered, IsResultOf, outcome_of};
+ghost use Rattle.std.specs.Prelude.{◌≡◌, ◌⊎◌, ◌^◌, ◌<◌, ◌≤◌, true, IfErr, IfOk, None, Some, length};
+ghost use Rattle.wire_server.specs.Outcomes.{Answered, IsOutcomeOf, IsResultOf, outcome_of};
 ghost use Rattle.wire_server.specs.Requests.{command_in, verb_of};
-ghost use Rattle.wire_server.specs.Steps.{IsCommandResult, IsFetchResult, IsLeaseResult, IsQueryResult, IsReadResult, GiveBackStep, HandsOver, IsPieceLen, KeepsLease, LosesLease, PlaysRequest};
+ghost use Rattle.wire_server.specs.Steps.{IsCommandResult, IsFetchResult, IsLeaseResult, IsQueryResult, IsReadResult, GiveBackStep, HandsOver, IsPieceLen, KeepsLease, LosesLease, PlaysRequest, ReadsExtent, ReadsFetched};
 ghost use Rattle.store_api.specs.Answers.{answer_of};
 ghost use Rattle.store_api.specs.Commands.{is_command};
 
@@ -11,8 +11,9 @@ use crate::lease_store::LeaseStore;
 use crate::outcome::RequestResult;
 use crate::query::{query_store, request_query};
 use blob_digest::Refusal;
+use content_files::ContentStore;
 use std::alloc::Global;
-use store_api::{Backend, Queries, Reply, Verb, digest_in, perform};
+use store_api::{Backend, Extent, Queries, Reply, Unread, Verb, digest_in, perform};
 use wire_format::RequestFrame;
 
 /// Plays a request for a command that returns a reply.
@@ -59,23 +60,42 @@ fn keep<B: Backend, L: LeaseStore<B>>(
     }
 }
 
-/// Ends a lease, and returns a piece of its blob. It fails only with `Memory`; the lease has ended then too.
-fn end_with_piece<B: Backend>(
+/// Reads an extent of a blob of `size` bytes. It fails only with `Memory`.
+fn read_fetched<F: ContentStore>(
+    files: &F,
+    alloc: Global,
+    size: u64,
+    extent: Extent,
+) -> Result<RequestResult, Refusal>
+    requires { size ≡ length extent.content }
+    ensures { ReadsFetched F.on_disk extent result }
+{
+    match extent.read(files, alloc) {
+        Ok(piece) => Ok(RequestResult::Fetched { size, piece }),
+        Err(Unread::Memory) => Err(Refusal::Memory),
+        Err(Unread::Unreadable) => Ok(RequestResult::Unreadable),
+    }
+}
+
+/// Reads a piece of a leased blob, and ends the lease. It fails only with `Memory`; the lease has ended then too.
+fn end_with_piece<F: ContentStore, B: Backend>(
+    files: &F,
+    alloc: Global,
     lease: B::Lease,
     start: u64,
     end: u64,
 ) -> Result<RequestResult, Refusal>
     requires ordered { start ≤ end }
     requires small { end < 2 ^ 63 }
-    ensures { HandsOver (B.lent lease) start end result }
+    ensures { HandsOver F.on_disk (B.lent lease) start end result }
 {
     let size = B::size(&lease);
-    let piece = B::piece(&lease, start, end);
+    let fetched = match B::extent(&lease, start, end) {
+        Ok(extent) => read_fetched(files, alloc, size, extent),
+        Err(refusal) => Err(refusal),
+    };
     B::give_back(lease);
-    Ok(RequestResult::Fetched {
-        size,
-        piece: piece?,
-    })
+    fetched
 }
 
 /// Leases a blob, and has the lease kept by the table.
@@ -94,13 +114,15 @@ fn execute_lease<B: Backend, L: LeaseStore<B>>(
 }
 
 /// Fetches a piece of a blob. It leases the blob, and returns a short piece or has the lease kept.
-fn execute_fetch<B: Backend, L: LeaseStore<B>>(
+#[tactic(auto, using(crate::proofs::Fetching::fetches))]
+fn execute_fetch<F: ContentStore, B: Backend, L: LeaseStore<B>>(
+    files: &F,
     alloc: Global,
     backend: &mut B,
     leases: &mut L,
     request: &RequestFrame<'_>,
 ) -> Result<RequestResult, Refusal>
-    ensures { IsFetchResult B.acts L.does request.now (backend.old, leases.old) result
+    ensures { IsFetchResult F.on_disk B.acts L.does request.now (backend.old, leases.old) result
         (backend.new, leases.new) }
 {
     let (repo, digest) = lease_target(alloc, request)?;
@@ -109,22 +131,39 @@ fn execute_fetch<B: Backend, L: LeaseStore<B>>(
     if piece_len(B::size(&lease), start, end) > MAX_FETCHED {
         keep::<B, L>(leases, lease)
     } else {
-        end_with_piece::<B>(lease, start, end)
+        end_with_piece::<F, B>(files, alloc, lease, start, end)
     }
 }
 
-/// Reads a piece of a leased blob.
-fn execute_read<B: Backend, L: LeaseStore<B>>(
+/// Reads an extent of a leased blob. It fails only with `Memory`.
+fn read_leased<F: ContentStore>(
+    files: &F,
+    alloc: Global,
+    extent: Extent,
+) -> Result<RequestResult, Refusal>
+    ensures { ReadsExtent F.on_disk extent result }
+{
+    match extent.read(files, alloc) {
+        Ok(piece) => Ok(RequestResult::Answered(Reply::Bytes(piece))),
+        Err(Unread::Memory) => Err(Refusal::Memory),
+        Err(Unread::Unreadable) => Ok(RequestResult::Unreadable),
+    }
+}
+
+/// Reads a piece of a leased blob. The table is asked first, and what it gives is read afterwards, without its lock.
+fn execute_read<F: ContentStore, B: Backend, L: LeaseStore<B>>(
+    files: &F,
+    alloc: Global,
     leases: &mut L,
     request: &RequestFrame<'_>,
-) -> Result<Reply, Refusal>
-    ensures { IsReadResult L.does request.now leases.old result leases.new }
+) -> Result<RequestResult, Refusal>
+    ensures { IsReadResult F.on_disk L.does request.now leases.old result leases.new }
 {
     let digest = digest_in(request.digest())?;
     let (start, end) = ends_of(range_of(&request.head)?);
-    match leases.piece(request.head.number, &digest, start, end)? {
-        Some(piece) => Ok(Reply::Bytes(piece)),
-        None => Ok(Reply::NoLease),
+    match leases.extent(request.head.number, &digest, start, end)? {
+        Some(extent) => read_leased(files, alloc, extent),
+        None => Ok(RequestResult::Answered(Reply::NoLease)),
     }
 }
 
@@ -149,6 +188,16 @@ fn answered(played: Result<Reply, Refusal>) -> RequestResult
     }
 }
 
+/// Returns the outcome of a call, or the one that reports its refusal.
+fn outcome_or_refusal(played: Result<RequestResult, Refusal>) -> RequestResult
+    ensures { IsOutcomeOf played (outcome_of result) }
+{
+    match played {
+        Ok(outcome) => outcome,
+        Err(refusal) => RequestResult::Answered(Reply::Refused(refusal)),
+    }
+}
+
 /// Plays a request for a query. If its first byte names none, the outcome is `NoCommand`.
 fn execute_query<B: Queries>(alloc: Global, store: &B, request: &RequestFrame<'_>) -> RequestResult
     ensures { IsQueryResult B.finds store.now request.now result }
@@ -161,23 +210,21 @@ fn execute_query<B: Queries>(alloc: Global, store: &B, request: &RequestFrame<'_
 }
 
 /// Plays a request whose first byte names no verb: a fetch or a query.
-fn execute_fetch_or_query<B: Backend + Queries, L: LeaseStore<B>>(
+fn execute_fetch_or_query<F: ContentStore, B: Backend + Queries, L: LeaseStore<B>>(
+    files: &F,
     alloc: Global,
     backend: &mut B,
     leases: &mut L,
     request: &RequestFrame<'_>,
 ) -> RequestResult
     requires { verb_of request.now.head.command ≡ None }
-    ensures { PlaysRequest B.acts B.finds L.does (backend.old, leases.old) request.now result
+    ensures { PlaysRequest F.on_disk B.acts B.finds L.does (backend.old, leases.old) request.now result
         (backend.new, leases.new) }
 {
     if request.head.command != FETCH {
         return execute_query(alloc, backend, request);
     }
-    match execute_fetch(alloc, backend, leases, request) {
-        Ok(outcome) => outcome,
-        Err(refusal) => RequestResult::Answered(Reply::Refused(refusal)),
-    }
+    outcome_or_refusal(execute_fetch(files, alloc, backend, leases, request))
 }
 
 /// Plays a request on a store and a table of leases, and returns its outcome.
@@ -188,31 +235,30 @@ fn execute_fetch_or_query<B: Backend + Queries, L: LeaseStore<B>>(
 ///
 /// - The refusal of the first field that spells nothing, in the order repository, source, digest, range.
 /// - The refusal of the store, or `Reply::NoLease` of the table of leases.
+/// - `Unreadable`, if the bytes lie in a file that has others, or that cannot be read.
 ///
 /// If memory runs out before the store is called, the outcome is `Memory`, and nothing changes.
 ///
 /// # Cost
 ///
 /// The cost of the call of the store or of the table, and linear in the length of the request's texts. It allocates the
-/// request's repository names. It does not copy a blob's bytes.
-pub fn execute_request<B: Backend + Queries, L: LeaseStore<B>>(
+/// request's repository names. It does not copy the bytes of a blob in memory, and reads those of a blob in a file.
+pub fn execute_request<F: ContentStore, B: Backend + Queries, L: LeaseStore<B>>(
+    files: &F,
     alloc: Global,
     backend: &mut B,
     leases: &mut L,
     request: &RequestFrame<'_>,
 ) -> RequestResult
-    ensures { PlaysRequest B.acts B.finds L.does (backend.old, leases.old) request.now result
+    ensures { PlaysRequest F.on_disk B.acts B.finds L.does (backend.old, leases.old) request.now result
         (backend.new, leases.new) }
 {
     let Some(verb) = verb_of(request.head.command) else {
-        return execute_fetch_or_query(alloc, backend, leases, request);
+        return execute_fetch_or_query(files, alloc, backend, leases, request);
     };
     match verb {
-        Verb::Lease => match execute_lease(alloc, backend, leases, request) {
-            Ok(outcome) => outcome,
-            Err(refusal) => RequestResult::Answered(Reply::Refused(refusal)),
-        },
-        Verb::Read => answered(execute_read::<B, L>(leases, request)),
+        Verb::Lease => outcome_or_refusal(execute_lease(alloc, backend, leases, request)),
+        Verb::Read => { outcome_or_refusal(execute_read::<F, B, L>(files, alloc, leases, request)) }
         Verb::GiveBack => RequestResult::Answered(execute_give_back::<B, L>(
             leases,
             request.head.number,

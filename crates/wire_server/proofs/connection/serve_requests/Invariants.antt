@@ -10,7 +10,7 @@ use Rattle.wire_server.proofs.connection.serve_requests.Given as goal
 abbrev pub invariant-loop : goal.invariant-loop
 invariant-loop g l =
     (frames : List Frame) × (replies : List Reply)
-    × ServesFrames g.B.Backend.acts g.B.Queries.finds g.L.LeaseStore.does (l.fn.backend, l.fn.leases) frames replies (l.backend, l.leases)
+    × ServesFrames g.F.ContentStore.on_disk g.B.Backend.acts g.B.Queries.finds g.L.LeaseStore.does (l.fn.backend, l.fn.leases) frames replies (l.backend, l.leases)
     × Consumes (g.I.Read.remaining (inner_of l.fn.input)) (g.I.Read.remaining (inner_of l.input)) (frames_bytes frames)
     × Appends (g.O.Write.contents (output_of l.fn.output)) (g.O.Write.contents (output_of l.output)) (replies_bytes replies)
     × HasNotFailed l.fn.input l.input

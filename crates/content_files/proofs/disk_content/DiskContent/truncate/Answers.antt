@@ -1,4 +1,4 @@
-use Rattle.std.proofs.Common.{◌≡◌, ◌∙◌, ◌+◌, ◌-◌, ap, arith, take, true}
+use Rattle.std.proofs.Common.{◌≡◌, ◌∙◌, ◌+◌, ◌-◌, ap, arith, take}
 use Rattle.content_files.specs.Notes.{is_read, joined}
 use Rattle.content_files.proofs.Joined.{read_front}
 use Rattle.content_files.proofs.disk_content.DiskContent.truncate.Goals as goal

@@ -1,4 +1,4 @@
-use Rattle.std.proofs.Common.{◌≡◌, ◌∙◌, ◌<◌, ap, arith, length, take}
+use Rattle.std.proofs.Common.{◌≡◌, ◌∙◌, ap, arith, length}
 use Rattle.std.proofs.lemmas.List.{length-take-le, length-drop}
 use Rattle.content_files.specs.Notes.{joined}
 use Rattle.content_files.specs.Placed.{Placed}

@@ -1,4 +1,4 @@
-use Rattle.std.proofs.Common.{◌≡◌, ◌∙◌, ◌-◌, ap, arith, length, subst, sym, take}
+use Rattle.std.proofs.Common.{◌∙◌, ◌-◌, ap, arith, length, subst, sym, take}
 use Rattle.content_files.proofs.Joined.{forgotten, without_last}
 use Rattle.content_files.specs.Notes.{joined}
 use Rattle.content_files.specs.Pieces.{Pieces}

@@ -1,4 +1,4 @@
-use Rattle.std.specs.Prelude.{◌++◌, ◌∷◌, ◌-◌, [], length, take}
+use Rattle.std.specs.Prelude.{[]}
 use Rattle.content_files.proofs.trace.PieceTrace.new.Given as goal
 
 abbrev pub ghosts-named : goal.ghosts-named

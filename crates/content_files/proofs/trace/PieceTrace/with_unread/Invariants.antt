@@ -1,4 +1,4 @@
-use Rattle.std.specs.Prelude.{◌++◌, ◌∷◌, ◌-◌, [], length, take}
+use Rattle.std.specs.Prelude.{◌++◌, ◌∷◌, []}
 use Rattle.content_files.specs.Notes.{unread}
 use Rattle.content_files.proofs.trace.PieceTrace.with_unread.Given as goal
 

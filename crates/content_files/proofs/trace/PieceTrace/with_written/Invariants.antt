@@ -1,4 +1,4 @@
-use Rattle.std.specs.Prelude.{◌++◌, ◌∷◌, ◌-◌, [], length, take}
+use Rattle.std.specs.Prelude.{◌++◌, ◌∷◌, []}
 use Rattle.content_files.proofs.trace.PieceTrace.with_written.Given as goal
 
 abbrev pub ghosts-with_written_as : goal.ghosts-with_written_as

@@ -1,4 +1,4 @@
-use Rattle.std.specs.Prelude.{◌++◌, ◌∷◌, ◌-◌, [], length, take}
+use Rattle.std.specs.Prelude.{◌-◌, length, take}
 use Rattle.content_files.proofs.trace.PieceTrace.without_last.Given as goal
 
 abbrev pub ghosts-without_last_as : goal.ghosts-without_last_as
