@@ -1,7 +1,7 @@
 #!/usr/bin/env python3
 """Tests a registry whose disk is full: it reads, deletes as far as there is room, refuses the rest with 507, starts, and goes on by itself
 when there is room again. It ends with status 3 if it may not mount a disk."""
-import contextlib, os, random, shutil, signal, sqlite3, subprocess, sys, tempfile, threading, time
+import contextlib, glob, os, random, shutil, signal, sqlite3, subprocess, sys, tempfile, threading, time
 
 import kept_folders, robots
 from crash.paths import log_of
@@ -283,7 +283,7 @@ def a_rewriting_that_has_no_room_does_not_begin():
         at.fill()
         server.process.send_signal(signal.SIGUSR1)
         server.wait_for(r"was not rewritten: it needs 2\d{7} bytes on the disk, and may take \d{7}\n")
-        assert not os.path.exists(f"{at.folder}/base.new") and at.free() > 0
+        assert not glob.glob(f"{at.folder}/owner-*/base.new") and at.free() > 0
         check_all(server, image, layer, blobs)
         assert delete(client, blobs.pop()) == 202
         by_signal(server)

@@ -2,7 +2,7 @@
 import json, os, re, tarfile
 
 from referrers import artifact, descriptor, index
-from restarts import CONFIG, PATCH, by_kill_of_both, by_signal, opened, push, push_manifest
+from restarts import CONFIG, PATCH, by_kill_of_both, by_signal, opened, push, push_manifest, without_number
 from server import INDEX, MANIFEST, manifest_of, serving, sha256
 
 HERE = os.path.dirname(os.path.abspath(__file__))
@@ -56,9 +56,13 @@ def database_version(path):
 
 
 def content_of(path):
-    """Returns the bytes of each file of a folder by its name, but for the reserve."""
+    """Returns the bytes of each file of a folder by its name, but for the reserve. The folder of the owner has the names of its files."""
     found = {}
     for name in sorted(set(os.listdir(path)) - {RESERVE}):
+        if os.path.isdir(f"{path}/{name}"):
+            assert without_number(name) not in found, "two owners"
+            found[without_number(name)] = sorted(os.listdir(f"{path}/{name}"))
+            continue
         with open(f"{path}/{name}", "rb") as file:
             found[name] = file.read()
     return found

@@ -1,6 +1,6 @@
 #!/usr/bin/env python3
 """Tests restarts of a registry with a folder: after a signal, and after SIGKILL of either program or of both."""
-import contextlib, json, os, random, signal, sqlite3, tempfile, threading, time
+import contextlib, json, os, random, re, signal, sqlite3, tempfile, threading, time
 
 from crash.paths import log_of
 from playing import LASTING, every_upload, play, until
@@ -10,6 +10,11 @@ from server import INDEX, MANIFEST, manifest_of, serving, sha256, sha512
 PATCH = {"Content-Type": "application/octet-stream"}
 DOCKER = "application/vnd.docker.distribution.manifest.v2+json"
 CONFIG = b"{}"
+
+
+def without_number(name):
+    """Returns the name of a file of a folder, in which the number of an owner is `N`."""
+    return re.sub(r"^owner-\d+$", "owner-N", name)
 
 
 def by_signal(server):
@@ -311,8 +316,18 @@ def referrers_are_the_same_after_a_restart():
                 assert server.end() == 0
 
 
+def before_version_4(rows):
+    """Removes from a database what version 4 added."""
+    for trigger in ("manifest_added", "manifest_changed", "manifest_removed", "tag_added", "tag_removed"):
+        rows.execute(f"DROP TRIGGER {trigger}")
+    rows.execute("DROP TABLE counts")
+    for name in ("manifests_by_size", "listed_by_manifest"):
+        rows.execute(f"DROP INDEX {name}")
+
+
 def before_version_3(rows):
-    """Removes from a database what version 3 added."""
+    """Removes from a database what versions 3 and 4 added."""
+    before_version_4(rows)
     for column in ("pushed", "pulled"):
         rows.execute(f"ALTER TABLE tags DROP COLUMN {column}")
     for table in ("robots", "events", "receivers", "cached"):
@@ -333,9 +348,9 @@ def a_database_of_version_1_is_taken_over():
             before = referrers(client, "acme/one", image)
             by_signal(server)
         with database(path) as rows:
+            before_version_3(rows)
             rows.execute("DROP TABLE listed")
             rows.execute("DROP TABLE loose_blobs")
-            before_version_3(rows)
             rows.execute("DROP INDEX manifests_by_subject")
             for column in ("size", "artifact_type", "subject", "since"):
                 rows.execute(f"ALTER TABLE manifests DROP COLUMN {column}")
@@ -502,7 +517,8 @@ def the_folder_is_measured():
             assert server.metric("registryd_database_commits_total") > before
             assert os.stat(f"{path}/registry.db").st_mode & 0o77 == 0
             by_signal(server)
-        assert sorted(os.listdir(path)) == ["lock", "log.1", "probe", "registry.commits", "registry.db", "reserve"]
+        names = sorted(without_number(name) for name in os.listdir(path))
+        assert names == ["lock", "log.1", "owner-N", "probe", "registry.commits", "registry.db", "reserve"], names
     with serving() as server:
         assert server.metric("registryd_durable") == 0
         text = server.client().ask("GET", "/metrics").body

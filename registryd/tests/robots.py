@@ -163,8 +163,8 @@ def robots_survive_restarts():
                 assert not may(server, f"robot+gone{number}", gone)
                 assert list(listed(f"{path}/control")) == [f"robot+{name}" for name in secrets]
                 assert server.end() == 0
-        for name in os.listdir(path):
-            with open(f"{path}/{name}", "rb") as kept:
+        for name in (f"{at}/{name}" for at, _, names in os.walk(path) for name in names):
+            with open(name, "rb") as kept:
                 data = kept.read()
             assert not any(secret.encode() in data or bytes.fromhex(secret[5:]) in data for secret in secrets.values()), name
         # A damaged row makes no robot, and the others stay.

@@ -2,6 +2,7 @@
 //! repository. The registry keeps no list of the blobs of each manifest, so this reads some of them and asks the store.
 use crate::browse::visit::Visit;
 use crate::http::fault::Fault;
+use crate::http::pages::Page;
 use crate::metadata::names::tenant_of;
 use crate::metadata::repository::NamedManifest;
 use std::collections::{HashMap, HashSet};
@@ -32,7 +33,7 @@ pub(super) struct Comparison {
     pub(super) is_partial: bool,
 }
 
-/// Returns the first manifests whose sum of lengths is within the bound.
+/// Returns the number of the first manifests whose sum of lengths is within the bound.
 fn within(found: &[NamedManifest]) -> usize {
     let mut sum = 0_u64;
     let fits = |named: &&NamedManifest| {
@@ -45,7 +46,7 @@ fn within(found: &[NamedManifest]) -> usize {
 impl Comparison {
     /// Counts the other images of the repository that have a layer. Returns whether it has looked at all.
     async fn count_images(&mut self, visit: &Visit, repo: &str, digest: &str) -> Result<bool, Fault> {
-        let others = visit.registry.manifests.images_but(repo, digest);
+        let Page { items: others, more } = visit.registry.manifests.images_but(repo, digest, MOST_READ);
         self.images = within(&others);
         for named in &others[..self.images] {
             let manifest = visit.manifest(repo, named).await.ok().flatten().unwrap_or_default();
@@ -56,7 +57,7 @@ impl Comparison {
                 }
             }
         }
-        Ok(self.images == others.len())
+        Ok(self.images == others.len() && !more)
     }
 
     /// Asks which other repositories of the tenant that the sender may see have a layer. Returns whether it has asked for all.

@@ -1,10 +1,9 @@
-//! The changes of the database, and what they do to the tables of this process.
+//! The changes of the database, and what they did.
 use crate::auth::robots::RobotRow;
 use crate::database::upload_numbers::UploadNumbers;
 use crate::events::queue::Passed;
 use crate::folder::log_end::LogEnd;
 use crate::metadata::document::Facts;
-use crate::metadata::manifest_table::ManifestTable;
 use crate::metadata::names::tenant_of;
 use crate::metadata::tag::{ExpiredTag, Pull, RemovedTag};
 use crate::moving::stage::MoveRow;
@@ -36,10 +35,11 @@ pub(crate) enum Change {
         since: u64,
         tags: Vec<RemovedTag>,
     },
-    /// A client has asked for a manifest by its digest.
+    /// A client has asked for a manifest by its digest at this time, in seconds since 1970.
     TouchManifest {
         repo: String,
         digest: String,
+        time: u64,
     },
     RemoveTag {
         repo: String,
@@ -134,7 +134,7 @@ pub(crate) enum Change {
     KeepTime,
 }
 
-/// What a change did to the tables of this process.
+/// What a change did to tags.
 #[derive(Debug, PartialEq, Eq)]
 pub(crate) enum Done {
     Nothing,
@@ -145,19 +145,16 @@ pub(crate) enum Done {
 }
 
 impl Change {
-    /// Makes a change in the tables of this process that became durable at this time.
-    pub(super) fn apply(self, table: &ManifestTable, now: u64) -> Done {
+    /// Returns the repository whose numbers of manifests and tags it may change.
+    pub(super) fn counted(&self) -> Option<&str> {
         match self {
-            Change::PutManifest { repo, digest, facts, tag } => table.put(&repo, &digest, facts, tag.as_deref(), now),
-            Change::RestoreManifest { repo, digest, facts, since, tags: names } => {
-                table.restore(&repo, &digest, facts, since, names)
-            }
-            Change::RemoveTag { repo, tag } => return Done::Removed(table.take_tag(&repo, tag, now).into_iter().collect()),
-            Change::ExpireTags { repo, tags } => return Done::Removed(table.expire_tags(&repo, &tags, now)),
-            Change::RemoveManifest { repo, digest } => return Done::RemovedAll(table.take_tags_of(&repo, &digest)),
-            _ => {}
+            Change::PutManifest { repo, .. }
+            | Change::RestoreManifest { repo, .. }
+            | Change::RemoveTag { repo, .. }
+            | Change::ExpireTags { repo, .. }
+            | Change::RemoveManifest { repo, .. } => Some(repo),
+            _ => None,
         }
-        Done::Nothing
     }
 
     /// Returns whether there is nothing but events.

@@ -64,7 +64,9 @@ mod tests {
     /// Makes changes with the events of `report`, the first of which gets a number. Returns how many events there are.
     fn commit(database: &mut Database, changes: &[Change], first: u64) -> usize {
         let (report, mut events) = (report(), NewEvents::from(first));
-        database.commit_reported(changes.iter().map(|change| (change, Some(&report))), &[], 1, &mut events).unwrap();
+        database
+            .commit_reported(changes.iter().map(|change| (change, Some(&report))), &[], 1, &mut events, &mut Vec::new())
+            .unwrap();
         events.made.len()
     }
 

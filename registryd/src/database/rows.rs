@@ -1,23 +1,19 @@
 //! The rows that a start reads from the database.
 use crate::auth::robots::RobotRow;
 use crate::events::queue::EventRows;
-use crate::metadata::document::Facts;
-use crate::metadata::tag::TagTimes;
 use crate::metadata::upload_names::Secret;
 use crate::moving::stage::MoveRow;
-use rusqlite::Connection;
+use rusqlite::{params, Connection};
 use std::collections::HashMap;
 
-/// A manifest.
+/// The repository and the digest of a manifest.
+pub(crate) type ManifestKey = (String, String);
+
+/// A manifest of which only the media type is known.
 #[derive(Clone, Debug, PartialEq, Eq)]
-pub(crate) struct ManifestRow {
-    pub(crate) repo: String,
-    pub(crate) digest: String,
-    pub(crate) facts: Facts,
-    /// Whether all facts are known, and not its media type alone.
-    pub(crate) is_complete: bool,
-    /// The last time at which it was pushed or something ceased to hold it, in seconds since 1970.
-    pub(crate) since: u64,
+pub(crate) struct IncompleteManifest {
+    pub(crate) key: ManifestKey,
+    pub(crate) media_type: String,
 }
 
 /// A tag with the digest of its manifest.
@@ -26,7 +22,6 @@ pub(crate) struct TagRow {
     pub(crate) repo: String,
     pub(crate) tag: String,
     pub(crate) digest: String,
-    pub(crate) times: TagTimes,
 }
 
 /// An open upload.
@@ -36,12 +31,10 @@ pub(crate) struct UploadRow {
     pub(crate) number: u32,
 }
 
-/// The content of the database at a start.
+/// The content of the database at a start, but for manifests and tags.
 pub(crate) struct Rows {
     pub(crate) secret: Secret,
     pub(crate) repositories: Vec<String>,
-    pub(crate) manifests: Vec<ManifestRow>,
-    pub(crate) tags: Vec<TagRow>,
     pub(crate) uploads: Vec<UploadRow>,
     /// The repositories and digests of blobs that are to be unlinked after some time.
     pub(crate) loose_blobs: Vec<(String, String)>,
@@ -66,12 +59,38 @@ pub(super) fn all<T>(
     connection.prepare(query)?.query_map([], read)?.collect()
 }
 
-/// Returns all tags.
-pub(super) fn tag_rows(connection: &Connection) -> rusqlite::Result<Vec<TagRow>> {
-    all(connection, "SELECT repository, tag, digest, pushed, pulled FROM tags", |row| {
-        let times = TagTimes { pushed: row.get::<_, i64>(3)? as u64, pulled: row.get::<_, i64>(4)? as u64 };
-        Ok(TagRow { repo: row.get(0)?, tag: row.get(1)?, digest: row.get(2)?, times })
+/// Returns the first manifests after `last` in the order of repositories and digests, at most `most`.
+pub(super) fn manifest_keys(connection: &Connection, last: &ManifestKey, most: usize) -> rusqlite::Result<Vec<ManifestKey>> {
+    let query = "SELECT repository, digest FROM manifests WHERE (repository, digest) > (?1, ?2)
+                 ORDER BY repository, digest LIMIT ?3";
+    let mut select = connection.prepare_cached(query)?;
+    let rows = select.query_map(params![last.0, last.1, most as i64], |row| Ok((row.get(0)?, row.get(1)?)))?;
+    rows.collect()
+}
+
+/// Returns the manifests of which only the media type is known.
+pub(super) fn incomplete_manifests(connection: &Connection) -> rusqlite::Result<Vec<IncompleteManifest>> {
+    all(connection, "SELECT repository, digest, media_type FROM manifests WHERE size IS NULL", |row| {
+        Ok(IncompleteManifest { key: (row.get(0)?, row.get(1)?), media_type: row.get(2)? })
     })
+}
+
+/// Returns the tags of some manifests.
+pub(super) fn tags_of(connection: &Connection, manifests: &[ManifestKey]) -> rusqlite::Result<Vec<TagRow>> {
+    let mut select = connection.prepare("SELECT tag FROM tags WHERE repository = ?1 AND digest = ?2 ORDER BY tag")?;
+    let mut found = Vec::new();
+    for (repo, digest) in manifests {
+        for tag in select.query_map(params![repo, digest], |row| row.get(0))? {
+            found.push(TagRow { repo: repo.clone(), tag: tag?, digest: digest.clone() });
+        }
+    }
+    Ok(found)
+}
+
+/// Returns the latest time since which a manifest is held as it is, in seconds since 1970.
+pub(super) fn latest_since(connection: &Connection) -> rusqlite::Result<Option<u64>> {
+    let latest: Option<i64> = connection.query_row("SELECT max(since) FROM manifests", [], |row| row.get(0))?;
+    Ok(latest.map(|time| time as u64))
 }
 
 /// Returns all accounts of machines.
@@ -79,28 +98,5 @@ pub(super) fn robot_rows(connection: &Connection) -> rusqlite::Result<Vec<RobotR
     all(connection, "SELECT name, hash, rights, made, ends FROM robots", |row| {
         let time = |at| row.get::<_, i64>(at).map(|time| time as u64);
         Ok(RobotRow { name: row.get(0)?, hash: row.get(1)?, rights: row.get(2)?, made: time(3)?, ends: time(4)? })
-    })
-}
-
-/// Returns all manifests.
-pub(super) fn manifest_rows(connection: &Connection) -> rusqlite::Result<Vec<ManifestRow>> {
-    let mut lists: HashMap<(String, String), Vec<String>> = HashMap::new();
-    let query = "SELECT repository, digest, listed FROM listed ORDER BY repository, digest, listed";
-    for (key, listed) in all(connection, query, |row| Ok(((row.get(0)?, row.get(1)?), row.get(2)?)))? {
-        lists.entry(key).or_default().push(listed);
-    }
-    let query = "SELECT repository, digest, media_type, size, artifact_type, subject, since FROM manifests";
-    all(connection, query, |row| {
-        let (repo, digest): (String, String) = (row.get(0)?, row.get(1)?);
-        let size: Option<i64> = row.get(3)?;
-        let lists = lists.remove(&(repo.clone(), digest.clone())).unwrap_or_default();
-        let facts = Facts {
-            media_type: row.get(2)?,
-            size: size.unwrap_or(0) as u64,
-            artifact_type: row.get(4)?,
-            subject: row.get(5)?,
-            lists,
-        };
-        Ok(ManifestRow { repo, digest, facts, is_complete: size.is_some(), since: row.get::<_, i64>(6)? as u64 })
     })
 }

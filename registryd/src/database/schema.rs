@@ -11,7 +11,7 @@ const WAIT: Duration = Duration::from_secs(5);
 pub(super) const APPLICATION: i64 = 0x7265_6764;
 
 /// The version of the tables.
-pub(super) const VERSION: i64 = 3;
+pub(super) const VERSION: i64 = 4;
 
 /// The tables of version 1.
 pub(super) const TABLES: &str = "
@@ -54,7 +54,7 @@ pub(super) const FACTS: &str = "
 
 /// What version 3 adds: when tags were pushed and pulled, in seconds since 1970, the accounts of machines, events, and the manifests and
 /// blobs that mirrors copied. `passed` is the number up to which a receiver has all events that it wants.
-const USES: &str = "
+pub(super) const USES: &str = "
     ALTER TABLE tags ADD COLUMN pushed INTEGER NOT NULL DEFAULT 0;
     ALTER TABLE tags ADD COLUMN pulled INTEGER NOT NULL DEFAULT 0;
     CREATE TABLE robots (
@@ -66,6 +66,40 @@ const USES: &str = "
         repository TEXT NOT NULL, digest TEXT NOT NULL, used INTEGER NOT NULL,
         PRIMARY KEY (repository, digest)
     ) WITHOUT ROWID;
+";
+
+/// What version 4 adds: the numbers of the manifests and tags of each repository that has any, which triggers keep, and indexes for the
+/// manifests of a size and for the indexes that list a manifest. So each list and each number is read without its other rows.
+const COUNTS: &str = "
+    CREATE INDEX manifests_by_size ON manifests (repository, size);
+    CREATE INDEX listed_by_manifest ON listed (repository, listed);
+    CREATE TABLE counts (
+        repository TEXT PRIMARY KEY, manifests INTEGER NOT NULL DEFAULT 0, manifest_bytes INTEGER NOT NULL DEFAULT 0,
+        tags INTEGER NOT NULL DEFAULT 0
+    ) WITHOUT ROWID;
+    INSERT INTO counts SELECT repository, count(*), coalesce(sum(size), 0),
+        (SELECT count(*) FROM tags WHERE tags.repository = manifests.repository) FROM manifests GROUP BY repository;
+    CREATE TRIGGER manifest_added AFTER INSERT ON manifests BEGIN
+        INSERT INTO counts (repository, manifests, manifest_bytes) VALUES (new.repository, 1, coalesce(new.size, 0))
+            ON CONFLICT (repository) DO UPDATE SET manifests = manifests + 1, manifest_bytes = manifest_bytes + excluded.manifest_bytes;
+    END;
+    CREATE TRIGGER manifest_changed AFTER UPDATE OF size ON manifests WHEN old.size IS NOT new.size BEGIN
+        UPDATE counts SET manifest_bytes = manifest_bytes + coalesce(new.size, 0) - coalesce(old.size, 0)
+            WHERE repository = new.repository;
+    END;
+    CREATE TRIGGER manifest_removed AFTER DELETE ON manifests BEGIN
+        UPDATE counts SET manifests = manifests - 1, manifest_bytes = manifest_bytes - coalesce(old.size, 0)
+            WHERE repository = old.repository;
+        DELETE FROM counts WHERE repository = old.repository AND manifests = 0 AND tags = 0;
+    END;
+    CREATE TRIGGER tag_added AFTER INSERT ON tags BEGIN
+        INSERT INTO counts (repository, tags) VALUES (new.repository, 1)
+            ON CONFLICT (repository) DO UPDATE SET tags = tags + 1;
+    END;
+    CREATE TRIGGER tag_removed AFTER DELETE ON tags BEGIN
+        UPDATE counts SET tags = tags - 1 WHERE repository = old.repository;
+        DELETE FROM counts WHERE repository = old.repository AND manifests = 0 AND tags = 0;
+    END;
 ";
 
 /// The time of the push of each tag that an earlier version recorded: that of its manifest, which is the same or later, or else that of
@@ -110,6 +144,12 @@ pub(super) fn set_up(connection: &Connection) -> rusqlite::Result<()> {
     connection.execute_batch("PRAGMA synchronous = FULL; PRAGMA foreign_keys = ON")
 }
 
+/// Sets how a connection reads the database, with at most `cache` KiB of pages.
+pub(super) fn set_up_reader(connection: &Connection, cache: usize) -> rusqlite::Result<()> {
+    connection.busy_timeout(WAIT)?;
+    connection.execute_batch(&format!("PRAGMA query_only = ON; PRAGMA cache_size = -{cache}"))
+}
+
 /// Lets this connection alone read the database, so that SQLite needs no file with an index of what is in its log.
 pub(super) fn set_up_without_room(connection: &Connection) -> rusqlite::Result<()> {
     connection.busy_timeout(WAIT)?;
@@ -128,9 +168,13 @@ pub(super) fn check_or_make(connection: &mut Connection) -> rusqlite::Result<Opt
     if is_empty || found == (APPLICATION, 1) {
         transaction.execute_batch(FACTS)?;
     }
-    if is_empty || (found.0 == APPLICATION && (1..VERSION).contains(&found.1)) {
+    let is_before = |version| is_empty || (found.0 == APPLICATION && (1..version).contains(&found.1));
+    if is_before(3) {
         transaction.execute_batch(USES)?;
         transaction.execute(TIMES, [clock::time_of_day() as i64])?;
+    }
+    if is_before(VERSION) {
+        transaction.execute_batch(COUNTS)?;
         transaction.execute_batch(&format!("PRAGMA application_id = {APPLICATION}; PRAGMA user_version = {VERSION}"))?;
     }
     let fault = check(&transaction)?;

@@ -1,13 +1,26 @@
 //! The statements of SQL that make the changes of a transaction.
 use crate::auth::robots::RobotRow;
 use crate::database::change::Change;
-use crate::database::{event_rows, marks};
+use crate::database::{event_rows, lookups, marks};
 use crate::events::event::Effect;
+use crate::metadata::bounds::Totals;
 use crate::metadata::document::Facts;
 use crate::metadata::names::tenant_of;
 use crate::metadata::tag::{ExpiredTag, Pull, RemovedTag, TagTimes};
 use rusqlite::{params, Transaction};
 use std::collections::BTreeMap;
+
+/// What a change did to the rows.
+#[derive(Debug, PartialEq, Eq)]
+pub(crate) struct Outcome {
+    /// What its events report.
+    pub(crate) effect: Effect,
+    /// The tags that were removed with a manifest.
+    pub(crate) removed: Vec<RemovedTag>,
+    /// The numbers of its repository's manifests and tags before it and after it.
+    pub(crate) before: Totals,
+    pub(crate) after: Totals,
+}
 
 /// Runs a statement.
 fn run(transaction: &Transaction<'_>, query: &str, values: &[&dyn rusqlite::ToSql]) -> rusqlite::Result<()> {
@@ -64,10 +77,15 @@ fn record_pull(transaction: &Transaction<'_>, Pull { repo, tag, time }: &Pull) -
     run(transaction, query, params![repo, tag, *time as i64])
 }
 
-/// Removes a manifest with its tags, whose names it returns. It ceases to hold what it lists, and what has it as subject.
-fn remove_manifest(transaction: &Transaction<'_>, repo: &str, digest: &str, now: u64) -> rusqlite::Result<Vec<String>> {
-    let mut select = transaction.prepare_cached("SELECT tag FROM tags WHERE repository = ?1 AND digest = ?2 ORDER BY tag")?;
-    let tags = select.query_map(params![repo, digest], |row| row.get(0))?.collect::<rusqlite::Result<Vec<String>>>()?;
+/// Removes a manifest with its tags, which it returns. It ceases to hold what it lists, and what has it as subject.
+fn remove_manifest(transaction: &Transaction<'_>, repo: &str, digest: &str, now: u64) -> rusqlite::Result<Vec<RemovedTag>> {
+    let query = "SELECT tag, pushed, pulled FROM tags WHERE repository = ?1 AND digest = ?2 ORDER BY tag";
+    let mut select = transaction.prepare_cached(query)?;
+    let read = |row: &rusqlite::Row<'_>| {
+        let times = TagTimes { pushed: row.get::<_, i64>(1)? as u64, pulled: row.get::<_, i64>(2)? as u64 };
+        Ok(RemovedTag { name: row.get(0)?, times })
+    };
+    let tags = select.query_map(params![repo, digest], read)?.collect::<rusqlite::Result<Vec<RemovedTag>>>()?;
     for query in [
         "UPDATE manifests SET since = ?3 WHERE repository = ?1
          AND digest IN (SELECT listed FROM listed WHERE repository = ?1 AND digest = ?2)",
@@ -91,8 +109,27 @@ fn restore_tags(transaction: &Transaction<'_>, repo: &str, digest: &str, tags: &
     Ok(restored)
 }
 
-/// Makes a change, except that of an upload, which it notes. `now` is the time. Returns what it did to tags.
-pub(super) fn make<'c>(
+/// Makes a change, except that of an upload, which it notes. `now` is the time. Returns what it did.
+pub(crate) fn make<'c>(
+    transaction: &Transaction<'_>,
+    change: &'c Change,
+    now: u64,
+    uploads: &mut UploadChanges<'c>,
+) -> rusqlite::Result<Outcome> {
+    let counts = || change.counted().map_or(Ok(Totals::default()), |repo| lookups::counts(transaction, repo));
+    let (before, mut removed) = (counts()?, Vec::new());
+    let effect = match change {
+        Change::RemoveManifest { repo, digest } => {
+            removed = remove_manifest(transaction, repo, digest, now)?;
+            Effect::Tags(removed.iter().map(|tag| tag.name.clone()).collect())
+        }
+        _ => make_effect(transaction, change, now, uploads)?,
+    };
+    Ok(Outcome { effect, removed, before, after: counts()? })
+}
+
+/// Makes a change that removes no manifest, and returns what its events report.
+fn make_effect<'c>(
     transaction: &Transaction<'_>,
     change: &'c Change,
     now: u64,
@@ -103,7 +140,6 @@ pub(super) fn make<'c>(
             put_manifest(transaction, (repo, digest), facts, *since, false)?;
             restore_tags(transaction, repo, digest, tags).map(Effect::Tags)
         }
-        Change::RemoveManifest { repo, digest } => remove_manifest(transaction, repo, digest, now).map(Effect::Tags),
         Change::ExpireTags { repo, tags } => expire_tags(transaction, repo, tags, now).map(Effect::Tags),
         Change::RemoveTag { repo, tag } => {
             release_tagged(transaction, repo, tag, now)?;
@@ -135,15 +171,17 @@ fn make_other<'c>(
             match tag {
                 Some(tag) => {
                     release_tagged(transaction, repo, tag, now)?;
-                    let query = "INSERT OR REPLACE INTO tags (repository, tag, digest, pushed) VALUES (?1, ?2, ?3, ?4)";
+                    // A replaced row would not run the triggers.
+                    let query = "INSERT INTO tags (repository, tag, digest, pushed) VALUES (?1, ?2, ?3, ?4)
+                                 ON CONFLICT DO UPDATE SET digest = excluded.digest, pushed = excluded.pushed, pulled = 0";
                     run(query, params![repo, tag, digest, now as i64])
                 }
                 None => Ok(()),
             }
         }
-        Change::TouchManifest { repo, digest } => {
-            let query = "UPDATE manifests SET since = ?3 WHERE repository = ?1 AND digest = ?2";
-            run(query, params![repo, digest, now as i64])
+        Change::TouchManifest { repo, digest, time } => {
+            let query = "UPDATE manifests SET since = ?3 WHERE repository = ?1 AND digest = ?2 AND since < ?3";
+            run(query, params![repo, digest, *time as i64])
         }
         Change::RecordPulls { pulls } => pulls.iter().try_for_each(|pull| record_pull(transaction, pull)),
         Change::CountPulls { since } => marks::put_pulls_since(transaction, *since),
@@ -194,7 +232,7 @@ fn make_other<'c>(
 
 /// The uploads that a transaction opens and ends. One that it opens and ends gets no row.
 #[derive(Default)]
-pub(super) struct UploadChanges<'c> {
+pub(crate) struct UploadChanges<'c> {
     /// For each tenant and number, the repository of an upload that is open at the end, or nothing if it has ended.
     by_number: BTreeMap<(&'c str, u32), Option<&'c str>>,
 }
@@ -241,10 +279,10 @@ mod tests {
         database.commit(changes.iter(), &[], 1).unwrap();
         let changes = [put("a", "x/a", Some("v1")), put("b", "x/b", Some("v2")), expire(1, &["v1", "v2", "v3", "v4"])];
         database.commit(changes.iter(), &[], 2).unwrap();
-        let rows = database.read().unwrap();
+        let rows = database.read_all();
         assert_eq!((tags(&rows), times(&rows)), (vec![("v1", "a"), ("v2", "b")], vec![(2, 0), (2, 0)]));
         database.commit([expire(2, &["v1", "v2"])].iter(), &[], 9).unwrap();
-        let rows = database.read().unwrap();
+        let rows = database.read_all();
         assert_eq!((tags(&rows), since(&rows)), (vec![("v2", "b")], vec![("a", 9), ("b", 2)]));
     }
 
@@ -257,9 +295,9 @@ mod tests {
         database.commit([put("a", "x/a", Some("v1")), put("a", "x/a", Some("v2"))].iter(), &[], 5).unwrap();
         let changes = [pulls(&[pull("v1", 8), pull("v2", 7), pull("v3", 7)]), pulls(&[pull("v1", 6), pull("v2", 9)])];
         database.commit(changes.iter(), &[], 9).unwrap();
-        assert_eq!(times(&folder.open().read().unwrap()), [(5, 8), (5, 9)]);
+        assert_eq!(times(&folder.open().read_all()), [(5, 8), (5, 9)]);
         database.commit([put("a", "x/a", Some("v1")), pulls(&[pull("v1", 9)])].iter(), &[], 10).unwrap();
-        assert_eq!(times(&folder.open().read().unwrap()), [(10, 0), (5, 9)]);
+        assert_eq!(times(&folder.open().read_all()), [(10, 0), (5, 9)]);
     }
 
     #[test]

@@ -1,14 +1,16 @@
 //! The thread that writes the database. It puts all changes that wait into one transaction, so that one sync serves many
-//! requests, and then makes them in the tables of this process, in the same order. So what a request reads is durable.
+//! requests. What a request reads is durable: SQLite shows a transaction to the connections that read after its sync.
 use crate::database::change::{Change, Done};
 use crate::database::event_rows::NewEvents;
 use crate::database::sqlite::{Committed, Database};
+use crate::database::statements::Outcome;
 use crate::database::upload_numbers::UploadNumbers;
 use crate::events::event::{Effect, Event, Report};
 use crate::events::queue::Queue;
 use crate::folder::disk_room::DiskRoom;
 use crate::metadata::clock::now;
 use crate::metadata::manifest_table::ManifestTable;
+use crate::operation::exit::Failure;
 use crate::operation::locks::guard_of;
 use crate::operation::metrics::Commits;
 use std::collections::{BTreeSet, HashMap};
@@ -35,6 +37,24 @@ pub(crate) enum WriteFailure {
     NoRoom,
 }
 
+/// The reason why no change is made any more.
+#[derive(Clone, Debug, PartialEq, Eq)]
+pub(crate) enum WriterFailure {
+    /// Another registry has taken the folder over.
+    Lost,
+    /// A transaction failed, or its thread.
+    Failed(String),
+}
+
+impl From<WriterFailure> for Failure {
+    fn from(failure: WriterFailure) -> Failure {
+        match failure {
+            WriterFailure::Lost => Failure::of_lost_folder(),
+            WriterFailure::Failed(why) => Failure::of_database(&why),
+        }
+    }
+}
+
 /// A change with its events, and the request that waits for it, if one does.
 struct Waiting {
     change: Change,
@@ -50,7 +70,7 @@ struct State {
     /// The time at which the first change was added that waits.
     since: Option<Instant>,
     is_closed: bool,
-    failure: Option<String>,
+    failure: Option<WriterFailure>,
 }
 
 /// The changes that wait for the thread.
@@ -111,7 +131,7 @@ impl Writer {
         }
     }
 
-    /// Makes a change. Returns after it is durable and made in the tables of this process. A change that is late is made
+    /// Makes a change. Returns after it is durable and noted in the tables of this process. A change that is late is made
     /// nevertheless. One that fails for room is not made, unless it restores something: that is made when there is room.
     pub(crate) async fn write(&self, change: Change) -> Result<Done, WriteFailure> {
         self.write_reported(change, None).await
@@ -143,7 +163,7 @@ impl Writer {
     }
 
     /// Waits until a change could not be made, and returns why.
-    pub(crate) async fn failure(&self) -> String {
+    pub(crate) async fn failure(&self) -> WriterFailure {
         loop {
             let notified = self.failed.notified();
             if let Some(failure) = self.state().failure.clone() {
@@ -154,15 +174,15 @@ impl Writer {
     }
 
     /// Writes the changes that wait, closes the database and ends the thread. Later changes fail.
-    pub(crate) async fn end(&self, thread: WriterThread) -> Result<(), String> {
+    pub(crate) async fn end(&self, thread: WriterThread) -> Result<(), WriterFailure> {
         self.state().is_closed = true;
         self.ready.notify_one();
         let joined = tokio::task::spawn_blocking(move || thread.0.join());
         match tokio::time::timeout(END_TIME, joined).await {
             Ok(Ok(Ok(Ok(())))) => self.state().failure.clone().map_or(Ok(()), Err),
-            Ok(Ok(Ok(Err(error)))) => Err(error.to_string()),
-            Ok(_) => Err("a bug in this program stopped its thread".to_string()),
-            Err(_) => Err(format!("it did not end within {} s", END_TIME.as_secs())),
+            Ok(Ok(Ok(Err(error)))) => Err(WriterFailure::Failed(error.to_string())),
+            Ok(_) => Err(WriterFailure::Failed("a bug in this program stopped its thread".to_string())),
+            Err(_) => Err(WriterFailure::Failed(format!("it did not end within {} s", END_TIME.as_secs()))),
         }
     }
 
@@ -188,7 +208,7 @@ impl Writer {
     }
 
     /// Refuses all changes from now on. The requests that wait are not replied to.
-    fn fail(&self, failure: String) {
+    fn fail(&self, failure: WriterFailure) {
         let mut state = self.state();
         state.is_closed = true;
         state.failure.get_or_insert(failure);
@@ -259,9 +279,10 @@ impl Writer {
                 unrecorded.iter().map(|name: &String| (name.clone(), numbers[name].upto())).collect();
             let now = now();
             let mut events = NewEvents::from(self.queue.as_ref().map_or(0, |queue| queue.next_number()));
+            let mut outcomes = Vec::with_capacity(batch.len());
             let changes = batch.iter().map(|waiting| (&waiting.change, waiting.report.as_ref()));
             let committed = match self.has_room(&batch) {
-                true => database.commit_reported(changes, &recorded, now, &mut events),
+                true => database.commit_reported(changes, &recorded, now, &mut events, &mut outcomes),
                 false => Ok(Committed::NoRoom),
             };
             match committed {
@@ -270,24 +291,30 @@ impl Writer {
                     self.put_back(batch);
                     continue;
                 }
+                Ok(Committed::Lost) => {
+                    self.fail(WriterFailure::Lost);
+                    // Closing it may write to the files, which are another registry's.
+                    std::mem::forget(database);
+                    return Ok(());
+                }
                 Err(error) => {
-                    self.fail(error.to_string());
+                    self.fail(WriterFailure::Failed(error.to_string()));
                     return Err(error);
                 }
             }
             unrecorded.clear();
             self.commits.count();
-            self.apply(batch, table, now);
+            self.apply(batch, outcomes, table, now);
             // A receiver that asks for what an event names finds it.
             self.push(events.made);
         }
         database.close()
     }
 
-    /// Makes changes in the tables of this process, and replies to the requests that wait for them.
-    fn apply(&self, batch: Vec<Waiting>, table: &ManifestTable, now: u64) {
-        for Waiting { change, reply, .. } in batch {
-            let done = change.apply(table, now);
+    /// Notes changes in the tables of this process, and replies to the requests that wait for them.
+    fn apply(&self, batch: Vec<Waiting>, outcomes: Vec<Outcome>, table: &ManifestTable, now: u64) {
+        for (Waiting { change, reply, .. }, outcome) in batch.into_iter().zip(outcomes) {
+            let done = table.made(&change, outcome, now);
             if let Some(reply) = reply {
                 let _ = reply.send(Ok(done));
             }
@@ -301,7 +328,7 @@ struct FailOnPanic<'w>(&'w Writer);
 impl Drop for FailOnPanic<'_> {
     fn drop(&mut self) {
         if std::thread::panicking() {
-            self.0.fail("a bug in this program stopped its thread".to_string());
+            self.0.fail(WriterFailure::Failed("a bug in this program stopped its thread".to_string()));
         }
     }
 }
@@ -329,8 +356,8 @@ mod tests {
     fn started(folder: &std::path::Path) -> (Arc<Writer>, WriterThread, Arc<ManifestTable>) {
         let room = Arc::new(DiskRoom::new(folder.to_path_buf(), 0, 0));
         let writer = Writer::new(Commits::new(), Duration::from_secs(60), room, None);
-        let tags = Arc::new(ManifestTable::default());
-        let database = Database::open(folder, true).unwrap();
+        let mut database = Database::open(folder, true).unwrap();
+        let tags = Arc::new(ManifestTable::over(database.readers().unwrap()));
         let thread = writer.start(database, tags.clone(), HashMap::new()).unwrap();
         (writer, thread, tags)
     }
@@ -356,9 +383,9 @@ mod tests {
         writer.note(Change::OpenUpload { repo: "other/web".to_string(), number: 9 });
         assert_eq!(writer.end(thread).await, Ok(()));
         assert_eq!(writer.write(put("v2")).await, Err(WriteFailure::Unavailable));
-        let rows = Database::open(&folder, true).unwrap().read().unwrap();
-        assert_eq!((rows.tags.len(), rows.manifests.len(), rows.uploads.len()), (0, 1, 2));
-        assert_eq!(rows.recorded, [("acme".to_string(), 2), ("other".to_string(), 7)].into());
+        let rows = Database::open(&folder, true).unwrap().read_all();
+        assert_eq!((rows.tags.len(), rows.manifests.len(), rows.rows.uploads.len()), (0, 1, 2));
+        assert_eq!(rows.rows.recorded, [("acme".to_string(), 2), ("other".to_string(), 7)].into());
         std::fs::remove_dir_all(folder).unwrap();
     }
 
@@ -395,10 +422,11 @@ mod tests {
         let folder = folder();
         let (writer, thread, tags) = started(&folder);
         assert_eq!(writer.write(put("v1")).await, Ok(Done::Nothing));
-        writer.fail("the disk is full".to_string());
+        let failure = WriterFailure::Failed("the disk is full".to_string());
+        writer.fail(failure.clone());
         assert_eq!(writer.write(put("v2")).await, Err(WriteFailure::Unavailable));
-        assert_eq!(writer.failure().await, "the disk is full");
-        assert_eq!(writer.end(thread).await, Err("the disk is full".to_string()));
+        assert_eq!(writer.failure().await, failure);
+        assert_eq!(writer.end(thread).await, Err(failure));
         assert_eq!(tags.by_tag("acme/web", "v2"), None);
         std::fs::remove_dir_all(folder).unwrap();
     }

@@ -8,7 +8,6 @@ use crate::http::conditions::{check_match, entity_tag, has_content, not_modified
 use crate::http::content::RequestContent;
 use crate::http::fault::Fault;
 use crate::http::responses::{empty, with_body, HandlerResult};
-use crate::metadata::clock::now;
 use crate::metadata::document;
 use crate::metadata::document::{Document, Facts};
 use crate::metadata::limits::Limit;
@@ -379,7 +378,7 @@ pub(crate) async fn delete_manifest(
             registry.cached.unmark(repo, digest);
             registry.loosen(repo, &blobs);
         }
-        Ok(Err(Refusal { reason: Reason::ManifestUnknown, .. })) => manifests.remove_manifest(repo, digest, now()),
+        Ok(Err(Refusal { reason: Reason::ManifestUnknown, .. })) => manifests.finish_removal(repo, digest, None).await?,
         Ok(Err(_)) => {
             let of = |facts: &Facts| reporter.as_ref()?.restored(repo, (digest, &*facts.media_type, facts.size));
             manifests.undo_removal(repo, digest, removed, of).await?;

@@ -24,10 +24,11 @@ fn description(untagged: &Untagged) -> Value {
 pub(super) fn list(registry: &Registry, query: Option<&str>) -> HandlerResult {
     let wanted = WantedPage::of(query)?;
     let (last_repo, last_digest) = wanted.last.split_once('@').unwrap_or((&wanted.last, ""));
-    let names = registry.manifests.names();
-    let after = names.iter().filter(|name| &***name >= last_repo);
-    let all = after.flat_map(|name| registry.manifests.untagged(name));
-    let page = Page::of(all.filter(|one| one.repo != last_repo || &*one.digest > last_digest), wanted.most);
+    let all = registry.manifests.names("", last_repo).flat_map(|name| {
+        let last = if name == last_repo { last_digest } else { "" };
+        registry.manifests.untagged((&name, last), wanted.most.saturating_add(1), |_| true).items
+    });
+    let page = Page::of(all, wanted.most);
     let link = page.items.last().filter(|_| page.more).map(|last| wanted.next("/untagged", &position(last), &[]));
     let items: Vec<Value> = page.items.iter().map(description).collect();
     page_response(&json!({ "untagged": items }), link)

@@ -119,7 +119,7 @@ impl Draft {
 }
 
 /// What a change did to the tags of a repository.
-#[derive(Debug, PartialEq, Eq)]
+#[derive(Clone, Debug, PartialEq, Eq)]
 pub(crate) enum Effect {
     /// It changed nothing.
     Nothing,

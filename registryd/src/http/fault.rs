@@ -324,6 +324,9 @@ impl From<Refusal> for Fault {
             }
             Reason::Busy => soon("TOOMANYREQUESTS", "another request is appending to the upload"),
             Reason::RepoInUse => Fault::new(StatusCode::CONFLICT, "DENIED", "the repository is in use"),
+            Reason::Unreadable => {
+                Fault::new(StatusCode::INTERNAL_SERVER_ERROR, "UNSUPPORTED", "the store cannot read the content")
+            }
             Reason::WeightSpent | Reason::Other(_) => {
                 Fault::new(StatusCode::INTERNAL_SERVER_ERROR, "UNSUPPORTED", "the store sent an unexpected reply")
             }

@@ -1,10 +1,10 @@
 //! The tags that rules let go, with the reasons.
+use crate::database::lookups::{self, FoundTag};
 use crate::metadata::immutable_tags::Rules;
 use crate::metadata::manifest_table::ManifestTable;
-use crate::metadata::repository::Repository;
 use crate::metadata::retention_rules::{Moment, RetentionRules};
-use crate::metadata::tag::{digest_in, ExpiredTag, Tag, TagTimes};
-use std::collections::{HashMap, HashSet};
+use crate::metadata::tag::{digest_in, ExpiredTag, TagTimes};
+use std::collections::HashMap;
 
 /// What decides which tags leave.
 #[derive(Clone, Copy)]
@@ -46,56 +46,6 @@ pub(crate) struct Preview {
     pub(crate) tags: usize,
 }
 
-impl Repository {
-    /// Returns whether no rule decides about a tag now: its manifest is being deleted, it is being pushed, or its name says that it
-    /// belongs to another manifest, which is there.
-    fn is_exempt(&self, name: &str, tag: &Tag) -> bool {
-        let is_there = |digest: String| digest != tag.digest && self.manifests.contains_key(&digest);
-        let belongs = || digest_in(name).map_or(false, is_there);
-        self.manifest(&tag.digest).is_none() || self.pushes.has_tag(name) || belongs()
-    }
-
-    /// Returns the tags that leave, in order.
-    fn leaving(&self, repo: &str, deciding: Deciding<'_>) -> Vec<(&String, &Tag)> {
-        let Deciding { rules, immutable, moment } = deciding;
-        let rules = rules.of(repo);
-        if rules.is_empty() {
-            return Vec::new();
-        }
-        let tags: Vec<(&String, &Tag)> = self.tags.iter().filter(|(name, tag)| !self.is_exempt(name, tag)).collect();
-        // For each tag, whether a rule keeps it, if one covers it.
-        let mut kept: Vec<Option<bool>> = vec![None; tags.len()];
-        for rule in rules {
-            let covered: Vec<usize> = (0..tags.len()).filter(|at| rule.matches(tags[*at].0)).collect();
-            let oldest = rule.oldest_of_last(covered.iter().map(|at| tags[*at].1.times.pushed).collect());
-            for at in covered {
-                kept[at] = Some(kept[at] == Some(true) || rule.keeps(tags[at].1.times, oldest, moment));
-            }
-        }
-        let is_immutable = |name: &str| immutable.map_or(false, |rules| rules.cover(repo, name));
-        let leaving = tags.into_iter().zip(kept).filter(|((name, _), kept)| *kept == Some(false) && !is_immutable(name));
-        leaving.map(|(tag, _)| tag).collect()
-    }
-
-    /// Returns the tags that leave, each with what holds its manifest then.
-    fn leaving_and_holders(&self, repo: &str, deciding: Deciding<'_>) -> Vec<(Found, Option<Holder>)> {
-        let leaving = self.leaving(repo, deciding);
-        let names: HashSet<&String> = leaving.iter().map(|(name, _)| *name).collect();
-        let staying: HashMap<&String, &String> =
-            self.tags.iter().filter(|(name, _)| !names.contains(name)).map(|(name, tag)| (&tag.digest, name)).collect();
-        let holder = |digest: &String| match staying.get(digest) {
-            Some(tag) => Some(Holder::Tag(tag.to_string())),
-            None => self.holder(digest).cloned().map(Holder::Manifest),
-        };
-        leaving.into_iter().map(|tag| (found(tag), holder(&tag.1.digest))).collect()
-    }
-}
-
-/// Returns a copy of what is needed of a tag that leaves.
-fn found((name, tag): (&String, &Tag)) -> Found {
-    (ExpiredTag { name: name.clone(), digest: tag.digest.clone(), pushed: tag.times.pushed }, tag.times)
-}
-
 /// Returns what is logged and shown of a tag that leaves.
 fn described(repo: &str, (tag, times): Found, deciding: Deciding<'_>) -> LeavingTag {
     let covering: Vec<_> = deciding.rules.of(repo).into_iter().filter(|rule| rule.matches(&tag.name)).collect();
@@ -104,22 +54,77 @@ fn described(repo: &str, (tag, times): Found, deciding: Deciding<'_>) -> Leaving
     LeavingTag { tag, pulled: times.pulled, rule, why }
 }
 
+/// Returns a copy of what is needed of a tag that leaves.
+fn found(tag: &FoundTag) -> Found {
+    (ExpiredTag { name: tag.name.clone(), digest: tag.manifest.digest.clone(), pushed: tag.times.pushed }, tag.times)
+}
+
+/// Returns whether each of some tags leaves. `exempt` are those about which no rule decides.
+fn decide(repo: &str, tags: &[FoundTag], exempt: &[bool], deciding: Deciding<'_>) -> Vec<bool> {
+    // For each tag, whether a rule keeps it, if one covers it.
+    let mut kept: Vec<Option<bool>> = vec![None; tags.len()];
+    for rule in deciding.rules.of(repo) {
+        let covered: Vec<usize> = (0..tags.len()).filter(|at| !exempt[*at] && rule.matches(&tags[*at].name)).collect();
+        let oldest = rule.oldest_of_last(covered.iter().map(|at| tags[*at].times.pushed).collect());
+        for at in covered {
+            kept[at] = Some(kept[at] == Some(true) || rule.keeps(tags[at].times, oldest, deciding.moment));
+        }
+    }
+    let is_immutable = |name: &str| deciding.immutable.map_or(false, |rules| rules.cover(repo, name));
+    tags.iter().zip(kept).map(|(tag, kept)| kept == Some(false) && !is_immutable(&tag.name)).collect()
+}
+
 impl ManifestTable {
-    /// Returns the first tags of a repository that leave, at most `most`.
-    pub(crate) fn leaving(&self, repo: &str, deciding: Deciding<'_>, most: usize) -> Vec<LeavingTag> {
-        let look = |repository: &mut Repository| {
-            repository.leaving(repo, deciding).into_iter().take(most).map(found).collect::<Vec<Found>>()
+    /// Returns the tags of a repository in order with their last pulls, and whether each leaves.
+    fn decided(&self, repo: &str, deciding: Deciding<'_>) -> (Vec<FoundTag>, Vec<bool>) {
+        let keep = |tag: FoundTag| {
+            let times = self.with_last_pull(repo, &tag.name, tag.times);
+            Some(FoundTag { times, ..tag })
         };
-        let leaving = self.with(repo, look).unwrap_or_default();
-        leaving.into_iter().map(|one| described(repo, one, deciding)).collect()
+        let tags = self.rows.read(|rows| lookups::tags(rows, repo, ("", ""), "", usize::MAX, keep)).items;
+        let pushed = self.pushed_tags(repo);
+        let exempt: Vec<bool> = tags.iter().map(|tag| pushed.contains(&tag.name) || self.is_exempt(repo, tag)).collect();
+        let leaving = decide(repo, &tags, &exempt, deciding);
+        (tags, leaving)
+    }
+
+    /// Returns whether no rule decides about a tag now: its manifest is being deleted, or its name says that it belongs to another manifest,
+    /// which is there.
+    fn is_exempt(&self, repo: &str, tag: &FoundTag) -> bool {
+        let is_there = |digest: String| digest != tag.manifest.digest && self.is_known(repo, &digest);
+        self.leaving.has(repo, &tag.manifest.digest) || digest_in(&tag.name).map_or(false, is_there)
+    }
+
+    /// Returns the first tags of a repository that leave, at most `most`.
+    ///
+    /// # Cost
+    ///
+    /// Reads all tags of the repository if a rule is about it.
+    pub(crate) fn leaving(&self, repo: &str, deciding: Deciding<'_>, most: usize) -> Vec<LeavingTag> {
+        if deciding.rules.of(repo).is_empty() {
+            return Vec::new();
+        }
+        let (tags, leaving) = self.decided(repo, deciding);
+        let leaving = tags.iter().zip(leaving).filter(|(_, leaves)| *leaves).take(most);
+        leaving.map(|(tag, _)| described(repo, found(tag), deciding)).collect()
     }
 
     /// Returns the tags of a repository that would leave.
     pub(crate) fn preview(&self, repo: &str, deciding: Deciding<'_>) -> Preview {
-        let look = |repository: &mut Repository| (repository.leaving_and_holders(repo, deciding), repository.tags.len());
-        let (leaving, tags) = self.with(repo, look).unwrap_or_default();
-        let described = leaving.into_iter().map(|(one, holder)| (described(repo, one, deciding), holder));
-        Preview { leaving: described.collect(), tags }
+        if deciding.rules.of(repo).is_empty() {
+            let tags = self.rows.read(|rows| lookups::counts(rows, repo)).tags as usize;
+            return Preview { leaving: Vec::new(), tags };
+        }
+        let (tags, leaving) = self.decided(repo, deciding);
+        let staying = tags.iter().zip(&leaving).filter(|(_, leaves)| !**leaves);
+        let staying: HashMap<&str, &str> = staying.map(|(tag, _)| (&*tag.manifest.digest, &*tag.name)).collect();
+        let holder = |digest: &str| match staying.get(digest) {
+            Some(tag) => Some(Holder::Tag(tag.to_string())),
+            None => self.holder(repo, digest).map(Holder::Manifest),
+        };
+        let leaving = tags.iter().zip(&leaving).filter(|(_, leaves)| **leaves);
+        let described = leaving.map(|(tag, _)| (described(repo, found(tag), deciding), holder(&tag.manifest.digest)));
+        Preview { leaving: described.collect(), tags: tags.len() }
     }
 }
 

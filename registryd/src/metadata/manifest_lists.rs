@@ -1,13 +1,11 @@
 //! The lists of tags, repositories and manifests that requests ask for, page by page.
+use crate::database::lookups::{self, FoundTag, FoundUntagged};
 use crate::http::pages::{Page, MAX_PAGE};
-use crate::metadata::document::Facts;
+use crate::metadata::bounds::Totals;
 use crate::metadata::manifest_table::ManifestTable;
-use crate::metadata::repository::{Manifest, NamedManifest, Repository};
-use crate::metadata::tag::Tag;
+use crate::metadata::repository::NamedManifest;
 use crate::moving::contents::Image;
-use crate::operation::locks::guard_of;
-use std::collections::{BTreeMap, HashMap};
-use std::ops::Bound;
+use rusqlite::Connection;
 
 /// A manifest that has a subject.
 #[derive(Debug, PartialEq, Eq)]
@@ -19,9 +17,9 @@ pub(crate) struct Referrer {
 }
 
 impl Referrer {
-    fn of(digest: &str, facts: &Facts) -> Referrer {
-        let Facts { media_type, artifact_type, size, .. } = facts;
-        Referrer { digest: digest.to_string(), media_type: media_type.clone(), artifact_type: artifact_type.clone(), size: *size }
+    fn of(manifest: NamedManifest, artifact_type: Option<String>) -> Referrer {
+        let NamedManifest { digest, media_type, size } = manifest;
+        Referrer { digest, media_type, artifact_type, size }
     }
 }
 
@@ -84,49 +82,50 @@ pub(crate) struct RepositoryRow {
     pub(crate) manifests: usize,
 }
 
-/// Returns the entries after `last` whose keys begin with a prefix.
-fn after<'m, V>(map: &'m BTreeMap<String, V>, prefix: &'m str, last: &'m str) -> impl Iterator<Item = (&'m String, &'m V)> {
-    let begin = if last < prefix { Bound::Included(prefix) } else { Bound::Excluded(last) };
-    map.range::<str, _>((begin, Bound::Unbounded)).take_while(move |(name, _)| name.starts_with(prefix))
+/// Returns where a list begins: the first name in order that is not less than this one and is not the other one. The names begin with a
+/// prefix and come after `last`.
+fn beginning<'t>(prefix: &'t str, last: &'t str) -> (&'t str, &'t str) {
+    (prefix.max(last), last)
 }
 
-impl Repository {
-    /// Returns a tag with its manifest and its time, unless the manifest is marked.
-    fn tag_row(&self, name: &str, tag: &Tag) -> Option<TagRow> {
-        Some(TagRow { name: name.to_string(), manifest: self.named(&tag.digest)?, pushed: tag.times.pushed })
-    }
-
-    /// Returns a tag with its manifest and the first referrers of that.
-    fn tag_overview(&self, tag: &str, manifest: NamedManifest, most: usize) -> TagOverview {
-        let mut all = self.referrers_after(&manifest.digest, "");
-        let items = all.by_ref().take(most).map(|(digest, facts)| Referrer::of(digest, facts)).collect();
-        let more = all.next().is_some();
-        TagOverview { name: tag.to_string(), manifest, referrers: Page { items, more } }
+impl FoundTag {
+    fn row(self) -> TagRow {
+        TagRow { name: self.name, manifest: self.manifest, pushed: self.times.pushed }
     }
 }
 
 impl ManifestTable {
+    /// Returns whether a manifest is marked.
+    fn is_hidden(&self, repo: &str, digest: &str) -> bool {
+        self.leaving.has(repo, digest)
+    }
+
+    /// Returns the number of a repository's manifests that are not marked.
+    fn count_visible(&self, repo: &str, totals: Totals) -> u64 {
+        totals.manifests.saturating_sub(self.leaving.count_with_rows(repo))
+    }
+
+    /// Returns whether a repository has a manifest that is not marked.
+    fn is_visible(&self, rows: &Connection, repo: &str) -> rusqlite::Result<bool> {
+        Ok(self.count_visible(repo, lookups::counts(rows, repo)?) > 0)
+    }
+
     /// Returns the first tags after `last` in order, at most `most` and at most `MAX_PAGE`. Returns `None` if the repository
     /// has no manifest.
     pub(crate) fn page(&self, repo: &str, last: &str, most: usize) -> Option<Page<String>> {
-        let page = |repo: &mut Repository| {
-            if !repo.is_visible() {
-                return None;
+        self.rows.read(|rows| {
+            if !self.is_visible(rows, repo)? {
+                return Ok(None);
             }
-            let after = repo.tags.range::<str, _>((Bound::Excluded(last), Bound::Unbounded));
-            let visible = after.filter(|(_, tag)| repo.manifest(&tag.digest).is_some());
-            Some(Page::of(visible.map(|(tag, _)| tag.clone()), most.min(MAX_PAGE)))
-        };
-        self.with(repo, page).flatten()
+            lookups::tag_names(rows, (repo, last), most.min(MAX_PAGE), |digest| self.is_hidden(repo, digest)).map(Some)
+        })
     }
 
     /// Returns the first repositories after `last` in order that have manifests and that may be listed, at most `most` and at
     /// most `MAX_PAGE`.
     pub(crate) fn repositories(&self, last: &str, most: usize, may_list: impl Fn(&str) -> bool) -> Page<String> {
-        let repos = guard_of(self.repos.read());
-        let after = repos.range::<str, _>((Bound::Excluded(last), Bound::Unbounded));
-        let visible = after.filter(|(name, repo)| may_list(name) && guard_of(repo.lock()).is_visible());
-        Page::of(visible.map(|(name, _)| name.clone()), most.min(MAX_PAGE))
+        let Page { items, more } = self.repository_rows("", last, most, may_list);
+        Page { items: items.into_iter().map(|row| row.name).collect(), more }
     }
 
     /// Returns the first repositories after `last` in order whose names begin with a prefix, and that have manifests and may be listed, at
@@ -142,106 +141,114 @@ impl ManifestTable {
         most: usize,
         may_list: impl Fn(&str) -> bool,
     ) -> Page<RepositoryRow> {
-        let repos = guard_of(self.repos.read());
-        let rows = after(&repos, prefix, last).filter(|(name, _)| may_list(name)).filter_map(|(name, repo)| {
-            let repo = guard_of(repo.lock());
-            let row = || RepositoryRow { name: name.clone(), tags: repo.tags.len(), manifests: repo.manifests.len() };
-            repo.is_visible().then(row)
-        });
-        Page::of(rows, most.min(MAX_PAGE))
+        self.rows.read(|rows| {
+            lookups::repositories(rows, beginning(prefix, last), prefix, most.min(MAX_PAGE), |name, totals| {
+                let is_listed = may_list(&name) && self.count_visible(&name, totals) > 0;
+                let Totals { manifests, tags, .. } = totals;
+                is_listed.then(|| RepositoryRow { name, tags: tags as usize, manifests: manifests as usize })
+            })
+        })
     }
 
     /// Returns the first tags after `last` in order that begin with a prefix, at most `most`. Returns `None` if the repository has no
     /// manifest.
     pub(crate) fn tag_rows(&self, repo: &str, prefix: &str, last: &str, most: usize) -> Option<Page<TagRow>> {
-        let rows = |repo: &mut Repository| {
-            let rows = after(&repo.tags, prefix, last).filter_map(|(name, tag)| repo.tag_row(name, tag));
-            repo.is_visible().then(|| Page::of(rows, most.min(MAX_PAGE)))
-        };
-        self.with(repo, rows).flatten()
+        self.rows.read(|rows| {
+            if !self.is_visible(rows, repo)? {
+                return Ok(None);
+            }
+            let keep = |found: FoundTag| Some(found.row()).filter(|row| !self.is_hidden(repo, &row.manifest.digest));
+            lookups::tags(rows, repo, beginning(prefix, last), prefix, most.min(MAX_PAGE), keep).map(Some)
+        })
     }
 
     /// Returns a tag with its manifest and its time.
     pub(crate) fn tag_row(&self, repo: &str, name: &str) -> Option<TagRow> {
-        self.with(repo, |repo| repo.tag_row(name, repo.tags.get(name)?)).flatten()
+        let found = self.rows.read(|rows| lookups::by_tag(rows, repo, name))?;
+        Some(found.row()).filter(|row| !self.is_hidden(repo, &row.manifest.digest))
     }
 
     /// Returns the first tags of a manifest in order, at most `most`.
-    ///
-    /// # Cost
-    ///
-    /// Compares each tag of the repository, as a delete of the manifest does.
     pub(crate) fn tags_of(&self, repo: &str, digest: &str, most: usize) -> Page<String> {
-        let find = |repo: &mut Repository| {
-            let of_manifest = repo.tags.iter().filter(|(_, tag)| tag.digest == digest);
-            Page::of(of_manifest.map(|(name, _)| name.clone()), most)
-        };
-        self.with(repo, find).unwrap_or(Page { items: Vec::new(), more: false })
+        self.rows.read(|rows| lookups::tags_of(rows, (repo, digest), most, |_| true))
     }
 
-    /// Returns the manifests of a repository that are no indexes and have no subject, but for one, in the order of digests.
-    pub(crate) fn images_but(&self, repo: &str, digest: &str) -> Vec<NamedManifest> {
-        let find = |repo: &mut Repository| {
-            let images = repo.manifests.iter().filter(|(other, manifest)| {
-                *other != digest && manifest.facts.lists.is_empty() && manifest.facts.subject.is_none()
-            });
-            let mut found: Vec<NamedManifest> = images.filter_map(|(digest, _)| repo.named(digest)).collect();
-            found.sort_unstable_by(|one, other| one.digest.cmp(&other.digest));
-            found
-        };
-        self.with(repo, find).unwrap_or_default()
+    /// Returns the first manifests of a repository that are no indexes and have no subject, but for one, in the order of digests, at most
+    /// `most`, and whether more follow.
+    pub(crate) fn images_but(&self, repo: &str, digest: &str, most: usize) -> Page<NamedManifest> {
+        let is_hidden = |other: &str| other == digest || self.is_hidden(repo, other);
+        self.rows.read(|rows| lookups::images(rows, repo, most, is_hidden))
     }
 
-    /// Returns the names of all repositories, in order.
-    pub(crate) fn names(&self) -> Vec<String> {
-        guard_of(self.repos.read()).keys().cloned().collect()
+    /// Returns the names of the repositories that have manifests, in order, that begin with a prefix and are not less than `first`. They are
+    /// read a page at a time, so that changes meanwhile are seen.
+    pub(crate) fn names<'t>(&'t self, prefix: &'t str, first: &str) -> impl Iterator<Item = String> + 't {
+        let (mut begin, mut last) = (first.max(prefix).to_string(), String::new());
+        let mut page = Vec::new().into_iter();
+        std::iter::from_fn(move || {
+            let read =
+                || self.rows.read(|rows| lookups::repositories(rows, (&begin, &last), prefix, MAX_PAGE, |name, _| Some(name)));
+            let next = page.next().or_else(|| {
+                page = read().items.into_iter();
+                page.next()
+            })?;
+            begin = next.clone();
+            last = next.clone();
+            Some(next)
+        })
     }
 
     /// Returns the manifests of a repository with all that is known of them, in the order of digests.
     pub(crate) fn images(&self, name: &str) -> Vec<Image> {
-        let find = |repo: &mut Repository| {
-            let mut tags: HashMap<&str, Vec<String>> = HashMap::new();
-            for (tag, Tag { digest, .. }) in &repo.tags {
-                tags.entry(digest).or_default().push(tag.clone());
-            }
-            let visible = repo.manifests.iter().filter(|(_, manifest)| !manifest.is_leaving);
-            let mut found: Vec<Image> = visible
-                .map(|(digest, Manifest { facts, .. })| Image {
-                    repository: name.to_string(),
-                    digest: digest.clone(),
-                    media_type: facts.media_type.clone(),
-                    size: facts.size,
-                    artifact_type: facts.artifact_type.clone(),
-                    subject: facts.subject.clone(),
-                    lists: facts.lists.clone(),
-                    tags: tags.remove(digest.as_str()).unwrap_or_default(),
-                })
-                .collect();
-            found.sort_unstable();
-            found
-        };
-        self.with(name, find).unwrap_or_default()
+        let digests = self.rows.read(|rows| lookups::digests(rows, name));
+        let visible = digests.into_iter().filter(|digest| !self.is_hidden(name, digest));
+        visible.filter_map(|digest| self.image(name, digest)).collect()
     }
 
-    /// Returns the manifests of a repository that have no tag, in the order of digests.
-    pub(crate) fn untagged(&self, name: &str) -> Vec<Untagged> {
-        let find = |repo: &mut Repository| {
-            let tagged = repo.tagged();
-            let visible = repo.manifests.iter().filter(|(digest, manifest)| !manifest.is_leaving && !tagged.contains(digest));
-            let mut found: Vec<Untagged> = visible
-                .map(|(digest, manifest)| Untagged {
-                    repo: name.to_string(),
-                    digest: digest.clone(),
-                    media_type: manifest.facts.media_type.clone(),
-                    size: manifest.facts.size,
-                    since: manifest.since,
-                    held_by: repo.holder(digest).cloned(),
-                })
-                .collect();
-            found.sort_unstable_by(|one, other| one.digest.cmp(&other.digest));
-            found
+    /// Returns a manifest with all that is known of it, if it is there.
+    fn image(&self, name: &str, digest: String) -> Option<Image> {
+        let (facts, tags) = self.rows.read(|rows| {
+            let tags = lookups::tags_of(rows, (name, &digest), usize::MAX, |_| true)?.items;
+            Ok((lookups::facts(rows, name, &digest)?, tags))
+        });
+        let (facts, _) = facts?;
+        Some(Image {
+            repository: name.to_string(),
+            digest,
+            media_type: facts.media_type,
+            size: facts.size,
+            artifact_type: facts.artifact_type,
+            subject: facts.subject,
+            lists: facts.lists,
+            tags,
+        })
+    }
+
+    /// Returns the first manifests of a repository after `last` that have no tag, in the order of digests, at most `most`. `is_wanted`
+    /// returns whether one is returned.
+    pub(crate) fn untagged(
+        &self,
+        (name, last): (&str, &str),
+        most: usize,
+        is_wanted: impl Fn(&Untagged) -> bool,
+    ) -> Page<Untagged> {
+        self.rows.read(|rows| {
+            lookups::untagged(rows, (name, last), most, |found| {
+                let is_there = !self.is_hidden(name, &found.manifest.digest);
+                is_there.then(|| self.untagged_of(name, found)).filter(|found| is_wanted(found))
+            })
+        })
+    }
+
+    fn untagged_of(&self, name: &str, found: FoundUntagged) -> Untagged {
+        let FoundUntagged { manifest: NamedManifest { digest, media_type, size }, since, subject, held_by } = found;
+        // The rows of these are removed, and they still hold it.
+        let marked = || {
+            let index = self.leaving.indexes_of(name, &digest).into_iter().next();
+            index.or_else(|| subject.filter(|subject| self.leaving.has(name, subject)))
         };
-        self.with(name, find).unwrap_or_default()
+        let (held_by, since) = (held_by.or_else(marked), self.with_last_touch(name, &digest, since));
+        Untagged { repo: name.to_string(), digest, media_type, size, since, held_by }
     }
 
     /// Returns the first manifests after `last` in order whose subject is a digest, at most `most` and at most `MAX_PAGE`.
@@ -255,55 +262,67 @@ impl ManifestTable {
         last: &str,
         (most, most_bytes): (usize, u64),
     ) -> Page<Referrer> {
-        let page = |repo: &mut Repository| {
-            let mut bytes = 0_u64;
-            let mut wanted = repo
-                .referrers_after(subject, last)
-                .filter(|(_, facts)| artifact_type.map_or(true, |wanted| facts.artifact_type.as_deref() == Some(wanted)))
-                .peekable();
-            let mut items = Vec::new();
-            while let Some((digest, facts)) = wanted.next_if(|(_, facts)| {
-                let has_room = items.is_empty() || bytes.saturating_add(facts.size) <= most_bytes;
-                items.len() < most.min(MAX_PAGE) && has_room
-            }) {
-                bytes = bytes.saturating_add(facts.size);
-                items.push(Referrer::of(digest, facts));
-            }
-            Page { more: wanted.peek().is_some(), items }
-        };
-        self.with(repo, page).unwrap_or(Page { items: Vec::new(), more: false })
+        self.rows.read(|rows| {
+            let (mut items, mut bytes, mut more) = (Vec::new(), 0_u64, false);
+            lookups::referrers(rows, (repo, subject, last), |manifest, its_type, _| {
+                let is_wanted = artifact_type.map_or(true, |wanted| its_type.as_deref() == Some(wanted));
+                if !is_wanted || self.is_hidden(repo, &manifest.digest) {
+                    return true;
+                }
+                let has_room = items.is_empty() || bytes.saturating_add(manifest.size) <= most_bytes;
+                more = items.len() >= most.min(MAX_PAGE) || !has_room;
+                if !more {
+                    bytes = bytes.saturating_add(manifest.size);
+                    items.push(Referrer::of(manifest, its_type));
+                }
+                !more
+            })?;
+            Ok(Page { items, more })
+        })
     }
 
     /// Returns the digests of the wanted manifests whose subject is a digest. Those that were pushed, or asked for by their digest, last
     /// come first.
+    ///
+    /// # Cost
+    ///
+    /// Looks at each manifest with this subject.
     pub(crate) fn newest_referrers(&self, repo: &str, subject: &str, wanted: &NewestReferrers<'_>) -> Page<String> {
-        let find = |repo: &mut Repository| {
-            let NewestReferrers { artifact_type, most_bytes, .. } = *wanted;
-            let is_wanted = |facts: &Facts| facts.artifact_type.as_deref() == Some(artifact_type) && facts.size <= most_bytes;
-            let all = repo.referrers_after(subject, "").filter(|(_, facts)| is_wanted(facts));
-            let mut found: Vec<(u64, &String)> =
-                all.filter_map(|(digest, _)| Some((repo.manifest(digest)?.since, digest))).collect();
-            found.sort_unstable_by(|one, other| other.cmp(one));
-            Page::of(found.into_iter().map(|(_, digest)| digest.clone()), wanted.most)
-        };
-        self.with(repo, find).unwrap_or(Page { items: Vec::new(), more: false })
+        let NewestReferrers { artifact_type, most, most_bytes } = *wanted;
+        let mut found = self.rows.read(|rows| {
+            let mut found: Vec<(u64, String)> = Vec::new();
+            lookups::referrers(rows, (repo, subject, ""), |NamedManifest { digest, size, .. }, its_type, since| {
+                let is_wanted = its_type.as_deref() == Some(artifact_type) && size <= most_bytes;
+                if is_wanted && !self.is_hidden(repo, &digest) {
+                    found.push((self.with_last_touch(repo, &digest, since), digest));
+                }
+                true
+            })?;
+            Ok(found)
+        });
+        found.sort_unstable_by(|one, other| other.cmp(one));
+        Page::of(found.into_iter().map(|(_, digest)| digest), most)
     }
 
     /// Returns what a repository has, with at most `most` tags, and at most `most_referrers` referrers of each.
     pub(crate) fn overview(&self, repo: &str, most: usize, most_referrers: usize) -> Overview {
-        let overview = |repo: &mut Repository| {
-            let mut visible = repo.tags.iter().filter_map(|(name, tag)| Some((name, repo.named(&tag.digest)?)));
-            let tags = visible.by_ref().take(most).map(|(name, named)| repo.tag_overview(name, named, most_referrers)).collect();
-            let more = visible.next().is_some();
-            Overview { manifests: repo.manifests.values().filter(|manifest| !manifest.is_leaving).count(), tags, more }
+        let manifests = self.rows.read(|rows| Ok(self.count_visible(repo, lookups::counts(rows, repo)?)));
+        let Page { items, more } = match self.tag_rows(repo, "", "", most) {
+            Some(page) => page,
+            None => return Overview::default(),
         };
-        self.with(repo, overview).unwrap_or_default()
+        let overview = |TagRow { name, manifest, .. }: TagRow| {
+            let referrers = self.referrers(repo, &manifest.digest, None, "", (most_referrers, u64::MAX));
+            TagOverview { name, manifest, referrers }
+        };
+        Overview { manifests: manifests as usize, tags: items.into_iter().map(overview).collect(), more }
     }
 }
 
 #[cfg(test)]
 mod tests {
     use super::*;
+    use crate::metadata::document::Facts;
 
     #[test]
     fn pages_follow_one_another() {
@@ -363,7 +382,7 @@ mod tests {
         {
             table.put("acme/web", digest, facts, None, 1);
         }
-        let digests = |but| table.images_but("acme/web", but).into_iter().map(|named| named.digest).collect::<String>();
+        let digests = |but| table.images_but("acme/web", but, 9).items.into_iter().map(|named| named.digest).collect::<String>();
         assert_eq!((digests("c"), digests("a")), ("ab".to_string(), "b".to_string()));
     }
 

@@ -1,287 +1,318 @@
-//! The data of the manifests that the store does not have: their tags, media types, and which of them name others.
+//! The data of the manifests that the store does not have: their tags, media types, and which of them name others. They are rows of the
+//! database, or of one in memory if there is no folder, and each look reads them there.
 //!
-//! A manifest is added here after the store accepted it. It is marked before the store is asked to delete it. A marked
-//! manifest and its tags are hidden. So a visible tag names a manifest that the store has, unless the manifest was marked
-//! after the look-up. No lock is held during a call to the store or the database.
+//! This process has in addition what the rows do not say: which manifests are being pushed or deleted, the last uses that are not recorded,
+//! and the totals of each tenant. The totals include the pushes in progress, so that these exceed no bound together.
 //!
-//! The totals of each tenant are kept here. They include the pushes in progress, so that these exceed no bound together.
-use crate::metadata::bounds::{Bounds, Excess, Totals};
+//! A manifest is added after the store accepted it. It is marked before the store is asked to delete it. A marked manifest and its tags are
+//! hidden. So a visible tag names a manifest that the store has, unless the manifest was marked after the look-up.
+use crate::database::change::{Change, Done};
+use crate::database::lookups;
+use crate::database::readers::Readers;
+use crate::database::statements::{self, Outcome, UploadChanges};
+use crate::events::event::Effect;
+use crate::metadata::bounds::Totals;
 use crate::metadata::document::Facts;
+use crate::metadata::leaving_manifests::LeavingManifests;
 use crate::metadata::names::tenant_of;
-use crate::metadata::repository::{Kept, NamedManifest, Removal, Repository};
-use crate::metadata::tag::{ExpiredTag, RemovedTag, Tag, TagTimes};
+use crate::metadata::pushes::Pushes;
+use crate::metadata::recent_uses::RecentUses;
+use crate::metadata::repository::{Kept, NamedManifest, Removal};
+use crate::metadata::reserved_pushes::Tenant;
+use crate::metadata::tag::{ExpiredTag, Pull, TagTimes};
 use crate::operation::locks::guard_of;
-use std::collections::{BTreeMap, HashMap};
-use std::sync::{Arc, Mutex, RwLock};
+use std::collections::HashMap;
+use std::sync::{Arc, Mutex};
 
 /// The time after which a request for a manifest is recorded in the database, in seconds.
-const RECORDED: u64 = 3600;
+const TOUCH_RECORDED: u64 = 3600;
 
-/// The tags and manifests of all repositories. Each repository has its own lock. The store bounds their number.
-#[derive(Default)]
+/// The time after which a further pull of a tag is recorded in the database, in seconds.
+const PULL_RECORDED: u64 = 60;
+
+/// The tags and manifests of all repositories.
 pub(crate) struct ManifestTable {
-    pub(super) repos: RwLock<BTreeMap<String, Arc<Mutex<Repository>>>>,
-    /// For each tenant, the sum of its repositories' totals. This lock is taken after that of a repository.
-    totals: Mutex<HashMap<String, Totals>>,
+    pub(super) rows: Arc<Readers>,
+    /// What counts against the bounds of each tenant.
+    pub(super) tenants: Mutex<HashMap<String, Arc<Mutex<Tenant>>>>,
+    pub(super) leaving: LeavingManifests,
+    /// When manifests were asked for by their digests.
+    touches: RecentUses,
+    /// When tags were pulled.
+    pulls: RecentUses,
 }
 
-/// Room for a manifest that is being pushed, and for its tag if there is one. Dropping this returns the room that was not used.
-pub(crate) struct ReservedPush<'t> {
-    table: &'t ManifestTable,
-    repo: &'t str,
-    digest: &'t str,
-    tag: Option<&'t str>,
+/// Returns the totals of one manifest.
+fn one(size: u64) -> Totals {
+    Totals { manifests: 1, manifest_bytes: size, tags: 0 }
+}
+
+impl Default for ManifestTable {
+    /// Makes a table with a database in memory.
+    fn default() -> ManifestTable {
+        ManifestTable::over(Arc::new(Readers::of_memory()))
+    }
 }
 
 impl ManifestTable {
-    /// Calls `look` with a repository. Returns `None` if the repository has never had a manifest.
-    pub(super) fn with<T>(&self, repo: &str, look: impl FnOnce(&mut Repository) -> T) -> Option<T> {
-        let found = guard_of(self.repos.read()).get(repo)?.clone();
-        Some(self.counted(repo, &found, look))
+    /// Makes the table over a database.
+    pub(crate) fn over(rows: Arc<Readers>) -> ManifestTable {
+        let counted =
+            rows.read(|rows| lookups::repositories(rows, ("", ""), "", usize::MAX, |repo, totals| Some((repo, totals))));
+        let mut stored: HashMap<String, Totals> = HashMap::new();
+        for (repo, totals) in counted.items {
+            let sum = stored.entry(tenant_of(&repo).to_string()).or_default();
+            *sum = *sum + totals;
+        }
+        let tenant = |(name, stored)| (name, Arc::new(Mutex::new(Tenant::of(stored))));
+        ManifestTable {
+            rows,
+            tenants: Mutex::new(stored.into_iter().map(tenant).collect()),
+            leaving: LeavingManifests::default(),
+            touches: RecentUses::new(TOUCH_RECORDED),
+            pulls: RecentUses::new(PULL_RECORDED),
+        }
     }
 
-    /// Returns a repository, which is made if it is not there.
-    fn made(&self, repo: &str) -> Arc<Mutex<Repository>> {
-        guard_of(self.repos.write()).entry(repo.to_string()).or_default().clone()
-    }
-
-    /// Calls `change` with a repository, and adds the change of its totals to those of its tenant.
-    fn counted<T>(&self, repo: &str, found: &Mutex<Repository>, change: impl FnOnce(&mut Repository) -> T) -> T {
-        let mut found = guard_of(found.lock());
-        let before = found.totals();
-        let result = change(&mut found);
-        let after = found.totals();
-        if before != after {
-            let mut totals = guard_of(self.totals.lock());
-            let held = totals.entry(tenant_of(repo).to_string()).or_default();
-            *held = *held + after - before;
+    /// Calls `change` with the tenant of a repository. One that has nothing is forgotten: clients choose names.
+    pub(super) fn with_tenant<T>(&self, repo: &str, change: impl FnOnce(&mut Tenant) -> T) -> T {
+        let name = tenant_of(repo);
+        let tenant = guard_of(self.tenants.lock()).entry(name.to_string()).or_default().clone();
+        let (result, is_empty) = {
+            let mut tenant = guard_of(tenant.lock());
+            (change(&mut tenant), tenant.is_empty())
+        };
+        drop(tenant);
+        if is_empty {
+            let mut tenants = guard_of(self.tenants.lock());
+            let is_unused = |tenant: &Arc<Mutex<Tenant>>| Arc::strong_count(tenant) == 1 && guard_of(tenant.lock()).is_empty();
+            if tenants.get(name).map_or(false, is_unused) {
+                tenants.remove(name);
+            }
         }
         result
     }
 
-    /// Returns the totals of a tenant's manifests and tags, with those that are being pushed.
-    pub(crate) fn totals(&self, tenant: &str) -> Totals {
-        guard_of(self.totals.lock()).get(tenant).copied().unwrap_or_default()
+    /// Makes a change in a database in memory.
+    pub(super) fn make(&self, change: &Change, now: u64) -> Done {
+        let outcome = self.rows.write(|rows| statements::make(rows, change, now, &mut UploadChanges::default()));
+        self.made(change, outcome, now)
     }
 
-    /// Checks that a repository's tenant may have a manifest whose content is not read yet. `len` is its length if it is known.
-    /// If the repository may have the manifest already, only its tag is checked.
-    ///
-    /// # Errors
-    ///
-    /// Fails with the bound that would be exceeded.
-    pub(crate) fn check_push(&self, repo: &str, reference: &str, len: Option<u64>, bounds: &Bounds) -> Result<(), Excess> {
-        let added = self.with(repo, |repo| repo.least_added(reference, len));
-        let added = added.unwrap_or_else(|| Repository::default().least_added(reference, len));
-        bounds.check(self.totals(tenant_of(repo)), added)
-    }
-
-    /// Reserves room for a manifest of `size` bytes, and for its tag if it is pushed under one. A manifest or a tag that the
-    /// repository has needs no room.
-    ///
-    /// # Errors
-    ///
-    /// Fails with the bound of the repository's tenant that would be exceeded.
-    pub(crate) fn reserve<'t>(
-        &'t self,
-        repo: &'t str,
-        (digest, size): (&'t str, u64),
-        tag: Option<&'t str>,
-        bounds: &Bounds,
-    ) -> Result<ReservedPush<'t>, Excess> {
-        let begun = self.begin_push(repo, (digest, size), tag, bounds);
-        if begun.is_err() {
-            self.forget_empty(repo);
+    /// Notes a change that the rows have from this time on, and returns what it did.
+    pub(crate) fn made(&self, change: &Change, outcome: Outcome, now: u64) -> Done {
+        let Outcome { effect, removed, before, after } = outcome;
+        match change {
+            Change::PutManifest { repo, digest, tag, .. } => {
+                self.count(repo, before + self.unmark(repo, digest), after, |pushes| {
+                    pushes.set_manifest(digest, true);
+                    tag.iter().for_each(|tag| pushes.set_tag(tag, true));
+                });
+                tag.iter().for_each(|tag| self.pulls.begin_anew(repo, tag, now));
+            }
+            Change::RestoreManifest { repo, digest, tags, .. } => {
+                self.count(repo, before + self.unmark(repo, digest), after, |pushes| {
+                    pushes.set_manifest(digest, true);
+                    tags.iter().for_each(|tag| pushes.set_tag(&tag.name, true));
+                });
+            }
+            Change::RemoveTag { repo, tag } => {
+                self.count(repo, before, after, |pushes| pushes.set_tag(tag, false));
+                return Done::Removed(if effect == Effect::Made { vec![tag.clone()] } else { Vec::new() });
+            }
+            Change::ExpireTags { repo, .. } => {
+                let names = if let Effect::Tags(names) = effect { names } else { Vec::new() };
+                self.count(repo, before, after, |pushes| names.iter().for_each(|tag| pushes.set_tag(tag, false)));
+                return Done::Removed(names);
+            }
+            Change::RemoveManifest { repo, digest } => {
+                let was_there = before.manifests > after.manifests;
+                let held = if was_there { self.leaving.set_removed(repo, digest) } else { None };
+                self.count(repo, before, after + held.map_or(Totals::default(), one), |pushes| {
+                    if was_there {
+                        pushes.set_manifest(digest, held.is_some());
+                    }
+                    removed.iter().for_each(|tag| pushes.set_tag(&tag.name, false));
+                });
+                return Done::RemovedAll(removed);
+            }
+            Change::TouchManifest { repo, digest, time } => self.touches.end(repo, digest, *time),
+            Change::RecordPulls { pulls } => pulls.iter().for_each(|Pull { repo, tag, time }| self.pulls.end(repo, tag, *time)),
+            _ => {}
         }
-        begun.map(|()| ReservedPush { table: self, repo, digest, tag })
+        Done::Nothing
     }
 
-    /// Notes that a push begins, if it exceeds no bound. No other push of the tenant comes between the check and the note.
-    fn begin_push(&self, repo: &str, (digest, size): (&str, u64), tag: Option<&str>, bounds: &Bounds) -> Result<(), Excess> {
-        let found = self.made(repo);
-        let mut found = guard_of(found.lock());
-        let before = found.totals();
-        found.pushes.begin((digest, size), tag);
-        let added = found.totals() - before;
-        let mut totals = guard_of(self.totals.lock());
-        let held = totals.entry(tenant_of(repo).to_string()).or_default();
-        let checked = bounds.check(*held, added);
-        match checked {
-            Ok(()) => *held = *held + added,
-            Err(_) => found.pushes.end(digest, tag),
-        }
-        checked
+    /// Removes the mark of a manifest. Returns its totals if its row was removed.
+    fn unmark(&self, repo: &str, digest: &str) -> Totals {
+        let removed = self.leaving.unmark(repo, digest).filter(|marked| marked.is_removed);
+        removed.map_or(Totals::default(), |marked| one(marked.facts.size))
     }
 
-    /// Removes a repository that has nothing, unless another request uses it.
-    fn forget_empty(&self, repo: &str) {
-        let mut repos = guard_of(self.repos.write());
-        let is_unused = |found: &Arc<Mutex<Repository>>| Arc::strong_count(found) == 1 && guard_of(found.lock()).is_empty();
-        if repos.get(repo).map_or(false, is_unused) {
-            repos.remove(repo);
-        }
+    /// Adds the change of a repository's totals to those of its tenant, and notes it in the pushes in progress.
+    fn count(&self, repo: &str, before: Totals, after: Totals, note: impl FnOnce(&mut Pushes)) {
+        self.with_tenant(repo, |tenant| {
+            tenant.stored = tenant.stored + after - before;
+            tenant.pushes.get_mut(repo).map(note)
+        });
     }
 
     /// Returns the manifest with a digest.
     pub(crate) fn by_digest(&self, repo: &str, digest: &str) -> Option<NamedManifest> {
-        self.with(repo, |repo| repo.named(digest)).flatten()
+        let found = self.rows.read(|rows| lookups::by_digest(rows, repo, digest));
+        found.filter(|_| !self.leaving.has(repo, digest))
     }
 
     /// Returns the manifest with a tag.
     pub(crate) fn by_tag(&self, repo: &str, tag: &str) -> Option<NamedManifest> {
-        self.with(repo, |repo| repo.named(&repo.tags.get(tag)?.digest)).flatten()
+        let found = self.rows.read(|rows| lookups::by_tag(rows, repo, tag))?;
+        Some(found.manifest).filter(|named| !self.leaving.has(repo, &named.digest))
     }
 
     /// Returns the first tag of a manifest that `is_wanted` returns true for.
     pub(crate) fn find_tag_of(&self, repo: &str, digest: &str, is_wanted: impl Fn(&str) -> bool) -> Option<String> {
-        let find = |repo: &mut Repository| {
-            let mut tags = repo.tags.iter().filter(|(_, tag)| tag.digest == digest).map(|(name, _)| name);
-            tags.find(|tag| is_wanted(tag)).cloned()
-        };
-        self.with(repo, find).flatten()
+        self.rows.read(|rows| lookups::tags_of(rows, (repo, digest), 1, &is_wanted)).items.into_iter().next()
     }
 
     /// Adds a manifest that the store accepted, and its tag if it was put under one.
     pub(crate) fn put(&self, repo: &str, digest: &str, facts: Facts, tag: Option<&str>, now: u64) {
-        self.counted(repo, &self.made(repo), |repo| {
-            repo.put(digest, facts, now);
-            if let Some(tag) = tag {
-                repo.put_tag(tag, digest, now);
-            }
-        });
-    }
-
-    /// Adds a tag of a manifest that is here.
-    pub(crate) fn add_tag(&self, repo: &str, tag: &str, digest: &str, times: TagTimes) {
-        self.with(repo, |repo| repo.tags.insert(tag.to_string(), Tag::new(digest, times)));
+        let (repo, digest) = (repo.to_string(), digest.to_string());
+        self.make(&Change::PutManifest { repo, digest, facts, tag: tag.map(str::to_string) }, now);
     }
 
     /// Removes a tag. Returns whether it was there.
     pub(super) fn remove_tag(&self, repo: &str, tag: &str, now: u64) -> bool {
-        let remove = |repo: &mut Repository| {
-            let is_there = repo.tags.get(tag).map_or(false, |tag| repo.manifest(&tag.digest).is_some());
-            if is_there {
-                repo.remove_tag(tag, now);
-            }
-            is_there
-        };
-        self.with(repo, remove).unwrap_or(false)
-    }
-
-    /// Removes a tag, also if its manifest is marked. Returns it if it was there.
-    pub(crate) fn take_tag(&self, repo: &str, tag: String, now: u64) -> Option<String> {
-        let take = |repo: &mut Repository| {
-            let is_there = repo.tags.contains_key(&tag);
-            repo.remove_tag(&tag, now);
-            is_there
-        };
-        self.with(repo, take).filter(|is_there| *is_there).map(|_| tag)
-    }
-
-    /// Removes all tags of a manifest, and returns them.
-    pub(crate) fn take_tags_of(&self, repo: &str, digest: &str) -> Vec<RemovedTag> {
-        self.with(repo, |repo| repo.take_tags_of(digest)).unwrap_or_default()
+        let removed = self.by_tag(repo, tag).map(|_| {
+            let change = Change::RemoveTag { repo: repo.to_string(), tag: tag.to_string() };
+            self.make(&change, now)
+        });
+        removed.map_or(false, |done| done != Done::Removed(Vec::new()))
     }
 
     /// Removes tags, but for those that were pushed meanwhile, and returns the names of those that it removed.
     pub(crate) fn expire_tags(&self, repo: &str, tags: &[ExpiredTag], now: u64) -> Vec<String> {
-        let expire = |repo: &mut Repository| {
-            let removed = tags.iter().filter(|tag| repo.expire_tag(tag, now));
-            removed.map(|tag| tag.name.clone()).collect()
-        };
-        self.with(repo, expire).unwrap_or_default()
+        match self.make(&Change::ExpireTags { repo: repo.to_string(), tags: tags.to_vec() }, now) {
+            Done::Removed(names) => names,
+            Done::Nothing | Done::RemovedAll(_) => Vec::new(),
+        }
     }
 
-    /// Notes that a client pulled a tag. Returns whether the database is to be told.
-    pub(super) fn pull(&self, repo: &str, tag: &str, now: u64) -> bool {
-        self.with(repo, |repo| repo.tags.get_mut(tag).map_or(false, |tag| tag.pull(now))).unwrap_or(false)
+    /// Notes that a client pulled a tag. Returns the pulls that are to be recorded.
+    pub(super) fn pull(&self, repo: &str, tag: &str, now: u64) -> Vec<Pull> {
+        let recorded = || self.rows.read(|rows| lookups::tag_times(rows, repo, tag)).map(|times| times.pulled);
+        let due = self.pulls.note((repo, tag), now, recorded);
+        due.into_iter().map(|((repo, tag), time)| Pull { repo, tag, time }).collect()
     }
 
-    /// Returns the time of the last pull of a tag.
+    /// Returns the time of the last pull of a tag, if the database may not have it.
     pub(super) fn last_pull(&self, repo: &str, tag: &str) -> Option<u64> {
-        self.with(repo, |repo| repo.tags.get(tag).map(|tag| tag.times.pulled)).flatten()
+        self.pulls.time(repo, tag)
     }
 
-    /// Adds a manifest and its tags that were removed. A tag that names another manifest by now stays as it is.
-    pub(crate) fn restore(&self, repo: &str, digest: &str, facts: Facts, since: u64, tags: Vec<RemovedTag>) {
-        self.put(repo, digest, facts, None, since);
-        self.with(repo, |repo| {
-            for RemovedTag { name, times } in tags {
-                repo.tags.entry(name).or_insert_with(|| Tag::new(digest, times));
-            }
-        });
+    /// Returns the times of a tag with its last pull.
+    pub(super) fn with_last_pull(&self, repo: &str, tag: &str, times: TagTimes) -> TagTimes {
+        let pulled = self.pulls.time(repo, tag).filter(|pulled| *pulled >= times.pushed);
+        TagTimes { pulled: times.pulled.max(pulled.unwrap_or(0)), ..times }
+    }
+
+    /// Returns since when a manifest is held as it is, by the time that its row has.
+    pub(super) fn with_last_touch(&self, repo: &str, digest: &str, since: u64) -> u64 {
+        since.max(self.touches.time(repo, digest).unwrap_or(0))
     }
 
     /// Returns whether a manifest is known, marked or not.
     pub(crate) fn is_known(&self, repo: &str, digest: &str) -> bool {
-        self.with(repo, |repo| repo.manifests.contains_key(digest)).unwrap_or(false)
+        self.leaving.has(repo, digest) || self.rows.read(|rows| lookups::since(rows, repo, digest)).is_some()
     }
 
     /// Returns the indexes of a repository that list a manifest.
     pub(crate) fn indexes_of(&self, repo: &str, digest: &str) -> Vec<String> {
-        self.with(repo, |repo| repo.indexes_of(digest)).unwrap_or_default()
+        self.first_indexes_of(repo, digest, usize::MAX)
+    }
+
+    /// Returns the first indexes that list a manifest, marked or not, at most `most`.
+    fn first_indexes_of(&self, repo: &str, digest: &str, most: usize) -> Vec<String> {
+        let mut found = self.leaving.indexes_of(repo, digest);
+        found.extend(self.rows.read(|rows| lookups::indexes_of(rows, repo, digest, most)));
+        found.sort_unstable();
+        found.dedup();
+        found.truncate(most);
+        found
+    }
+
+    /// Returns what holds a manifest other than a tag: an index that lists it, or its subject.
+    pub(super) fn holder(&self, repo: &str, digest: &str) -> Option<String> {
+        let index = self.first_indexes_of(repo, digest, 1).into_iter().next();
+        index.or_else(|| {
+            let marked = self.leaving.get(repo, digest).and_then(|marked| marked.facts.subject);
+            let subject = marked.or_else(|| self.rows.read(|rows| lookups::subject(rows, repo, digest)));
+            subject.filter(|subject| self.is_known(repo, subject))
+        })
     }
 
     /// Returns how many of these manifests a repository does not have.
     pub(crate) fn count_missing(&self, repo: &str, digests: &[String]) -> usize {
-        let count = |repo: &mut Repository| digests.iter().filter(|digest| repo.manifest(digest).is_none()).count();
-        self.with(repo, count).unwrap_or(digests.len())
+        digests.iter().filter(|digest| self.by_digest(repo, digest).is_none()).count()
     }
 
     /// Returns the facts of a manifest, marked or not, and since when it is held as it is.
     pub(crate) fn any_facts(&self, repo: &str, digest: &str) -> Option<(Facts, u64)> {
-        let find = |repo: &mut Repository| repo.manifests.get(digest).map(|manifest| (manifest.facts.clone(), manifest.since));
-        self.with(repo, find).flatten()
+        let marked = self.leaving.get(repo, digest).map(|marked| (marked.facts, marked.since));
+        // A use ceases to be in memory after its row has it, so the row is read later.
+        let touched = self.touches.time(repo, digest).unwrap_or(0);
+        let (facts, since) = marked.or_else(|| self.rows.read(|rows| lookups::facts(rows, repo, digest)))?;
+        Some((facts, since.max(touched)))
     }
 
     /// Marks a manifest before it is deleted. Fails if it is not to be deleted on this condition.
     pub(super) fn begin_removal(&self, repo: &str, digest: &str, removal: Removal) -> Result<(), Kept> {
-        let begin = |repo: &mut Repository| {
-            repo.check_removal(digest, removal)?;
-            if let Some(manifest) = repo.manifests.get_mut(digest) {
-                manifest.is_leaving = true;
-            }
-            Ok(())
-        };
-        self.with(repo, begin).unwrap_or(Ok(()))
+        self.check_removal(repo, digest, removal)?;
+        self.hide(repo, digest);
+        Ok(())
     }
 
-    /// Removes the mark of a manifest.
+    /// Marks a manifest, if it is there.
+    pub(crate) fn hide(&self, repo: &str, digest: &str) {
+        if let Some((facts, since)) = self.any_facts(repo, digest) {
+            self.leaving.mark(repo, digest, facts, since);
+        }
+    }
+
+    /// Fails if a manifest is not to be deleted on a condition.
+    fn check_removal(&self, repo: &str, digest: &str, removal: Removal) -> Result<(), Kept> {
+        match removal {
+            Removal::Asked => {
+                self.first_indexes_of(repo, digest, 1).into_iter().next().map_or(Ok(()), |index| Err(Kept::ListedBy(index)))
+            }
+            Removal::AskedEvenIfListed => Ok(()),
+            Removal::UnheldSince(time) => {
+                let is_unheld = !self.leaving.has(repo, digest)
+                    && self.any_facts(repo, digest).map_or(false, |(_, since)| since <= time)
+                    && self.find_tag_of(repo, digest, |_| true).is_none()
+                    && self.holder(repo, digest).is_none();
+                is_unheld.then_some(()).ok_or(Kept::Held)
+            }
+        }
+    }
+
+    /// Removes the mark of a manifest that the store still has.
     pub(super) fn end_removal(&self, repo: &str, digest: &str) {
-        self.with(repo, |repo| {
-            if let Some(manifest) = repo.manifests.get_mut(digest) {
-                manifest.is_leaving = false;
-            }
-        });
+        let gone = self.unmark(repo, digest);
+        self.count(repo, gone, Totals::default(), |_| ());
     }
 
-    /// Removes a manifest that the store has deleted, and its tags.
-    pub(crate) fn remove_manifest(&self, repo: &str, digest: &str, now: u64) {
-        self.with(repo, |repo| repo.remove(digest, now));
+    /// Notes that the store has deleted a manifest. Its row was removed before, with its tags.
+    pub(super) fn finish_removal(&self, repo: &str, digest: &str) {
+        let gone = self.unmark(repo, digest);
+        self.count(repo, gone, Totals::default(), |pushes| pushes.set_manifest(digest, false));
     }
 
-    /// Notes that a client asked for a manifest by its digest, and so may be about to push something that holds it. Returns
-    /// whether the database is to be told: the time that it has is an hour old.
-    pub(super) fn touch(&self, repo: &str, digest: &str, now: u64) -> bool {
-        let touch = |repo: &mut Repository| {
-            repo.manifests.get_mut(digest).map_or(false, |manifest| {
-                manifest.since = now;
-                let is_old = now.saturating_sub(manifest.recorded) >= RECORDED;
-                if is_old {
-                    manifest.recorded = now;
-                }
-                is_old
-            })
-        };
-        self.with(repo, touch).unwrap_or(false)
-    }
-}
-
-impl Drop for ReservedPush<'_> {
-    fn drop(&mut self) {
-        let ReservedPush { table, repo, digest, tag } = *self;
-        table.with(repo, |repo| repo.pushes.end(digest, tag));
-        table.forget_empty(repo);
+    /// Notes that a client asked for a manifest by its digest, and so may be about to push something that holds it. Returns the changes that
+    /// are to be recorded.
+    pub(super) fn touch(&self, repo: &str, digest: &str, now: u64) -> Vec<Change> {
+        let recorded = || self.rows.read(|rows| lookups::since(rows, repo, digest));
+        let due = self.touches.note((repo, digest), now, recorded);
+        due.into_iter().map(|((repo, digest), time)| Change::TouchManifest { repo, digest, time }).collect()
     }
 }
 
@@ -289,6 +320,7 @@ impl Drop for ReservedPush<'_> {
 mod tests {
     use super::*;
     use crate::metadata::manifest_lists::Overview;
+    use crate::metadata::tag::RemovedTag;
 
     const TYPE: &str = "application/vnd.oci.image.manifest.v1+json";
 
@@ -301,8 +333,42 @@ mod tests {
     }
 
     impl ManifestTable {
-        fn add(&self, digest: &str, media_type: &str, tag: Option<&str>) {
+        pub(crate) fn add(&self, digest: &str, media_type: &str, tag: Option<&str>) {
             self.put("acme/web", digest, facts(media_type), tag, 1);
+        }
+
+        /// Adds a tag of a manifest that is here.
+        pub(crate) fn add_tag(&self, repo: &str, tag: &str, digest: &str, times: TagTimes) {
+            let facts = self.any_facts(repo, digest).unwrap().0;
+            self.restore(repo, digest, facts, 1, vec![RemovedTag { name: tag.to_string(), times }]);
+        }
+
+        /// Removes a tag, also if its manifest is marked. Returns it if it was there.
+        fn take_tag(&self, repo: &str, tag: String, now: u64) -> Option<String> {
+            match self.make(&Change::RemoveTag { repo: repo.to_string(), tag }, now) {
+                Done::Removed(names) => names.into_iter().next(),
+                done => panic!("{done:?}"),
+            }
+        }
+
+        /// Removes the row of a manifest and its tags, and returns these.
+        pub(crate) fn take_tags_of(&self, repo: &str, digest: &str, now: u64) -> Vec<RemovedTag> {
+            match self.make(&Change::RemoveManifest { repo: repo.to_string(), digest: digest.to_string() }, now) {
+                Done::RemovedAll(tags) => tags,
+                done => panic!("{done:?}"),
+            }
+        }
+
+        /// Adds a manifest and its tags that were removed.
+        pub(crate) fn restore(&self, repo: &str, digest: &str, facts: Facts, since: u64, tags: Vec<RemovedTag>) {
+            let (repo, digest) = (repo.to_string(), digest.to_string());
+            self.make(&Change::RestoreManifest { repo, digest, facts, since, tags }, since);
+        }
+
+        /// Removes a manifest that the store has deleted, and its tags.
+        pub(crate) fn remove_manifest(&self, repo: &str, digest: &str, now: u64) {
+            self.take_tags_of(repo, digest, now);
+            self.finish_removal(repo, digest);
         }
     }
 
@@ -334,7 +400,7 @@ mod tests {
         table.begin_removal("acme/web", "sha256:a", Removal::Asked).unwrap();
         assert_eq!(table.take_tag("acme/web", "v3".to_string(), 2).as_deref(), Some("v3"));
         assert_eq!(table.take_tag("acme/web", "v3".to_string(), 2), None);
-        let removed = table.take_tags_of("acme/web", "sha256:a");
+        let removed = table.take_tags_of("acme/web", "sha256:a", 2);
         assert_eq!(removed, ["v1", "v2"].map(removed_tag));
         assert!(table.is_known("acme/web", "sha256:a") && !table.is_known("acme/web", "sha256:b"));
         table.add("sha256:b", TYPE, Some("v2"));
@@ -357,7 +423,12 @@ mod tests {
         put("signature", Some("index"), &[], 3);
         let index = table.any_facts("acme/web", "index").unwrap().0;
         let held = || -> Vec<(String, u64, Option<String>)> {
-            table.untagged("acme/web").into_iter().map(|one| (one.digest, one.since, one.held_by)).collect()
+            table
+                .untagged(("acme/web", ""), 9, |_| true)
+                .items
+                .into_iter()
+                .map(|one| (one.digest, one.since, one.held_by))
+                .collect()
         };
         let expected = |rows: &[(&str, u64, Option<&str>)]| -> Vec<(String, u64, Option<String>)> {
             rows.iter().map(|(digest, since, by)| (digest.to_string(), *since, by.map(str::to_string))).collect()
@@ -379,7 +450,7 @@ mod tests {
         assert_eq!(held(), expected(&[by_index, by_subject]));
         table.remove_manifest("acme/web", "index", 8);
         assert_eq!(held(), expected(&[("image", 8, None), ("signature", 8, None)]));
-        assert!(!table.touch("acme/web", "image", 9));
+        assert!(table.touch("acme/web", "image", 9).is_empty());
         assert_eq!(remove("image", Removal::UnheldSince(8)), Err(Kept::Held));
         assert_eq!(remove("signature", Removal::UnheldSince(8)), Ok(()));
         assert_eq!(remove("image", Removal::Asked), Ok(()));
@@ -389,10 +460,18 @@ mod tests {
     fn a_request_for_a_manifest_is_recorded_once_in_an_hour() {
         let table = ManifestTable::default();
         table.add("sha256:a", TYPE, None);
-        let recorded: Vec<u64> = (0..4 * RECORDED).step_by(600).filter(|now| table.touch("acme/web", "sha256:a", *now)).collect();
-        assert_eq!(recorded, [RECORDED + 600, 2 * RECORDED + 600, 3 * RECORDED + 600]);
-        assert_eq!(table.any_facts("acme/web", "sha256:a").unwrap().1, 4 * RECORDED - 600);
-        assert!(!table.touch("acme/web", "sha256:b", 9 * RECORDED) && !table.touch("acme/none", "sha256:a", 9 * RECORDED));
+        let is_due = |repo: &str, digest: &str, now| !table.touch(repo, digest, now).is_empty();
+        let times = (0..4 * TOUCH_RECORDED).step_by(600);
+        let recorded: Vec<u64> = times.filter(|now| is_due("acme/web", "sha256:a", *now)).collect();
+        assert_eq!(recorded, [TOUCH_RECORDED + 600, 2 * TOUCH_RECORDED + 600, 3 * TOUCH_RECORDED + 600]);
+        assert_eq!(table.any_facts("acme/web", "sha256:a").unwrap().1, 4 * TOUCH_RECORDED - 600);
+        assert!(!is_due("acme/web", "sha256:b", 9 * TOUCH_RECORDED) && !is_due("acme/none", "sha256:a", 9 * TOUCH_RECORDED));
+        // A touch that is recorded stays with the row.
+        let time = 4 * TOUCH_RECORDED + 600;
+        let change = table.touch("acme/web", "sha256:a", time).pop().unwrap();
+        table.make(&change, 5 * TOUCH_RECORDED);
+        assert_eq!(table.touches.time("acme/web", "sha256:a"), None);
+        assert_eq!(table.any_facts("acme/web", "sha256:a").unwrap().1, time);
     }
 
     #[test]
@@ -417,93 +496,5 @@ mod tests {
         assert_eq!(table.page("acme/web", "", 9), None);
         table.end_removal("acme/web", "sha256:b");
         assert_eq!(table.page("acme/web", "", 9).unwrap().items, ["v1", "v2"]);
-    }
-
-    fn totals(manifests: u64, manifest_bytes: u64, tags: u64) -> Totals {
-        Totals { manifests, manifest_bytes, tags }
-    }
-
-    fn of_size(size: u64) -> Facts {
-        Facts { size, ..facts(TYPE) }
-    }
-
-    #[test]
-    fn totals_are_of_what_a_tenant_has() {
-        let table = ManifestTable::default();
-        let acme = || table.totals("acme");
-        table.put("acme/web", "sha256:a", of_size(10), Some("v1"), 1);
-        table.put("acme/web", "sha256:a", of_size(10), Some("v2"), 1);
-        table.put("acme/api", "sha256:a", of_size(10), None, 1);
-        table.put("acmes/web", "sha256:a", of_size(1), None, 1);
-        assert_eq!((acme(), table.totals("acmes"), table.totals("none")), (totals(2, 20, 2), totals(1, 1, 0), totals(0, 0, 0)));
-        table.put("acme/web", "sha256:b", of_size(5), Some("v2"), 1);
-        assert_eq!(acme(), totals(3, 25, 2));
-        table.add_tag("acme/web", "v3", "sha256:b", TagTimes::default());
-        assert!(table.remove_tag("acme/web", "v1", 2));
-        assert_eq!(acme(), totals(3, 25, 2));
-        // A marked manifest counts until the store has deleted it, and so do its tags.
-        table.begin_removal("acme/web", "sha256:b", Removal::Asked).unwrap();
-        assert_eq!(acme(), totals(3, 25, 2));
-        let removed = table.take_tags_of("acme/web", "sha256:b");
-        assert_eq!(acme(), totals(3, 25, 0));
-        table.restore("acme/web", "sha256:b", of_size(5), 1, removed);
-        assert_eq!(acme(), totals(3, 25, 2));
-        table.remove_manifest("acme/web", "sha256:b", 2);
-        table.remove_manifest("acme/web", "sha256:a", 2);
-        table.remove_manifest("acme/api", "sha256:a", 2);
-        assert_eq!(acme(), totals(0, 0, 0));
-    }
-
-    #[test]
-    fn pushes_at_the_same_time_exceed_no_bound_together() {
-        let table = ManifestTable::default();
-        let bounds = Bounds { manifests: Some(2), manifest_bytes: Some(25), tags: Some(1) };
-        let first = table.reserve("acme/web", ("sha256:a", 10), Some("v1"), &bounds).ok().unwrap();
-        assert_eq!(table.totals("acme"), totals(1, 10, 1));
-        let excess = |repo, manifest, tag| table.reserve(repo, manifest, tag, &bounds).err();
-        assert_eq!(excess("acme/api", ("sha256:a", 16), None), Some(Excess::ManifestBytes { used: 10, added: 16, most: 25 }));
-        assert_eq!(excess("acme/api", ("sha256:a", 10), Some("v1")), Some(Excess::Tags { most: 1 }));
-        assert_eq!(excess("other/api", ("sha256:a", 25), Some("v1")), None);
-        // Pushes of the same manifest and of the same tag need room once.
-        let again = table.reserve("acme/web", ("sha256:a", 10), Some("v1"), &bounds).ok().unwrap();
-        let second = table.reserve("acme/web", ("sha256:b", 10), Some("v1"), &bounds).ok().unwrap();
-        assert_eq!(excess("acme/web", ("sha256:c", 1), None), Some(Excess::Manifests { most: 2 }));
-        table.put("acme/web", "sha256:a", of_size(10), Some("v1"), 1);
-        assert_eq!(table.totals("acme"), totals(2, 20, 1));
-        drop(first);
-        // The place of a tag that is deleted meanwhile stays with the pushes under it.
-        assert!(table.remove_tag("acme/web", "v1", 2));
-        assert_eq!(excess("acme/web", ("sha256:a", 10), Some("v2")), Some(Excess::Tags { most: 1 }));
-        drop((again, second));
-        assert_eq!(table.totals("acme"), totals(1, 10, 0));
-        assert_eq!(excess("acme/web", ("sha256:b", 15), Some("v2")), None);
-    }
-
-    #[test]
-    fn a_push_that_fails_leaves_nothing() {
-        let table = ManifestTable::default();
-        let none = Bounds { manifests: Some(0), ..Bounds::default() };
-        assert!(table.reserve("acme/web", ("sha256:a", 10), Some("v1"), &none).is_err());
-        drop(table.reserve("acme/api", ("sha256:a", 10), Some("v1"), &Bounds::default()));
-        assert!(table.names().is_empty());
-        assert_eq!(table.totals("acme"), totals(0, 0, 0));
-    }
-
-    #[test]
-    fn a_push_is_checked_before_its_content_is_read() {
-        let table = ManifestTable::default();
-        table.put("acme/web", "sha256:a", of_size(10), Some("v1"), 1);
-        let check = |reference, len, bounds: &Bounds| table.check_push("acme/web", reference, len, bounds).is_ok();
-        let manifests = Bounds { manifests: Some(1), ..Bounds::default() };
-        assert!(!check("v1", Some(9), &manifests) && !check("sha256:b", Some(10), &manifests));
-        // The content may be the manifest that is there.
-        assert!(check("v2", Some(10), &manifests) && check("v2", None, &manifests) && check("sha256:a", Some(10), &manifests));
-        let bytes = Bounds { manifest_bytes: Some(20), ..Bounds::default() };
-        assert!(check("v2", Some(9), &bytes) && !check("v2", Some(11), &bytes) && !check("sha256:b", Some(11), &bytes));
-        let of_tags = Bounds { tags: Some(1), ..Bounds::default() };
-        assert!(check("v1", Some(9), &of_tags) && !check("v2", Some(10), &of_tags) && check("sha256:b", Some(9), &of_tags));
-        assert!(table.check_push("acme/api", "v1", Some(10), &of_tags).is_err());
-        let _room = table.reserve("acme/web", ("sha256:b", 9), Some("v2"), &Bounds::default());
-        assert!(check("sha256:b", Some(9), &manifests) && check("v2", Some(9), &Bounds { tags: Some(2), ..manifests }));
     }
 }

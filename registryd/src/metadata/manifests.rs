@@ -1,5 +1,4 @@
-//! The tags and facts of the manifests that the store has. They are in this process, and in the database if there is one. A
-//! change is durable before it is visible.
+//! The tags and facts of the manifests that the store has. With a database a change is durable before it is visible.
 use crate::database::change::{Change, Done};
 use crate::database::writer::{WriteFailure, Writer};
 use crate::events::event::{Effect, Report};
@@ -13,7 +12,7 @@ use crate::metadata::tag::{ExpiredTag, Pull, RemovedTag};
 use std::ops::Deref;
 use std::sync::Arc;
 
-/// The tags, and the writer of the database if there is one. What is read is in this process.
+/// The tags, and the writer of the database if there is one.
 pub(crate) struct Manifests {
     table: Arc<ManifestTable>,
     writer: Option<Arc<Writer>>,
@@ -75,8 +74,14 @@ impl Manifests {
 
     /// Notes that a client asked for a manifest by its digest.
     pub(crate) fn touch(&self, repo: &str, digest: &str) {
-        if let (true, Some(writer)) = (self.table.touch(repo, digest, now()), &self.writer) {
-            writer.note(Change::TouchManifest { repo: repo.to_string(), digest: digest.to_string() });
+        self.table.touch(repo, digest, now()).into_iter().for_each(|change| self.note(change));
+    }
+
+    /// Makes a change that no request waits for.
+    fn note(&self, change: Change) {
+        match &self.writer {
+            Some(writer) => writer.note(change),
+            None => drop(self.table.make(&change, now())),
         }
     }
 
@@ -107,22 +112,17 @@ impl Manifests {
 
     /// Notes that a client pulled a tag.
     pub(crate) fn pull(&self, repo: &str, tag: &str) {
-        if self.table.pull(repo, tag, now()) && self.writer.is_some() {
-            self.pulls.add(repo, tag);
-        }
+        self.table.pull(repo, tag, now()).into_iter().for_each(|pull| self.pulls.add(pull));
     }
 
     /// Records pulls of at most `most` tags. Returns whether more wait.
     pub(crate) fn record_pulls(&self, most: usize) -> bool {
-        let tags = self.pulls.take(most);
-        let is_more = tags.len() == most;
-        let times = tags.into_iter().filter_map(|(repo, tag)| {
-            let time = self.table.last_pull(&repo, &tag)?;
-            Some(Pull { repo, tag, time })
-        });
-        let pulls: Vec<Pull> = times.collect();
-        if let Some(writer) = self.writer.as_ref().filter(|_| !pulls.is_empty()) {
-            writer.note(Change::RecordPulls { pulls });
+        let taken = self.pulls.take(most);
+        let is_more = taken.len() == most;
+        let last = |pull: Pull| Pull { time: self.table.last_pull(&pull.repo, &pull.tag).unwrap_or(0).max(pull.time), ..pull };
+        let pulls: Vec<Pull> = taken.into_iter().map(last).collect();
+        if !pulls.is_empty() {
+            self.note(Change::RecordPulls { pulls });
         }
         is_more
     }
@@ -184,14 +184,18 @@ impl Manifests {
     pub(crate) async fn finish_removal(&self, repo: &str, digest: &str, report: Option<Report>) -> Result<(), WriteFailure> {
         match (&self.writer, report) {
             (Some(writer), report) => {
-                self.table.remove_manifest(repo, digest, now());
+                self.table.finish_removal(repo, digest);
                 if let Some(report) = report {
                     writer.write_reported(Change::AddEvents, Some(report)).await?;
                 }
             }
             (None, report) => self.make(report, || {
-                let tags = self.table.take_tags_of(repo, digest).into_iter().map(|tag| tag.name).collect();
-                (self.table.remove_manifest(repo, digest, now()), Effect::Tags(tags))
+                let change = Change::RemoveManifest { repo: repo.to_string(), digest: digest.to_string() };
+                let tags = match self.table.make(&change, now()) {
+                    Done::RemovedAll(tags) => tags.into_iter().map(|tag| tag.name).collect(),
+                    Done::Nothing | Done::Removed(_) => Vec::new(),
+                };
+                (self.table.finish_removal(repo, digest), Effect::Tags(tags))
             }),
         }
         Ok(())

@@ -4,7 +4,8 @@ use crate::database::writer::{WriteFailure, Writer};
 use crate::metadata::limits::Limit;
 use crate::metadata::names::tenant_of;
 use crate::operation::locks::guard_of;
-use std::collections::{HashMap, HashSet};
+use std::collections::{BTreeMap, HashMap, HashSet};
+use std::ops::Bound;
 use std::sync::{Arc, Mutex};
 
 /// The repositories of the store, by tenant. The store bounds their number.
@@ -28,7 +29,7 @@ pub(crate) struct Repositories {
 /// The repositories of each tenant, each with the number of its last addition.
 #[derive(Default)]
 struct Table {
-    by_tenant: HashMap<String, HashMap<String, u64>>,
+    by_tenant: HashMap<String, BTreeMap<String, u64>>,
     /// The number of the last addition of any repository.
     last: u64,
 }
@@ -129,18 +130,17 @@ impl Repositories {
 
     /// Returns the number of repositories of a tenant.
     pub(crate) fn count(&self, tenant: &str) -> usize {
-        guard_of(self.table.lock()).by_tenant.get(tenant).map_or(0, HashMap::len)
+        guard_of(self.table.lock()).by_tenant.get(tenant).map_or(0, BTreeMap::len)
     }
 
     /// Returns the first repositories of a tenant after `last` in order, at most `most`, and whether more follow.
     pub(crate) fn page(&self, tenant: &str, last: &str, most: usize) -> (Vec<String>, bool) {
         let table = guard_of(self.table.lock());
-        let repos = table.by_tenant.get(tenant).into_iter().flat_map(HashMap::keys);
-        let mut names: Vec<String> = repos.filter(|repo| repo.as_str() > last).cloned().collect();
-        names.sort();
-        let more = names.len() > most;
-        names.truncate(most);
-        (names, more)
+        let after = (Bound::Excluded(last), Bound::Unbounded);
+        let mut names =
+            table.by_tenant.get(tenant).into_iter().flat_map(|repos| repos.range::<str, _>(after).map(|(name, _)| name));
+        let first = names.by_ref().take(most).cloned().collect();
+        (first, names.next().is_some())
     }
 
     /// Adds a repository after the store accepted a call that may have created it. With a database, it has to be recorded.

@@ -39,16 +39,11 @@ impl Line {
 }
 
 impl Registry {
-    /// Returns the names of a tenant's repositories that have manifests.
-    fn repositories_of(&self, tenant: &str) -> Vec<String> {
-        self.manifests.names().into_iter().filter(|repo| tenant_of(repo) == tenant).collect()
-    }
-
     /// Returns the contents of a tenant: a line for each manifest and for each blob that a reply named, and the last line.
     pub(crate) fn contents(self: Arc<Self>, tenant: String) -> HandlerResult {
         let (mut sender, body) = Body::channel();
         tokio::spawn(async move {
-            for repo in self.repositories_of(&tenant) {
+            for repo in self.manifests.names(&tenant, "").filter(|repo| tenant_of(repo) == tenant) {
                 let lines: String = self.manifests.images(&repo).into_iter().map(|image| Line::Image(image).text()).collect();
                 if !lines.is_empty() && sender.send_data(lines.into()).await.is_err() {
                     return;

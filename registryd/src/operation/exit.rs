@@ -30,7 +30,11 @@ pub(crate) struct Failure {
 
 /// Ends the program with status 1. `blobd` ends when its connections are closed, as after a kill.
 pub(crate) fn end_at_once(why: &str) -> ! {
-    let failure = Failure::new(why);
+    end_with(&Failure::new(why))
+}
+
+/// Ends the program after a failure.
+pub(crate) fn end_with(failure: &Failure) -> ! {
     tracing::error!("{failure}");
     std::process::exit(failure.status.into())
 }
@@ -47,7 +51,7 @@ impl Failure {
             (_, Some(_)) => (1, "start again"),
             (Some(5), _) => (1, "out of memory: give the store more, or lower --slots, --max-blob or the quotas"),
             (Some(6), _) => (6, "the folder of --data or a file in it cannot be used: see to its rights and its disk"),
-            (Some(7), _) => (7, "another process has the folder of --data: end that one"),
+            (Some(7), _) => (7, "another process has the folder of --data: end that one, or let it go on"),
             (Some(8), _) => (
                 8,
                 "the log in the folder of --data is damaged, or is no log of this version: restore a backup, or go on with \
@@ -83,6 +87,12 @@ impl Failure {
         Failure { status: TAKEN, text: "another process has the folder of --data: end that one".to_string() }
     }
 
+    /// Another process has taken the folder over.
+    pub(crate) fn of_lost_folder() -> Failure {
+        let text = "another process has taken over the folder of --data: nothing was acknowledged since".to_string();
+        Failure { status: TAKEN, text }
+    }
+
     /// Something that was on the disk is lost.
     pub(crate) fn of_loss(loss: &Loss) -> Failure {
         let advice = "restore what is missing from a backup, or accept the loss with --accept-loss";
@@ -99,6 +109,12 @@ impl Failure {
     pub(crate) fn of_log(error: &io::Error) -> Failure {
         let advice = "make room or replace the disk, and start again";
         Failure { status: NOT_WRITTEN, text: format!("the log cannot be synced: {error}: {advice}") }
+    }
+
+    /// The database could not be read, so that nobody can say which tags there are.
+    pub(crate) fn of_unread_database(why: &str) -> Failure {
+        let text = format!("the database cannot be read any more: {why}: see to its disk and to the memory, and start again");
+        Failure { status: NOT_WRITTEN, text }
     }
 
     /// A transaction of the database failed.

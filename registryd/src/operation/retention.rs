@@ -17,7 +17,7 @@ impl Registry {
         let rest = (time / 60).clamp(Duration::from_millis(100), Duration::from_secs(60));
         while !self.store.has_ended() {
             if self.has_room() {
-                for repo in self.manifests.names() {
+                for repo in self.manifests.names("", "") {
                     self.delete_unheld(&repo, now().saturating_sub(time.as_secs())).await;
                 }
                 self.unlink_loose(time).await;
@@ -28,8 +28,8 @@ impl Registry {
 
     /// Deletes the manifests of a repository that nothing has held since a time.
     async fn delete_unheld(&self, repo: &str, since: u64) {
-        let unheld = self.manifests.untagged(repo).into_iter().filter(|one| one.held_by.is_none() && one.since <= since);
-        for Untagged { digest, .. } in unheld {
+        let is_unheld = |one: &Untagged| one.held_by.is_none() && one.since <= since;
+        for Untagged { digest, .. } in self.manifests.untagged((repo, ""), usize::MAX, is_unheld).items {
             let _changing = match self.moves.begin_own(repo) {
                 Ok(changing) => changing,
                 Err(_) => return,

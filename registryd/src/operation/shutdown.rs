@@ -19,7 +19,7 @@ const END_TIME: Duration = Duration::from_secs(20);
 /// Waits until a change could not be made in the database, and returns why.
 async fn failed(database: &Option<(Arc<Writer>, WriterThread)>) -> Failure {
     match database {
-        Some((writer, _)) => Failure::of_database(&writer.failure().await),
+        Some((writer, _)) => writer.failure().await.into(),
         None => std::future::pending().await,
     }
 }
@@ -90,7 +90,7 @@ pub(crate) async fn serve(
         if let Some(folder) = synced {
             ended = watcher::keep_last_end(folder, writer.clone()).await;
         }
-        ended = ended.and(writer.end(thread).await.map_err(|why| Failure::of_database(&why)));
+        ended = ended.and(writer.end(thread).await.map_err(Failure::from));
     }
     registry.store.end(child).await.and(ended)?;
     if let Some(folder) = &registry.folder {

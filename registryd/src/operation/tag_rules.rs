@@ -63,7 +63,7 @@ impl Registry {
     /// Removes the tags that rules let go, in rounds over all repositories, until the store ends.
     pub(crate) async fn apply_rules(&self) {
         while let Some(retention) = self.retention.as_ref().filter(|_| !self.store.has_ended()) {
-            for repo in self.manifests.names() {
+            for repo in self.manifests.names("", "") {
                 self.apply_rules_to(retention, &repo).await;
             }
             sleep(retention.rest()).await;
@@ -113,7 +113,7 @@ impl Registry {
         let (mut sender, body) = Body::channel();
         tokio::spawn(async move {
             let (mut tags, mut leaving) = (0, 0);
-            for repo in self.manifests.names() {
+            for repo in self.manifests.names("", "") {
                 let preview = self.deciding(&rules, |deciding| self.manifests.preview(&repo, deciding));
                 tags += preview.tags;
                 leaving += preview.leaving.len();

@@ -1,7 +1,7 @@
 //! What a start finds to be lost although it was on the disk. With `--sync closes` and `each` no crash leaves such a state: a file
 //! was removed, or replaced by an older one or by that of another registry.
 use crate::database::marks::Marks;
-use crate::database::rows::{ManifestRow, TagRow};
+use crate::database::rows::{ManifestKey, TagRow};
 use crate::database::sqlite::FILE_NAME;
 use crate::folder::log_end::LogEnd;
 use crate::operation::exit::Failure;
@@ -86,8 +86,8 @@ impl Loss {
     }
 
     /// Returns the loss of manifests and their tags. The tags are named first.
-    pub(super) fn of_manifests(missing: &[ManifestRow], tags: &[TagRow]) -> Loss {
-        let lost: BTreeSet<(&str, &str)> = missing.iter().map(|row| (&*row.repo, &*row.digest)).collect();
+    pub(super) fn of_manifests(missing: &[ManifestKey], tags: &[TagRow]) -> Loss {
+        let lost: BTreeSet<(&str, &str)> = missing.iter().map(|(repo, digest)| (&**repo, &**digest)).collect();
         let tags = tags.iter().filter(|row| lost.contains(&(&*row.repo, &*row.digest)));
         let tags: BTreeSet<(&str, &str, &str)> = tags.map(|row| (&*row.repo, &*row.tag, &*row.digest)).collect();
         let tagged: BTreeSet<(&str, &str)> = tags.iter().map(|(repo, _, digest)| (*repo, *digest)).collect();
@@ -127,8 +127,6 @@ impl OnLoss {
 #[cfg(test)]
 mod tests {
     use super::*;
-    use crate::metadata::document::Facts;
-    use crate::metadata::tag::TagTimes;
 
     fn end(log: u64, file: u64, length: u64) -> LogEnd {
         LogEnd { log, file, length }
@@ -154,20 +152,8 @@ mod tests {
 
     #[test]
     fn the_first_lost_tags_and_manifests_are_named() {
-        let row = |digest: String| ManifestRow {
-            repo: "a/b".to_string(),
-            digest,
-            facts: Facts::default(),
-            is_complete: true,
-            since: 0,
-        };
-        let missing: Vec<ManifestRow> = (0..12).map(|number| row(format!("d{number:02}"))).collect();
-        let tag = |tag: &str, digest: &str| TagRow {
-            repo: "a/b".to_string(),
-            tag: tag.to_string(),
-            digest: digest.to_string(),
-            times: TagTimes::default(),
-        };
+        let missing: Vec<ManifestKey> = (0..12).map(|number| ("a/b".to_string(), format!("d{number:02}"))).collect();
+        let tag = |tag: &str, digest: &str| TagRow { repo: "a/b".to_string(), tag: tag.to_string(), digest: digest.to_string() };
         let tags = [tag("v2", "d01"), tag("v1", "d01"), tag("other", "kept")];
         let text = Loss::of_manifests(&missing, &tags).to_string();
         let expected = "12 manifests of registry.db with 2 tags: a/b:v1 (d01), a/b:v2 (d01), a/b@d00, a/b@d02, ";

@@ -5,7 +5,7 @@
 //! removed.
 use crate::auth::robots::RobotRow;
 use crate::database::change::Change;
-use crate::database::rows::{ManifestRow, Rows, UploadRow};
+use crate::database::rows::{IncompleteManifest, ManifestKey, Rows, UploadRow};
 use crate::database::sqlite::{Committed, Database};
 use crate::events::queue::EventRows;
 use crate::folder::log_end::LogEnd;
@@ -28,6 +28,9 @@ use std::path::PathBuf;
 
 /// The number of calls that are sent at once. Their replies fit into the shortest pipe, so `blobd` reads all of them.
 const BATCH: usize = 64;
+
+/// The number of manifests of the database that are compared with the store at once.
+const COMPARED: usize = 4096;
 
 /// The first and the greatest number of session numbers that are searched at once.
 const SEARCHED: (u32, u32) = (128, 4096);
@@ -79,22 +82,27 @@ struct Findings {
 pub(super) async fn recover(store: &Store, opened: Opened) -> Result<Recovered, Failure> {
     let on_loss = opened.on_loss();
     let Opened { folder, mut database, is_synced, is_full, counts_pulls, most_uploads, .. } = opened;
-    let (database, mut rows) = blocking(move || {
+    let (database, mut rows, incomplete) = blocking(move || {
+        // The reading then has all that another registry has committed before.
+        database.take()?;
         let rows = database.read()?;
-        Ok((database, rows))
+        clock::begin(database.latest_time()?);
+        let incomplete = database.incomplete_manifests()?;
+        Ok((database, rows, incomplete))
     })
     .await?;
-    clock::begin(database.marks().time.or_else(|| rows.manifests.iter().map(|row| row.since).max()));
-    let unavailable = |StoreUnavailable| Failure::new("the store did not reply while the registry started");
+    let unavailable = |StoreUnavailable| not_replied();
+    if is_full && !incomplete.is_empty() {
+        return Err(Failure::of_database("the disk is full, and facts of manifests are missing"));
+    }
     let mut findings = Findings::default();
     let pulls_since = pulls_since(&database, counts_pulls, &mut findings);
-    let missing = missing_manifests(store, &rows.manifests).await.map_err(unavailable)?;
+    let (database, missing) = missing_manifests(store, database).await?;
     if !missing.is_empty() {
-        on_loss.meet(&Loss::of_manifests(&missing, &rows.tags))?;
+        on_loss.meet(&Loss::of_manifests(&missing, &database.tags_of(&missing)?))?;
     }
-    findings.changes.extend(missing.iter().map(ManifestRow::removal));
-    drop_missing(&mut rows, &missing);
-    findings.changes.extend(complete(store, &mut rows.manifests).await.map_err(unavailable)?);
+    findings.changes.extend(missing.iter().map(removal));
+    findings.changes.extend(complete(store, incomplete).await.map_err(unavailable)?);
     if !is_full {
         rows.add_probes(store);
     }
@@ -119,7 +127,11 @@ pub(super) async fn recover(store: &Store, opened: Opened) -> Result<Recovered, 
         true => (database, known),
         false => blocking(move || correction.make(database, known)).await?,
     };
-    let manifests = table_of(&rows);
+    let (database, manifests) = table_of(database).await?;
+    if is_full {
+        // Their rows stay until the next start.
+        missing.iter().for_each(|(repo, digest)| manifests.hide(repo, digest));
+    }
     let Rows { repositories, loose_blobs, cached, robots, events, moves, .. } = rows;
     Ok(Recovered {
         database,
@@ -171,6 +183,7 @@ impl Correction {
         match database.commit(self.changes.iter(), &self.recorded, now()).map_err(failed)? {
             Committed::Made => {}
             Committed::NoRoom => return Err(Failure::of_database("the disk is full")),
+            Committed::Lost => return Err(Failure::of_lost_folder()),
         }
         // All changes up to now are on the disk.
         if let Some(folder) = &self.folder {
@@ -189,10 +202,8 @@ pub(crate) async fn blocking<T: Send + 'static>(
     done.unwrap_or_else(|_| Err(Failure::new("a bug in this program stopped a thread that uses the folder: start again")))
 }
 
-impl ManifestRow {
-    fn removal(&self) -> Change {
-        Change::RemoveManifest { repo: self.repo.clone(), digest: self.digest.clone() }
-    }
+fn removal((repo, digest): &ManifestKey) -> Change {
+    Change::RemoveManifest { repo: repo.clone(), digest: digest.clone() }
 }
 
 impl Rows {
@@ -206,25 +217,17 @@ impl Rows {
     }
 }
 
-/// Removes the rows of manifests that are missing, and of their tags.
-fn drop_missing(rows: &mut Rows, missing: &[ManifestRow]) {
-    let missing: HashSet<(&str, &str)> = missing.iter().map(|row| (&*row.repo, &*row.digest)).collect();
-    rows.manifests.retain(|row| !missing.contains(&(&*row.repo, &*row.digest)));
-    rows.tags.retain(|row| !missing.contains(&(&*row.repo, &*row.digest)));
-}
-
-/// Finds the facts of manifests that were put by a program which did not keep them, and returns the changes that record them.
-async fn complete(store: &Store, rows: &mut [ManifestRow]) -> Result<Vec<Change>, StoreUnavailable> {
+/// Finds the facts of manifests that were put by a program which did not keep them, and returns the changes that record them. Those that
+/// the store does not have are left out.
+async fn complete(store: &Store, rows: Vec<IncompleteManifest>) -> Result<Vec<Change>, StoreUnavailable> {
     let mut changes = Vec::new();
-    for row in rows.iter_mut().filter(|row| !row.is_complete) {
-        if let Ok(content) = store.get_manifest(&row.repo, &row.digest).await? {
-            let (media_type, size) = (row.facts.media_type.clone(), content.len() as u64);
-            row.facts = match document::read(&[content]) {
+    for IncompleteManifest { key: (repo, digest), media_type } in rows {
+        if let Ok(content) = store.get_manifest(&repo, &digest).await? {
+            let size = content.len() as u64;
+            let facts = match document::read(&[content]) {
                 Ok(document) => document.facts_of_stored(media_type, size),
                 Err(_) => Facts { media_type, size, ..Facts::default() },
             };
-            row.since = now();
-            let (repo, digest, facts) = (row.repo.clone(), row.digest.clone(), row.facts.clone());
             changes.push(Change::PutManifest { repo, digest, facts, tag: None });
         }
     }
@@ -234,28 +237,43 @@ async fn complete(store: &Store, rows: &mut [ManifestRow]) -> Result<Vec<Change>
     Ok(changes)
 }
 
-/// Returns the tags and facts of the rows.
-fn table_of(rows: &Rows) -> ManifestTable {
-    let table = ManifestTable::default();
-    for ManifestRow { repo, digest, facts, since, .. } in &rows.manifests {
-        table.put(repo, digest, facts.clone(), None, *since);
-    }
-    for row in &rows.tags {
-        table.add_tag(&row.repo, &row.tag, &row.digest, row.times);
-    }
-    table
+/// Returns the table over the rows of a database.
+async fn table_of(mut database: Database) -> Result<(Database, ManifestTable), Failure> {
+    blocking(move || {
+        let readers = database.readers()?;
+        Ok((database, ManifestTable::over(readers)))
+    })
+    .await
 }
 
-/// Returns the manifests of the database that the store does not have.
-async fn missing_manifests(store: &Store, rows: &[ManifestRow]) -> Result<Vec<ManifestRow>, StoreUnavailable> {
-    let command = Request::new(Command::StatManifest);
-    let requests: Vec<Request<'_>> =
-        rows.iter().map(|row| Request { repo: &row.repo, digest: &row.digest, ..command.clone() }).collect();
-    let answers = store.ask_each(&requests).await?;
-    let is_missing = |answer: &Result<u64, Refusal>| {
-        matches!(answer, Err(Refusal { reason: Reason::ManifestUnknown | Reason::NameUnknown, .. }))
-    };
-    Ok(rows.iter().zip(&answers).filter(|(_, answer)| is_missing(answer)).map(|(row, _)| row.clone()).collect())
+/// Returns the manifests of the database that the store does not have. They are compared some at a time.
+async fn missing_manifests(store: &Store, mut database: Database) -> Result<(Database, Vec<ManifestKey>), Failure> {
+    let (mut missing, mut last) = (Vec::new(), ManifestKey::default());
+    loop {
+        let (back, keys) = blocking(move || {
+            let keys = database.manifest_keys(&last, COMPARED)?;
+            Ok((database, keys))
+        })
+        .await?;
+        last = match keys.last() {
+            Some(key) => key.clone(),
+            None => return Ok((back, missing)),
+        };
+        database = back;
+        let command = Request::new(Command::StatManifest);
+        let requests: Vec<Request<'_>> = keys.iter().map(|(repo, digest)| Request { repo, digest, ..command.clone() }).collect();
+        let answers = store.ask_each(&requests).await.map_err(|StoreUnavailable| not_replied())?;
+        missing.extend(keys.iter().zip(&answers).filter(|(_, answer)| is_missing(answer)).map(|(key, _)| key.clone()));
+    }
+}
+
+/// Returns whether the store replied that it does not have a manifest.
+fn is_missing(answer: &Result<u64, Refusal>) -> bool {
+    matches!(answer, Err(Refusal { reason: Reason::ManifestUnknown | Reason::NameUnknown, .. }))
+}
+
+fn not_replied() -> Failure {
+    Failure::new("the store did not reply while the registry started")
 }
 
 /// Returns the repositories of each tenant of the store.

@@ -132,6 +132,8 @@ pub(crate) enum Reason {
     Memory,
     Busy,
     RepoInUse,
+    /// The bytes lie in a file that has others, or that cannot be read.
+    Unreadable,
     /// A status that this program does not know.
     Other(u32),
 }
@@ -159,6 +161,7 @@ impl Reason {
             17 => Reason::Memory,
             18 => Reason::Busy,
             19 => Reason::RepoInUse,
+            253 => Reason::Unreadable,
             other => Reason::Other(other),
         }
     }
