@@ -102,6 +102,13 @@ impl Blob {
         self.content.len()
     }
 
+    /// Returns the content.
+    pub fn content(&self) -> &Content
+        ensures { result.now ≡ self.now.1 }
+    {
+        &self.content
+    }
+
     /// Returns the content's bytes, if they are in memory.
     pub fn bytes(&self) -> Option<&[u8]>
         ensures value { IfSome result (λ b. b.now ≡ self.now.1) }

@@ -9,6 +9,8 @@ use Rattle.store_book.proofs.Sending.{content_send, content_sync}
 use Rattle.locked_book.proofs.Sending.{locked_book_send, desk_send}
 use Rattle.locked_book.specs.declared.names.Naming.{Ghosts}
 use Rattle.blob_digest.specs.contracts.blob.Blob as Blob
+use Rattle.store_api.specs.contracts.piece.Piece as Piece
+use Rattle.store_api.specs.contracts.piece.PieceBytes as PieceBytes
 use Rattle.store_api.specs.contracts.reply.Reply as Reply
 use Rattle.blob_store.specs.contracts.store.Store as Store
 use Rattle.blob_store.specs.contracts.workers.Job as Job
@@ -27,8 +29,14 @@ blob_send = search (content_send, sendable, crosses) depth 60 fits 20000
 pub blob_sync : IsSync Blob.the_row
 blob_sync = search (content_sync, sendable, crosses) depth 60 fits 20000
 
+piece_bytes_send : IsSend PieceBytes.the_row
+piece_bytes_send = search (blob_send, blob_sync, sendable, crosses) depth 60 fits 20000
+
+piece_send : IsSend Piece.the_row
+piece_send = search (piece_bytes_send, sendable, crosses) depth 60 fits 20000
+
 reply_send : IsSend Reply.the_row
-reply_send = search (blob_send, blob_sync, sendable, crosses) depth 60 fits 20000
+reply_send = search (piece_send, sendable, crosses) depth 60 fits 20000
 
 pub job_send : (S : RattleType) (names : Ghosts S.Denot) → IsSend S → IsSend (Job.the_row S names)
 job_send S names s = search (reply_send, desk_send, sendable, crosses) depth 60 fits 20000

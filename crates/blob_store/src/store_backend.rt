@@ -8,7 +8,7 @@ use locked_book::{Desk, Naming};
 use oci_manifest::Manifest;
 use std::alloc::Global;
 use std::sync::{Arc, Wait};
-use store_api::{Backend, Piece, Queries};
+use store_api::{Backend, Extent, Queries};
 use store_book::{Mount, SlotUse, Swept, Usage};
 
 /// A store with a worker's desk, on which rows are played. Each request is the store's call of its name. Contracts see
@@ -121,8 +121,8 @@ impl<'s, W: Wait, S: Naming> Backend for StoreBackend<'s, W, S> {
         lease.len()
     }
 
-    fn piece(lease: &Lease<'s, S>, start: u64, end: u64) -> Result<Piece, Refusal> {
-        Ok(Piece::new(lease.blob().clone()?, start, end))
+    fn extent(lease: &Lease<'s, S>, start: u64, end: u64) -> Result<Extent, Refusal> {
+        Ok(Extent::new(lease.blob().clone()?, start, end))
     }
 
     fn share(lease: Lease<'s, S>) -> Result<(Lease<'s, S>, Lease<'s, S>), (Refusal, Lease<'s, S>)> {

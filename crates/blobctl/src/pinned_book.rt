@@ -7,7 +7,7 @@ use pin_table::Pins;
 use std::alloc::Global;
 use std::marker::PhantomData;
 use std::sync::Arc;
-use store_api::{Backend, Piece};
+use store_api::{Backend, Extent};
 use store_book::{Book, Lease, Mount, PinsName, Swept};
 
 /// A book with its pins, on which rows are played.
@@ -117,8 +117,8 @@ impl<'p, N: PinsName> Backend for PinnedBook<'p, N> {
         lease.len()
     }
 
-    fn piece(lease: &Lease<'p, N>, start: u64, end: u64) -> Result<Piece, Refusal> {
-        Ok(Piece::new(lease.blob().clone()?, start, end))
+    fn extent(lease: &Lease<'p, N>, start: u64, end: u64) -> Result<Extent, Refusal> {
+        Ok(Extent::new(lease.blob().clone()?, start, end))
     }
 
     fn share(lease: Lease<'p, N>) -> Result<(Lease<'p, N>, Lease<'p, N>), (Refusal, Lease<'p, N>)> {

@@ -1,5 +1,7 @@
 //! A folder of contents.
 
+ghost use Rattle.std.specs.Prelude.{true};
+
 use crate::listed::Listed;
 use content_files::{ContentError, ContentName, ContentStore, Written, write_synced};
 use std::fs::{self, DirBuilder, File};
@@ -172,6 +174,12 @@ impl<'r> ContentFolder<'r> {
 }
 
 impl<'r> ContentStore for ContentFolder<'r> {
+    ghost on_disk = { true };
+
+    fn is_on_disk(&self) -> bool {
+        true
+    }
+
     fn write<'b>(
         &self,
         name: ContentName,
