@@ -14,10 +14,16 @@ pub enum FolderFile {
     Log(u64),
     /// `base.N`: what is needed of the segments up to this number.
     Base(u64),
-    /// `log.new`: a segment that is being made.
-    NewLog,
-    /// `base.new`: a base that is being written.
-    NewBase,
+    /// `owner-N`: the folder of the process that owns the folder. It exists as long as that process is the owner.
+    Owner(u64),
+    /// `owner-N/log.new`: a segment that this owner makes.
+    NewLog(u64),
+    /// `owner-N/base.new`: a base that this owner writes.
+    NewBase(u64),
+    /// `log.new`: a segment that an earlier version was making.
+    EarlierNewLog,
+    /// `base.new`: a base that an earlier version was writing.
+    EarlierNewBase,
     /// `log`: the only segment of a folder that an earlier version made.
     EarlierLog,
     /// `rewrite`: the request to rewrite the log.
@@ -32,8 +38,11 @@ impl fmt::Display for FolderFile {
             FolderFile::Lock => f.write_str("/lock"),
             FolderFile::Log(number) => write!(f, "/log.{number}"),
             FolderFile::Base(number) => write!(f, "/base.{number}"),
-            FolderFile::NewLog => f.write_str("/log.new"),
-            FolderFile::NewBase => f.write_str("/base.new"),
+            FolderFile::Owner(owner) => write!(f, "/owner-{owner}"),
+            FolderFile::NewLog(owner) => write!(f, "/owner-{owner}/log.new"),
+            FolderFile::NewBase(owner) => write!(f, "/owner-{owner}/base.new"),
+            FolderFile::EarlierNewLog => f.write_str("/log.new"),
+            FolderFile::EarlierNewBase => f.write_str("/base.new"),
             FolderFile::EarlierLog => f.write_str("/log"),
             FolderFile::Request => f.write_str("/rewrite"),
         }

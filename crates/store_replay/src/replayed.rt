@@ -6,7 +6,7 @@ ghost use Rattle.log_frames.specs.Headers.{log_bytes, start_of};
 ghost use Rattle.log_frames.specs.Reads.{frame_in, payload_in};
 ghost use Rattle.log_frames.specs.declared.reading.Ending.TheVariants.{End, Refused};
 ghost use Rattle.blob_store.specs.Starts.{StartsFrom};
-ghost use Rattle.segmented_disk.specs.Views.{starting};
+ghost use Rattle.segmented_disk.specs.Views.{all_attempted, starting};
 ghost use Rattle.store_replay.specs.Replays.{EndsWithReplayOf, HasDurable, IsReadAs, IsReplayOf, ReplaysFrame, ReplaysNoFrame, TakesPayload, total};
 
 use crate::observer::ChangeSink;
@@ -233,6 +233,36 @@ impl<'s, W: Wait, S: Naming, O: ChangeSink> Replayed<'s, W, S, O> {
     }
 }
 
+/// Opens the last log of a start on a disk that holds it: a log with this id and the frames that `F` names. `B` names the payloads
+/// of the logs before, whose files have this length. Writes a mark and syncs the disk.
+///
+/// # Errors
+///
+/// - The error of a call on the disk.
+/// - `Memory`
+fn marked_disk<F: FramesName, B: BytesName, D: Disk, G: SegmentFolder<D>>(
+    alloc: Global,
+    raw: D,
+    id: u64,
+    cursor: Cursor,
+    folder: G,
+    closed_length: u64,
+) -> Result<SegmentedDisk<D, G>, DiskError>
+    requires frames { AreFrames id (start_of id) F.frames }
+    requires cursor { cursor ≡ end_of id (start_of id) F.frames }
+    requires written { D.written raw ≡ log_bytes id F.frames }
+    requires synced { D.synced raw ≡ D.written raw }
+    requires folder { G.published folder ≡ starting id }
+    ensures written { IfOk result (λ d. all_attempted d ≡ B.bytes ++ payloads F.frames) }
+    ensures synced { IfOk result (λ d. d.synced ≡ B.bytes ++ payloads F.frames) }
+{
+    let segment = FramedDisk::open::<F>(alloc, raw, id, cursor)?;
+    let mut disk = SegmentedDisk::new::<B>(alloc, folder, segment, closed_length, cursor.place)?;
+    disk.mark()?;
+    disk.sync()?;
+    Ok(disk)
+}
+
 /// Continues the last log of a replay on a disk that holds it: a log with this id and the frames that `F` names. `B` names the
 /// payloads of the logs that were replayed before, whose files have this length. Writes a mark and syncs the disk. Returns
 /// the desk of the replay, and the device of the store's log, which writes to that disk from then on, and later to those that
@@ -269,11 +299,10 @@ pub fn continue_on<
     requires folder { G.published folder ≡ starting id }
     ensures { IfOk result (λ r. HasDurable replay.entry.replayed r.1) }
 {
-    let segment = FramedDisk::open::<F>(alloc, raw, id, cursor)?;
-    let mut disk = SegmentedDisk::new::<B>(alloc, folder, segment, closed_length, cursor.place)?;
-    disk.mark()?;
-    disk.sync()?;
-    Ok(replay.finish(disk))
+    match marked_disk::<F, B, D, G>(alloc, raw, id, cursor, folder, closed_length) {
+        Ok(disk) => Ok(replay.finish(disk)),
+        Err(error) => Err(error),
+    }
 }
 
 /// Continues the last log of a replay on the file that it was read from. The frames, the bytes of the file and the payloads of
