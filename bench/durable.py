@@ -29,7 +29,7 @@ sys.dont_write_bytecode = True
 sys.path[:0] = [str(TOP / "crates/blobd/crashes"), str(TOP / "crates/blobd")]
 import data_folder
 import registry
-from data_folder import Blobd, FolderLog, Trace, log_length
+from data_folder import Blobd, FolderLog, Trace, base_in_the_way, log_length
 from frames import ABANDON, APPEND, CLOSE, DELETE, PUT_MANIFEST, START, SWEEP, request, sha256
 
 MIB = 1 << 20
@@ -74,7 +74,7 @@ def obstruct(folder):
     """Waits until a program has made the log of a folder. Then makes a folder in the way of a base, so that the log is not rewritten."""
     while not (folder / "log.1").exists():
         time.sleep(0.001)
-    (folder / "base.new").mkdir()
+    base_in_the_way(folder).mkdir()
 
 
 class Bench:
@@ -142,7 +142,7 @@ class Bench:
         """Prints how long a start from the log of these requests takes. The log was not rewritten before."""
         folder = self.folder()
         self.plays(folder, policy, [requests], is_rewritten=False)
-        (folder / "base.new").rmdir()
+        base_in_the_way(folder).rmdir()
         size = log_length(folder)
         blobd = self.blobd(folder, "closes", 1)
         start = time.monotonic()
@@ -186,7 +186,7 @@ def rewritten(bench, count, size):
     timed(line, garbage("t0", count, size))
     calls = small("t1", 1 << 40)
     quiet = timed(other, itertools.islice(calls, bench.scaled(2000)))
-    (folder / "base.new").rmdir()
+    base_in_the_way(folder).rmdir()
     length, request, meanwhile = log_length(folder), folder / "rewrite", []
     request.touch()
     while request.exists():

@@ -5,7 +5,9 @@ One program grows from size to size. At each size the output has for each comman
 program, and the program's resident memory in MiB, with the bytes that each further one took. With --instructions the program runs under
 callgrind, which takes fifty times as long, and the output has instructions in place of times.
 
-    bench/sizes.py [--program BLOBD] [--most EXPONENT] [--calls N] [--instructions] [blobs] [repositories] [manifests]
+    bench/sizes.py [--program BLOBD] [--most EXPONENT] [--calls N] [--instructions] [KIND..]
+
+The kinds are blobs, repositories and manifests. --most bounds the exponents of the sizes. Each cost is that of N calls (10,000), divided.
 
 It needs a built blobd, and valgrind for --instructions."""
 import argparse
@@ -36,7 +38,7 @@ class Store:
     """A program with one connection over its standard input and output."""
 
     def __init__(self, program, slots, room, counts_instructions):
-        self.room, self.counts_instructions, self.dumps = room, counts_instructions, 0
+        self.room, self.counts_instructions, self.dumps, self.total = room, counts_instructions, 0, 0
         words = [program, str(slots), str(MIB), f"acme={QUOTA},{slots},65536,1048576,4096"]
         if counts_instructions:
             words = ["valgrind", "--tool=callgrind", f"--callgrind-out-file={room}/out", *words]
@@ -85,10 +87,10 @@ class Store:
     def used(self):
         """Returns the instructions, or the nanoseconds of the processor, up to now."""
         if self.counts_instructions:
-            subprocess.run(["callgrind_control", "--dump", str(self.process.pid)], check=True, stdout=subprocess.DEVNULL)
+            subprocess.run(["callgrind_control", "--dump", str(self.process.pid)], check=True, capture_output=True)
             self.dumps += 1
             text = pathlib.Path(f"{self.room}/out.{self.dumps}").read_text()
-            self.total = getattr(self, "total", 0) + int(re.search(r"^(?:summary|totals): (\d+)", text, re.M)[1])
+            self.total += int(re.search(r"^(?:summary|totals): (\d+)", text, re.MULTILINE)[1])
             return self.total
         tasks = pathlib.Path(f"/proc/{self.process.pid}/task").glob("*/schedstat")
         return sum(int(task.read_text().split()[0]) for task in tasks)
@@ -127,7 +129,7 @@ class Growth:
     """A store that grows: how, and the commands that are measured."""
 
     def __init__(self, store):
-        self.store, self.first = store, store.memory()
+        self.store = store
 
     def some(self, size, calls):
         """Returns numbers below a size, spread over it."""
@@ -149,10 +151,11 @@ class Blobs(Growth):
         yield "fetch", store.cost([request(FETCH, repo, digest) for repo, digest in names], calls)
         first = store.play([request(LEASE, *names[0])])[1]
         store.play([request(GIVE_BACK, number=first)])
-        lease = lambda number, repo, digest: [request(LEASE, repo, digest), request(READ, digest=digest, number=number), request(GIVE_BACK, number=number)]
+        lease = lambda number, repo, digest: [
+            request(LEASE, repo, digest), request(READ, digest=digest, number=number), request(GIVE_BACK, number=number)]
         yield "lease, read, give back", store.cost(flat(lease(first + 1 + at, *name) for at, name in enumerate(names)), calls)
-        mounted = [(repo, digest) for repo, digest in names]
-        yield "mount, delete", store.cost(flat([request(MOUNT, "acme/x", digest, repo), request(DELETE, "acme/x", digest)] for repo, digest in mounted), calls)
+        mount = lambda repo, digest: [request(MOUNT, "acme/x", digest, repo), request(DELETE, "acme/x", digest)]
+        yield "mount, delete", store.cost(flat(mount(*name) for name in names), calls)
         yield "usage, free slots", store.cost(flat([request(USAGE, "acme/0"), request(FREE_SLOTS)] for _ in some), calls)
         yield "sweep of nothing", store.cost([request(SWEEP) for _ in some], calls)
         new = [b"new %d" % number for number in range(calls)]
@@ -204,13 +207,16 @@ def table(kind, options, room):
     exponents = [one for one in exponents if one <= options.most]
     store = Store(options.program, (1 << max(exponents)) + 4 * options.calls, room, options.instructions)
     growth, old, last, rows = grows(store), 0, store.memory(), {}
-    print(f"\n{kind}: {grows.__doc__}\nMemory of the empty store: {last / MIB:.1f} MiB", flush=True)
+    print(f"\n{kind}: {grows.__doc__}")
+    if not options.instructions:
+        print(f"Memory of the empty store: {last / MIB:.1f} MiB", flush=True)
     for exponent in exponents:
         size = 1 << exponent
         growth.grow(old, size)
         memory = store.memory()
-        rows.setdefault("MiB", []).append(f"{memory / MIB:,.1f}")
-        rows.setdefault("bytes for each more", []).append(f"{(memory - last) / (size - old):,.0f}")
+        if not options.instructions:
+            rows.setdefault("MiB", []).append(f"{memory / MIB:,.1f}")
+            rows.setdefault("bytes for each more", []).append(f"{(memory - last) / (size - old):,.0f}")
         for name, cost in growth.costs(size, options.calls):
             rows.setdefault(name, []).append(f"{cost:,.0f}" if options.instructions else f"{cost:.2f}")
         old, last = size, store.memory()
@@ -226,9 +232,9 @@ def main():
     parser.add_argument("--most", type=int, default=20)
     parser.add_argument("--calls", type=int, default=10_000)
     parser.add_argument("--instructions", action="store_true")
-    parser.add_argument("kinds", nargs="*", choices=[*KINDS, []])
+    parser.add_argument("kinds", nargs="*", default=list(KINDS), metavar="KIND", help=", ".join(KINDS))
     options = parser.parse_args()
-    for kind in options.kinds or KINDS:
+    for kind in options.kinds:
         with tempfile.TemporaryDirectory() as room:
             table(kind, options, room)
 
