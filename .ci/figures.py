@@ -24,7 +24,7 @@ PAGES = ["README.md", "CONTRIBUTING.md", ARCHITECTURE, GATE, TESTING, THEOREMS, 
 COUNTED = r"(?:crates|mutants|unit tests|tests|scripts|steps of the gate|statements|commands|queries|statuses|events|decisions|functions|tables|folders)"
 
 # The greatest number of a crate's mutants that the gate tries, and of the columns of a line.
-GATE_MUTANTS = 5
+GATE_MUTANTS = 2
 COLUMNS = 110
 
 

@@ -17,7 +17,7 @@ STORE_COMMANDS = [
 ]
 STORE_STATUSES = [
     ("crates/wire_format/src/reply.rt", r"Refusal::(?P<name>\w+)(?: \{[^}]*\})? => write_\w+\((?:alloc, )?out, (?P<number>\d+),"),
-    ("crates/wire_server/src/outcome.rt", r"const (?P<name>NO_LEASE|NO_COMMAND): u32 = (?P<number>\d+);"),
+    ("crates/wire_server/src/outcome.rt", r"const (?P<name>UNREADABLE|NO_LEASE|NO_COMMAND): u32 = (?P<number>\d+);"),
 ]
 CLIENT = "registryd/src/store/frames.rs"
 HEADER = "bindings/c/blobd.h"
