@@ -222,9 +222,12 @@ class Connection:
         self.to, self.back = to, back
 
     def writes(self, data):
-        """Writes all bytes."""
+        """Writes all bytes. The pipe does not block."""
+        data = memoryview(data)
         try:
             while data:
+                if not select.select([], [self.to], [], PATIENCE)[1]:
+                    raise TimeoutError(f"{len(data)} bytes of a request are not read")
                 data = data[os.write(self.to, data):]
         except BrokenPipeError:
             raise Ended from None
@@ -291,7 +294,6 @@ class Blobd:
             except BaseException:
                 os.close(back)
                 raise
-            os.set_blocking(to, True)
             os.set_blocking(back, True)
             self.connections.append(Connection(to, back))
         for connection in self.connections:
@@ -318,6 +320,11 @@ class Blobd:
         lines = pathlib.Path(f"/proc/{self.process.pid}/status").read_text().splitlines()
         return next(int(line.split()[1]) for line in lines if line.startswith("VmHWM"))
 
+    def waits(self):
+        """Returns the state of each thread of the program, and the call of the system in which it waits."""
+        tasks = sorted(pathlib.Path(f"/proc/{self.process.pid}/task").glob("*"))
+        return ", ".join(f"{(task / 'stat').read_text().rsplit(')', 1)[1].split()[0]} {(task / 'wchan').read_text()}" for task in tasks)
+
     def kills(self):
         """Kills the program, and waits for its end."""
         self.process.send_signal(signal.SIGKILL)
@@ -330,7 +337,8 @@ class Blobd:
         try:
             _, text = self.process.communicate(timeout=PATIENCE)
         except subprocess.TimeoutExpired:
+            waits = self.waits()
             self.process.kill()
             self.process.communicate()
-            raise TimeoutError("the program does not end") from None
+            raise TimeoutError(f"the program does not end: {waits}") from None
         return self.process.returncode, text.decode(errors="replace")

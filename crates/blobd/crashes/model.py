@@ -277,7 +277,8 @@ class Client:
                 "wrong close": lambda: state.closes_wrongly(number),
             }
             return kind, make[kind]()
-        if len(links) > MOST_LINKS or links and draw < 0.55:
+        # not always if there are many: manifests may refer to all of them
+        if links and (draw < 0.55 or len(links) > MOST_LINKS and rng.random() < 0.8):
             return "delete", state.deletes(*self.removed(links))
         if len(manifests) > MOST_MANIFESTS or manifests and draw < 0.59:
             return "delete of a manifest", state.deletes_manifest(*self.removed(manifests))

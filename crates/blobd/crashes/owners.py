@@ -2,18 +2,19 @@
 cut off. Here the file `lock` is removed, so that the second program locks another one."""
 import re
 import signal
+import subprocess
 import threading
 import time
 
-from data_folder import FolderLog
+from data_folder import PATIENCE, FolderLog
 from model import Fault
 from room import all_there, clients, compares, ends_well, fault, looks, stops, together
 
 # How often a program is stopped at a random place while another one takes over.
 ROUNDS = 12
 
-# How a rewriting of the log ended, also one before another program took over.
-REWRITING = re.compile(r" was (not rewritten|not written|written): ")
+# How a rewriting of the log ended, also one before another program took over, and how far a slow start was.
+PROGRESS = re.compile(r" was (not rewritten|not written|written): |^blobd: (examining|replaying) ")
 
 
 def begun(everybody, lines):
@@ -24,10 +25,13 @@ def begun(everybody, lines):
     return threads
 
 
-def joined(everybody, threads):
-    """Waits until the clients' connections have ended."""
+def joined(everybody, threads, blobd):
+    """Waits until the clients' connections to a program have ended."""
+    end = time.monotonic() + PATIENCE
     for thread in threads:
-        thread.join()
+        thread.join(max(0, end - time.monotonic()))
+    if any(thread.is_alive() for thread in threads):
+        raise Fault(f"a connection does not end: {blobd.waits()}")
     for client in everybody:
         if client.fault:
             raise Fault(client.fault)
@@ -40,8 +44,12 @@ def owners_of(folder):
 
 def loses(name, folder, blobd):
     """Checks how a program ends that another one has taken the folder from."""
-    status, text = blobd.process.wait(), blobd.process.stderr.read().decode(errors="replace")
-    lines = [line for line in text.splitlines() if not REWRITING.search(line)]
+    try:
+        blobd.process.wait(PATIENCE)
+    except subprocess.TimeoutExpired:
+        raise Fault(f"{name} does not end: {blobd.waits()}") from None
+    status, text = blobd.ends()
+    lines = [line for line in text.splitlines() if not PROGRESS.search(line)]
     stops(name, (status, b"", "\n".join(lines) + "\n"), 7, f"another process has taken over {folder}")
 
 
@@ -55,7 +63,7 @@ def taken_over(room):
         (folder / "lock").unlink()
         second = room.starts(folder, connections=len(everybody))
         second.opens()
-        joined(everybody, threads)
+        joined(everybody, threads, first)
         loses(f"a program that was taken over, {turn}", folder, first)
         looks(everybody, second)
         together(everybody, second.connections, "closes", 100)
@@ -86,7 +94,7 @@ def stopped_owners(room):
         together(others, second.connections, "closes", 60)
         first.process.send_signal(signal.SIGCONT)
         together(others, second.connections, "closes", 60)
-        joined(theirs, threads)
+        joined(theirs, threads, first)
         loses(f"a program that was stopped, {turn}", folder, first)
         time.sleep(room.rng.uniform(0, 1.5))
         together(others, second.connections, "closes", 60)
