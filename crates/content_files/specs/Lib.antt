@@ -6,3 +6,4 @@ pub mod Shown
 pub mod Places
 pub mod Reads
 pub mod Parts
+pub mod Chunks

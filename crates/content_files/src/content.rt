@@ -1,11 +1,13 @@
 //! A content, in memory or in a file.
 
 ghost use Rattle.std.specs.Prelude.{◌≡◌, ◌<◌, ◌++◌, length, take, IfOk, IfSome, OnErr, OnOk, [], true};
+ghost use Rattle.content_files.specs.Chunks.{chunk_notes, is_in_file};
 ghost use Rattle.content_files.specs.Notes.{is_read};
 ghost use Rattle.content_files.specs.Parts.{IsPart};
 
 use crate::disk_content::DiskContent;
 use crate::error::ContentError;
+use crate::home::Home;
 use crate::name::ContentName;
 use crate::note::reveal_read;
 use crate::pieces::part_of;
@@ -100,19 +102,40 @@ impl Content {
 
     /// Adds bytes at the end. If the content is in a file, they are written and synced.
     ///
+    /// If the content is in memory and becomes longer than its home allows, it moves into its file first: what it has is written
+    /// and synced. In a file, the notes of the pieces of the bytes are appended to `notes`.
+    ///
     /// # Errors
     ///
-    /// The cause. The content is unchanged.
-    pub fn extend<F: ContentStore>(&mut self, files: &F, bytes: &[u8]) -> Result<(), ContentError>
+    /// The cause. The content is unchanged. `notes` may have grown.
+    pub fn extend<F: ContentStore>(
+        &mut self,
+        files: &F,
+        home: Option<Home>,
+        bytes: &[u8],
+        notes: &mut Vec<u8>,
+    ) -> Result<(), ContentError>
         ensures ok { OnOk result (self.new ≡ self.old ++ bytes.now) }
+        ensures noted { OnOk result (is_in_file home (length self.new) ≡ true →
+            notes.new.items ≡ notes.old.items ++ chunk_notes bytes.now) }
         ensures err { OnErr result (self.new ≡ self.old) }
     {
         match &mut self.place {
             Place::Resident(old) => {
+                let Some(len) = (old.len() as u64).checked_add(bytes.len() as u64) else {
+                    return Err(ContentError::Memory);
+                };
+                if let Some(home) = home
+                    && home.has_content_of(len)
+                {
+                    let content = moved(files, home.name, old, bytes, notes)?;
+                    self.place = Place::OnDisk(content);
+                    return Ok(());
+                }
                 old.extend_from_slice(bytes)?;
                 Ok(())
             }
-            Place::OnDisk(content) => content.add(files, bytes),
+            Place::OnDisk(content) => content.add(files, bytes, notes),
         }
     }
 
@@ -159,6 +182,25 @@ impl Content {
             Place::OnDisk(content) => content.read_between(files, alloc, start, end),
         }
     }
+}
+
+/// Returns a content in a file that has the old bytes and the new ones: writes and syncs them. The notes of the pieces of the
+/// new ones are appended to `notes`.
+fn moved<F: ContentStore>(
+    files: &F,
+    name: ContentName,
+    old: &Vec<u8>,
+    bytes: &[u8],
+    notes: &mut Vec<u8>,
+) -> Result<DiskContent, ContentError>
+    ensures content { IfOk result (λ d. d ≡ old.now.items ++ bytes.now) }
+    ensures noted { OnOk result (notes.new.items ≡ notes.old.items ++ chunk_notes bytes.now) }
+{
+    let alloc = *old.allocator();
+    let mut content = DiskContent::new(alloc, name)?;
+    content.add(files, old.as_slice(), &mut Vec::new(alloc))?;
+    content.add(files, bytes, notes)?;
+    Ok(content)
 }
 
 /// Takes what threads may share, and what one may give to another.

@@ -1,6 +1,7 @@
 //! A content in a file.
 
 ghost use Rattle.std.specs.Prelude.{◌≡◌, ◌++◌, ◌<◌, [], IfOk, OnOk, OnErr, length, take, true};
+ghost use Rattle.content_files.specs.Chunks.{chunk_notes};
 ghost use Rattle.content_files.specs.Notes.{is_read, unread};
 ghost use Rattle.content_files.specs.Parts.{IsPart};
 ghost use Rattle.content_files.specs.Reads.{IsReadOf};
@@ -83,7 +84,8 @@ impl DiskContent {
         }
     }
 
-    /// Adds bytes: writes them at the end of the file, and syncs them. No bytes are not written.
+    /// Adds bytes: writes them at the end of the file, and syncs them. The notes of their pieces are appended to `notes`. No
+    /// bytes are not written, and have no notes.
     ///
     /// # Errors
     ///
@@ -95,9 +97,16 @@ impl DiskContent {
     ///
     /// # Cost
     ///
-    /// One write, and 16 bytes of memory for each MiB. Two small allocations are made for each piece, and given back.
-    pub fn add<F: ContentStore>(&mut self, files: &F, bytes: &[u8]) -> Result<(), ContentError>
+    /// One write, and 16 bytes of memory for each MiB, as of `notes`. Two small allocations are made for each piece, and given
+    /// back.
+    pub fn add<F: ContentStore>(
+        &mut self,
+        files: &F,
+        bytes: &[u8],
+        notes: &mut Vec<u8>,
+    ) -> Result<(), ContentError>
         ensures ok { OnOk result (self.new ≡ self.old ++ bytes.now) }
+        ensures noted { OnOk result (notes.new.items ≡ notes.old.items ++ chunk_notes bytes.now) }
         ensures err { OnErr result (self.new ≡ self.old) }
     {
         if bytes.is_empty() {
@@ -112,7 +121,7 @@ impl DiskContent {
         };
         reveal_read(bytes);
         let written = files.write(self.pieces.name(), self.len, bytes)?;
-        self.pieces.add_written(written)?;
+        self.pieces.add_written(written, notes)?;
         self.len = len;
         Ok(())
     }

@@ -1,10 +1,12 @@
 //! What memory keeps of a piece.
 
-ghost use Rattle.std.specs.Prelude.{◌≡◌, true, IfSome};
+ghost use Rattle.std.specs.Prelude.{◌≡◌, ◌++◌, true, IfSome, OnOk};
+ghost use Rattle.std.specs.Int.{w64, to_le_bytes};
 ghost use Rattle.content_files.specs.Notes.{is_read, piece_sum};
 ghost use Rattle.content_files.specs.Reads.{IsCountWithin, IsPlaceOf};
 
 use log_frames::{BASIS, sum_words};
+use std::alloc::AllocError;
 
 /// The length and the sum of a piece.
 #[derive(Clone, Copy, Debug, PartialEq, Eq, Drop)]
@@ -13,6 +15,18 @@ pub struct Note {
     pub len: u64,
     /// The sum, as `log_frames` defines it, from its basis on.
     pub sum: u64,
+}
+
+impl Note {
+    /// Appends the length and the sum, of eight bytes each, the lowest first.
+    pub(crate) fn write(self, out: &mut Vec<u8>) -> Result<(), AllocError>
+        ensures { OnOk result (out.new.items ≡ out.old.items
+            ++ (to_le_bytes w64 self.len ++ to_le_bytes w64 self.sum)) }
+    {
+        out.extend_from_slice(&self.len.to_le_bytes())?;
+        out.extend_from_slice(&self.sum.to_le_bytes())?;
+        Ok(())
+    }
 }
 
 /// Returns the sum of a piece.

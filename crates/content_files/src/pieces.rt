@@ -1,6 +1,7 @@
 //! The pieces of a content in a file, and what memory keeps of them.
 
 ghost use Rattle.std.specs.Prelude.{◌≡◌, ◌++◌, ◌≤◌, ◌<◌, ◌+◌, ◌-◌, ◌∷◌, [], IfOk, OnOk, OnErr, drop, length, take, true, IfSome};
+ghost use Rattle.content_files.specs.Chunks.{chunk_notes, note_bytes};
 ghost use Rattle.content_files.specs.Notes.{note_of, unread};
 ghost use Rattle.content_files.specs.Parts.{IsAddedRead, IsCountIn, IsReadWithin};
 ghost use Rattle.content_files.specs.Pieces.{BeginsAs, HasRoomFor, IsAtEndOf, bytes_of, pieces_of, with_piece};
@@ -68,21 +69,23 @@ impl Pieces {
         self.total
     }
 
-    /// Adds a piece whose bytes were written at the end of the pieces.
+    /// Adds a piece whose bytes were written at the end of the pieces. Its note is appended to `notes`.
     ///
     /// # Errors
     ///
-    /// `Memory`. Nothing changed.
-    fn add_piece(&mut self, piece: Written<'_>) -> Result<(), ContentError>
+    /// `Memory`. Nothing changed, but `notes` may have grown.
+    fn add_piece(&mut self, piece: Written<'_>, notes: &mut Vec<u8>) -> Result<(), ContentError>
         requires at { IsAtEndOf piece self.old }
         requires fits { HasRoomFor self.old piece.bytes }
         ensures ok { OnOk result (self.new ≡ with_piece self.old piece.entry.bytes) }
+        ensures noted { OnOk result (notes.new.items ≡ notes.old.items ++ note_bytes piece.entry.bytes) }
         ensures err { OnErr result (self.new ≡ self.old) }
     {
         let note = Note {
             len: piece.len() as u64,
             sum: piece.sum(),
         };
+        note.write(notes)?;
         let trace = self.trace.with_written(*self.notes.allocator(), &piece)?;
         self.notes.push(note)?;
         self.total += note.len;
@@ -90,26 +93,33 @@ impl Pieces {
         Ok(())
     }
 
-    /// Adds bytes that were written at the end of the pieces, in pieces of at most `MAX_PIECE` bytes.
+    /// Adds bytes that were written at the end of the pieces, in pieces of at most `MAX_PIECE` bytes. Their notes are appended
+    /// to `notes`.
     ///
     /// # Errors
     ///
     /// `Memory`. Some pieces may have been added.
-    pub(crate) fn add_written(&mut self, written: Written<'_>) -> Result<(), ContentError>
+    pub(crate) fn add_written(
+        &mut self,
+        written: Written<'_>,
+        notes: &mut Vec<u8>,
+    ) -> Result<(), ContentError>
+        requires some { 0 < length written.bytes }
         requires at { IsAtEndOf written self.old }
         requires fits { HasRoomFor self.old written.bytes }
         ensures name { self.new.name ≡ self.old.name }
         ensures ok { OnOk result (bytes_of self.new ≡ bytes_of self.old ++ written.entry.bytes) }
+        ensures noted { OnOk result (notes.new.items ≡ notes.old.items ++ chunk_notes written.entry.bytes) }
         ensures begin { BeginsAs self.old self.new }
         ensures long { length (bytes_of self.old) ≤ length (bytes_of self.new) }
     {
         let mut rest = written;
         while rest.len() > MAX_PIECE {
             let (piece, others) = rest.split_at(MAX_PIECE);
-            self.add_piece(piece)?;
+            self.add_piece(piece, notes)?;
             rest = others;
         }
-        self.add_piece(rest)
+        self.add_piece(rest, notes)
     }
 
     /// Adds a piece that an earlier process added, by its note.

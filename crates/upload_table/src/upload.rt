@@ -166,7 +166,8 @@ pub(crate) fn extend<F: ContentStore>(
 {
     let received = pieces.bytes.len() as usize;
     pieces.lens.reserve(1)?;
-    pieces.bytes.extend(files, chunk)?;
+    let mut notes = Vec::new(*pieces.lens.allocator());
+    pieces.bytes.extend(files, None, chunk, &mut notes)?;
     let whole = ContentHash::of_content(
         &mut pieces.hashes,
         &pieces.bytes,
