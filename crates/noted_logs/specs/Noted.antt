@@ -1,0 +1,59 @@
+-- The notes of a durable state: its contents with each chunk replaced by what a process knows of it that has not read it.
+use Rattle.std.specs.Prelude.{◌≡◌, ℕ, ◌^◌, ◌<◌, List, Option, Some, None, length, map}
+use Rattle.std.specs.Option.{option_map}
+use Rattle.std.specs.List.{concat}
+use Rattle.std.specs.FinMap as fmap
+use Rattle.spec_lib.specs.Texts.{Text}
+use Rattle.content_files.specs.Chunks.{chunk_notes, noted, read_notes}
+use Rattle.store_model.specs.Catalog.{CheckedIn, CheckedOutWith, Chunks, Session, SessionNumber, Tenant}
+use Rattle.store_model.specs.Durable.{BlobStored, Change, ChunkReceived, DurableState, SessionSealed, after_change, after_changes, initial_durable}
+
+-- a change as a log of notes describes it
+abbrev pub noted_change : Change → Change
+noted_change (ChunkReceived key bytes) = ChunkReceived key (noted bytes)
+noted_change (SessionSealed key digest last) = SessionSealed key digest (noted last)
+noted_change (BlobStored digest bytes) = BlobStored digest (noted bytes)
+noted_change c = c
+
+-- the chunks of a session, noted
+abbrev pub noted_chunks : Chunks → Chunks
+noted_chunks (CheckedIn chunks) = CheckedIn (map noted chunks)
+noted_chunks (CheckedOutWith received reserved) = CheckedOutWith received reserved
+
+-- a session with its chunks noted
+abbrev pub noted_session : Session → Session
+noted_session s = record s { chunks = noted_chunks s.chunks }
+
+-- a content that consists of some chunks, and what is noted of them
+abbrev pub IsNotedContent : Text → Text → Type 0
+IsNotedContent content notes = (chunks : List Text) × (concat chunks ≡ content) × (concat (map noted chunks) ≡ notes)
+
+-- both are missing, or the second one has the notes of the first
+abbrev pub AreNotedContents : Option Text → Option Text → Type 0
+AreNotedContents None None = Unit {0}
+AreNotedContents None (Some n) = ⊥
+AreNotedContents (Some c) None = ⊥
+AreNotedContents (Some c) (Some n) = IsNotedContent c n
+
+-- The second state is the first one with notes in place of contents.
+pub record IsNoted (D N : DurableState) : Type 0 where
+  pub tenants : N.tenants ≡ D.tenants
+  pub repos : N.repos ≡ D.repos
+  pub links : N.links ≡ D.links
+  pub manifests : N.manifests ≡ D.manifests
+  pub next : N.next ≡ D.next
+  pub sessions : (key : SessionNumber) → fmap.get N.sessions key ≡ option_map noted_session (fmap.get D.sessions key)
+  pub contents : (digest : Text) → AreNotedContents (fmap.get D.contents digest) (fmap.get N.contents digest)
+
+-- a change leaves a state whose notes are those that the noted change leaves
+abbrev pub NotesStep : Type 0
+NotesStep = (D N : DurableState) (c : Change) → IsNoted D N → IsNoted (after_change D c) (after_change N (noted_change c))
+
+-- two lists of changes with the same notes leave a new store in states with the same notes
+abbrev pub NotesDetermine : Type 0
+NotesDetermine = (tenants : List Tenant) (cs ds : List Change) → map noted_change cs ≡ map noted_change ds →
+    (N : DurableState) × IsNoted (after_changes (initial_durable tenants) cs) N × IsNoted (after_changes (initial_durable tenants) ds) N
+
+-- the notes of a chunk are read as what a process knows of it that has not read it
+abbrev pub NotesAreReadBack : Type 0
+NotesAreReadBack = (bytes : Text) → length bytes < 2 ^ 64 → read_notes (chunk_notes bytes) ≡ noted bytes
