@@ -15,3 +15,4 @@ pub mod AnyMoment
 pub mod Known
 pub mod Found
 pub mod Looks
+pub mod PaddedLists

@@ -3,6 +3,7 @@
 ghost use Rattle.std.specs.Prelude.{◌≡◌, ◌<◌, length, slice_index};
 ghost use Rattle.pin_core.specs.World.{row};
 
+use crate::padded::Padded;
 use crate::rule::PinSeat;
 use blob_digest::Digest;
 use pin_core::{Phase, PinRow};
@@ -15,8 +16,8 @@ use std::marker::Model;
 /// fall, because other threads can release and share pins but not make them.
 #[derive(Drop)]
 pub struct Keeper {
-    pub(crate) rows: Vec<PinRow>,
-    pub(crate) bounds: Vec<u32>,
+    pub(crate) rows: Padded<PinRow>,
+    pub(crate) bounds: Padded<u32>,
     pub(crate) seat: PinSeat,
 }
 
@@ -30,9 +31,9 @@ impl Model for Keeper {
 
     ghost Value = { KeeperValue };
 
-    ghost view = { λ k. record { table = k.seat.table_id; rows = k.rows.items; bounds = k.bounds.items; looks = looks_by k.seat.me.0; lent = lent_by k.seat.me.0 } };
+    ghost view = { λ k. record { table = k.seat.table_id; rows = k.rows; bounds = k.bounds; looks = looks_by k.seat.me.0; lent = lent_by k.seat.me.0 } };
 
-    ghost invariant = { λ k. (k.seat.id ≡ 0) × (k.seat.me ≡ (KeeperSeat (keeper_view k.rows.items k.bounds.items (looks_by k.seat.me.0) (lent_by k.seat.me.0) None), [])) × (k.seat.table_id.words ≡ length k.rows.items) × (length k.bounds.items ≡ length k.rows.items) × All HasDigest k.rows.items };
+    ghost invariant = { λ k. (k.seat.id ≡ 0) × (k.seat.me ≡ (KeeperSeat (keeper_view k.rows k.bounds (looks_by k.seat.me.0) (lent_by k.seat.me.0) None), [])) × (k.seat.table_id.words ≡ length k.rows) × (length k.bounds ≡ length k.rows) × All HasDigest k.rows };
 }
 
 impl Keeper {
@@ -45,7 +46,7 @@ impl Keeper {
         requires { slot < length self.now.rows }
         ensures { result ≡ (row self.now.rows slot).phase }
     {
-        self.rows[slot as usize].phase
+        self.rows.get(slot as usize).phase
     }
 
     /// Returns the generation of a slot. Each reclaim raises it by one, up to the last one.
@@ -57,7 +58,7 @@ impl Keeper {
         requires { slot < length self.now.rows }
         ensures { result ≡ (row self.now.rows slot).generation }
     {
-        self.rows[slot as usize].generation
+        self.rows.get(slot as usize).generation
     }
 
     /// Returns the digest of a slot, if the slot is used.
@@ -69,7 +70,7 @@ impl Keeper {
         requires { slot < length self.now.rows }
         ensures { result ≡ (row self.now.rows slot).digest }
     {
-        self.rows[slot as usize].digest
+        self.rows.get(slot as usize).digest
     }
 
     /// Returns an upper bound on the sum of weights on a slot.
@@ -83,6 +84,6 @@ impl Keeper {
         requires { slot < length self.now.rows }
         ensures { result ≡ slice_index self.now.bounds slot }
     {
-        self.bounds[slot as usize]
+        self.bounds.get(slot as usize)
     }
 }

@@ -11,6 +11,7 @@
 
 mod keeper;
 pub mod laws;
+mod padded;
 mod pin;
 mod pins;
 mod plays;

@@ -11,6 +11,7 @@ ghost use Rattle.pin_table.specs.Rule.{released_pin};
 ghost use Rattle.pin_table.specs.Calls.{IsNewTable, with_digest, with_phase, with_new_pin, seat_value, lent_pin, FindsWord, IsLendResult, IsShareResult, IsReclaimResult, IsUnheld, VerifiesPin};
 
 use crate::keeper::Keeper;
+use crate::padded::Padded;
 use crate::pin::{Left, Pin};
 use crate::plays::{Condemn, Give, Given, Leave, Lend, Look, Reclaiming, Revive, Share, Transit};
 use crate::reclaim::Reclaim;
@@ -77,7 +78,7 @@ impl Pins {
     ///
     /// # Cost
     ///
-    /// Linear in the number of slots. Allocates the words, rows and bounds.
+    /// Linear in the number of slots. Allocates the words, and reserves room for the rows and bounds.
     pub fn new(alloc: Global, slots: u32, first_generation: u32) -> Result<(Pins, Keeper), Refusal>
         ensures made { IfOk result (λ r. IsNewTable 65536 slots first_generation r.0 r.1) }
         ensures refused { IfErr result (λ e. IsOpeningError slots e) }
@@ -97,7 +98,7 @@ impl Pins {
     ///
     /// # Cost
     ///
-    /// Linear in the number of slots. Allocates the words, rows and bounds.
+    /// Linear in the number of slots. Allocates the words, and reserves room for the rows and bounds.
     pub fn of_slots(
         alloc: Global,
         slots: u32,
@@ -116,8 +117,8 @@ impl Pins {
             digest: None,
         };
         let words = Vec::from_elem(alloc, clear_word(&row), count)?;
-        let rows = Vec::from_elem(alloc, row, count)?;
-        let bounds = Vec::from_elem(alloc, 0_u32, count)?;
+        let rows = Padded::new(alloc, count, row)?;
+        let bounds = Padded::new(alloc, count, 0_u32)?;
         let about = Opening {
             slots: count,
             first_generation,
@@ -139,7 +140,7 @@ impl Pins {
         let word = slot as usize;
         let found = self.table.shared.load::<Look>(&mut keeper.seat, word);
         let sum = unpack(found).weight;
-        keeper.bounds[word] = sum;
+        keeper.bounds.set(word, sum);
         found
     }
 
@@ -157,8 +158,9 @@ impl Pins {
     {
         let word = slot as usize;
         give_as::<Brand>(&self.table.shared, &mut keeper.seat, word, digest);
-        keeper.rows[word] = given(keeper.rows[word], digest);
-        keeper.bounds[word] = 0;
+        let row = keeper.rows.get(word);
+        keeper.rows.set(word, given(row, digest));
+        keeper.bounds.set(word, 0);
     }
 
     /// Makes a new pin of weight 1,024 on a live slot.
@@ -197,12 +199,13 @@ impl Pins {
     {
         let word = slot as usize;
         let shared = &self.table.shared;
-        let row = keeper.rows[word];
+        let row = keeper.rows.get(word);
         let Some(digest) = row.digest else {
             unreachable!()
         };
         shared.fetch_add::<Lend>(&mut keeper.seat, word, NEW_WEIGHT as u64);
-        keeper.bounds[word] += NEW_WEIGHT;
+        let bound = keeper.bounds.get(word);
+        keeper.bounds.set(word, bound + NEW_WEIGHT);
         let seat = shared.split_seat::<Transit>(&mut keeper.seat);
         let hold = PinRecord {
             slot,
@@ -228,7 +231,8 @@ impl Pins {
         self.table
             .shared
             .fetch_or::<Condemn>(&mut keeper.seat, word, CONDEMNED);
-        keeper.rows[word] = in_phase(keeper.rows[word], Phase::Condemned);
+        let row = keeper.rows.get(word);
+        keeper.rows.set(word, in_phase(row, Phase::Condemned));
     }
 
     /// Makes a condemned slot live again.
@@ -246,7 +250,8 @@ impl Pins {
         self.table
             .shared
             .fetch_and::<Revive>(&mut keeper.seat, word, NOT_CONDEMNED);
-        keeper.rows[word] = in_phase(keeper.rows[word], Phase::Live);
+        let row = keeper.rows.get(word);
+        keeper.rows.set(word, in_phase(row, Phase::Live));
     }
 
     /// Frees a condemned slot without pins, or retires it in the last generation.
@@ -265,7 +270,7 @@ impl Pins {
         ensures unlent { slice_index keeper.old.bounds slot ≡ 0 → IsUnheld result }
     {
         let word = slot as usize;
-        let row = keeper.rows[word];
+        let row = keeper.rows.get(word);
         let generation = row.generation;
         let old = clear_word(&row);
         let next = reclaimed(row);
@@ -274,11 +279,11 @@ impl Pins {
         let found = shared.compare_exchange::<Reclaiming>(&mut keeper.seat, word, old, new);
         if found != old {
             let weight = unpack(found).weight;
-            keeper.bounds[word] = weight;
+            keeper.bounds.set(word, weight);
             return Reclaim::Held { weight };
         }
-        keeper.rows[word] = next;
-        keeper.bounds[word] = 0;
+        keeper.rows.set(word, next);
+        keeper.bounds.set(word, 0);
         if generation == LAST_GENERATION {
             return Reclaim::Retired;
         }
@@ -303,7 +308,7 @@ impl Pins {
         let word = hold.slot as usize;
         shared.join_seat::<Transit>(&mut keeper.seat, seat);
         let found = shared.load::<Look>(&mut keeper.seat, word);
-        keeper.bounds[word] = unpack(found).weight;
+        keeper.bounds.set(word, unpack(found).weight);
         let seat = shared.split_seat::<Transit>(&mut keeper.seat);
         Pin { hold, seat }
     }

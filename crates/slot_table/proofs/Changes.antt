@@ -1,20 +1,15 @@
 -- The invariant of a table with its index and its stack, through each change of one slot.
-use Rattle.std.proofs.Common.{◌≡◌, ℕ, ◌+◌, ◌*◌, ◌<◌, ◌≤◌, ◌==◌, Bool, true, false, cond, nat_lt, List, [], ◌∷◌, ◌++◌, length, length-append, set, get_or, Some, None, refl, sym, ap, ◌∙◌, subst, inl, inr, arith}
-use Rattle.std.specs.Prelude.{count_by, replicate}
+use Rattle.std.proofs.Common.{◌≡◌, ℕ, ◌+◌, ◌<◌, ◌≤◌, Bool, true, false, cond, List, [], ◌∷◌, ◌++◌, length, length-append, set, get_or, Some, None, refl, sym, ap, ◌∙◌, subst, inl, inr, arith}
 use Rattle.std.specs.Option.{option_map_or}
 use Rattle.std.specs.BTreeMap as tree
 use Rattle.std.specs.Map.{lookup}
-use Prim.Native.Nat.{zero, suc}
-use Rattle.std.proofs.lemmas.Bool.Decides.{nat_tests}
-use Rattle.std.proofs.lemmas.List.{length-replicate}
-use Rattle.std.proofs.lemmas.List.Folds.{sum_by-replicate}
 use Rattle.std.proofs.Math.ListN.{length-set}
 use Rattle.std.proofs.lemmas.Option.{none-some}
-use Rattle.blob_digest.specs.Slots.{greatest_slots}
 use Rattle.spec_lib.specs.Texts.{Text, text_cmp, same_text}
 use Rattle.slot_table.specs.declared.phase.Phase.TheVariants as phase
-use Rattle.slot_table.specs.Slots.{Slot, StoredBlob, SlotContent, Free, Used, Retired, stored_blob_in, stored_blob_at, phase_at, has_digest, is_free, slot_of, free_slots, fill, on_stored_blob, content_with, freed_slot, retire, empty_slot, IsTable}
+use Rattle.slot_table.specs.Slots.{Slot, StoredBlob, SlotContent, Free, Used, Retired, stored_blob_in, stored_blob_at, phase_at, has_digest, is_free, slot_of, free_slots, fill, on_stored_blob, content_with, freed_slot, retire, IsTable}
 use Rattle.slot_table.specs.Indexes.{is_free_at, IndexesDigests, IsSlotIndex}
+use Rattle.slot_table.specs.SlotSets.{contains_slot, HasOrphans}
 use Rattle.slot_table.proofs.Finding.{condemned_within}
 use Rattle.slot_table.proofs.Writes.{held-table, emptied-table, placed-table}
 use Rattle.slot_table.proofs.Indexing.{slot_of_none, tells, finds-kept, finds-placed, finds-emptied}
@@ -114,41 +109,34 @@ table_retired slots k old index into stack room table kept condemned is at =
       },
     )
 
--- a new table's slots are free
-empty_at : (n first k : ℕ) → is_free_at (replicate n (empty_slot first)) k ≡ nat_lt k n
-empty_at zero first k = grind (arith, nat_tests)
-empty_at (suc n) first zero = grind (arith, nat_tests)
-empty_at (suc n) first (suc k) =
-    let rest : is_free_at (replicate n (empty_slot first)) k ≡ nat_lt k n = empty_at n first k in
-    let one : nat_lt k n ≡ nat_lt (suc k) (suc n) = grind (arith, nat_tests) in
-    rest ∙ one
+-- a table without rows
+pub opened : (index : tree.BTreeMap Text ℕ) (words : List ℕ) (room : ℕ) → tree.IsEmpty index → ((k : ℕ) → contains_slot words k ≡ false) → IsTable [] × IsSlotIndex [] index [] room × HasOrphans [] words
+opened index words room empty none = (
+  record {
+    few = omega arith;
+    distinct = λ k m g h at_k at_m e. absurd (none-some g at_k);
+    unlinked = λ k h at_k c. absurd (none-some h at_k);
+  },
+  record {
+    found = λ d. ap (lookup (tree.is_at (text_cmp d))) empty ∙ sym (slot_of_none [] d (λ k h at_k e. none-some h at_k));
+    stacked = λ k. refl;
+    counted = refl;
+    roomy = omega arith;
+  },
+  record {
+    each = λ k. none k;
+    roomy = omega arith;
+  },
+)
 
--- the slots have no blob
-none_at : (n first k : ℕ) → stored_blob_at (replicate n (empty_slot first)) k ≡ None
-none_at zero first k = refl
-none_at (suc n) first zero = refl
-none_at (suc n) first (suc k) = none_at n first k
-
--- a new table
-pub opened : (n first : ℕ) (index : tree.BTreeMap Text ℕ) (stack : List ℕ) (room : ℕ) → n ≤ greatest_slots → tree.IsEmpty index → ((k : ℕ) → count_by (λ m. m == k) stack ≡ cond (nat_lt k n) 1 0) → length stack ≡ n → n ≤ room →
-    IsTable (replicate n (empty_slot first)) × IsSlotIndex (replicate n (empty_slot first)) index stack room
-opened n first index stack room few empty stacks long le =
-    let slots : List Slot = replicate n (empty_slot first) in
-    let size : length slots ≡ n = length-replicate n (empty_slot first) in
-    let all : free_slots slots ≡ n * 1 = sum_by-replicate (λ s. cond (is_free s) 1 0) n (empty_slot first) in
-    let none = λ (k : ℕ) (h : StoredBlob) (e : stored_blob_at slots k ≡ Some h). none-some h (sym (none_at n first k) ∙ e) in (
-      record {
-        few = omega arith;
-        distinct = λ k m g h at_k at_m e. absurd (none k g at_k);
-        unlinked = λ k h at_k c. absurd (none k h at_k);
-      },
-      record {
-        found = λ d. ap (lookup (tree.is_at (text_cmp d))) empty ∙ sym (slot_of_none slots d (λ k h at_k e. none k h at_k));
-        stacked = λ k. stacks k ∙ ap (λ b. cond b 1 0) (sym (empty_at n first k));
-        counted = omega arith;
-        roomy = omega arith;
-      },
-    )
+-- an index with the same entries
+pub index_unchanged : (slots : List Slot) (index into : tree.BTreeMap Text ℕ) (stack : List ℕ) (room : ℕ) → tree.IsUnchanged index into → IsSlotIndex slots index stack room → IsSlotIndex slots into stack room
+index_unchanged slots index into stack room same kept = record {
+  found = λ d. ap (lookup (tree.is_at (text_cmp d))) same ∙ kept.found d;
+  stacked = kept.stacked;
+  counted = kept.counted;
+  roomy = kept.roomy;
+}
 
 -- an index without the last inserted digest finds the same as before
 pub taken_back : (slots : List Slot) (k : ℕ) (digest : Text) (index into back : tree.BTreeMap Text ℕ) → slot_of slots digest ≡ None → IndexesDigests slots index →

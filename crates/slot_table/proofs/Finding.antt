@@ -14,10 +14,12 @@ use Rattle.spec_lib.specs.Texts.{Text, same_text}
 use Rattle.slot_table.specs.declared.phase.Phase.TheVariants as phase
 use Rattle.slot_table.specs.Slots.{Slot, StoredBlob, SlotContent, Free, Used, Retired, stored_blob_in, stored_blob_at, phase_in, slot_of, has_digest, phase_at, empty_slot}
 
-not_retired_live : phase.Retired ≡ phase.Live → {B : Type 0} → B
+-- a retired slot is not live
+pub not_retired_live : phase.Retired ≡ phase.Live → {B : Type 0} → B
 not_retired_live e = cc
 
-not_retired_condemned : phase.Retired ≡ phase.Condemned → {B : Type 0} → B
+-- a retired slot is not condemned
+pub not_retired_condemned : phase.Retired ≡ phase.Condemned → {B : Type 0} → B
 not_retired_condemned e = cc
 
 -- a live slot is one of the slots

@@ -4,3 +4,4 @@ pub mod Indexing
 pub mod Stacking
 pub mod Changes
 pub mod SlotSets
+pub mod Padding

@@ -1,7 +1,6 @@
 -- The search in a set of slots, and the set of the slots without links after a write of one slot.
 use Rattle.std.proofs.Common.{◌≡◌, ◌≢◌, ℕ, ◌+◌, ◌-◌, ◌*◌, ◌/◌, ◌%◌, ◌^◌, ◌<◌, ◌≤◌, ◌==◌, Bool, true, false, cond, nat_lt, List, length, set, get_or, drop, Option, Some, None, refl, sym, ap, ◌∙◌, subst, inl, inr, arith}
-use Prim.Native.Nat.{zero, suc}
-use Rattle.std.specs.Prelude.{slice_get, slice_index, replicate, IfSome}
+use Rattle.std.specs.Prelude.{slice_get, slice_index, IfSome}
 use Rattle.std.specs.Option.{option_map_or}
 use Rattle.std.specs.Int.{bit_at}
 use Rattle.std.specs.List.{position_or_len}
@@ -9,7 +8,7 @@ use Rattle.std.proofs.Math.ListN.{length-set}
 use Rattle.std.proofs.lemmas.Bool.Decides.{eqb_tells, leb_tells, nat_tests}
 use Rattle.std.proofs.lemmas.Nat.{shr-shr}
 use Rattle.std.proofs.lemmas.Nat.Bits.{bit_at-zero, bit_at_above}
-use Rattle.std.proofs.lemmas.List.{get_or-set_same, get_or-set_other, get_or-drop, get_or_past, length-drop, length-replicate}
+use Rattle.std.proofs.lemmas.List.{get_or-set_same, get_or-set_other, get_or-drop, get_or_past, length-drop}
 use Rattle.std.proofs.lemmas.List.Sums.{position_or_len_is}
 use Rattle.std.proofs.lemmas.Option.{slice_get-get_or, slice_get_read, slice_get_within}
 use Rattle.slot_table.specs.Slots.{Slot, StoredBlob, SlotContent, Free, Used, Retired, stored_blob_in, is_orphan, orphan_from, content_with, link_up, empty_slot}
@@ -142,18 +141,6 @@ pub orphan-linked : (c : SlotContent) → option_map_or (λ h. h.links == 0) (st
 orphan-linked Free = refl
 orphan-linked (Used h) = grind (arith, nat_tests)
 orphan-linked Retired = refl
-
--- the slots of a new table have no blob
-new_at : (n first k : ℕ) → is_orphan_at (replicate n (empty_slot first)) k ≡ false
-new_at zero first k = refl
-new_at (suc n) first zero = refl
-new_at (suc n) first (suc k) = new_at n first k
-
-pub orphans-new : (n first : ℕ) (words : List ℕ) → ((k : ℕ) → contains_slot words k ≡ false) → n ≤ 64 * length words → HasOrphans (replicate n (empty_slot first)) words
-orphans-new n first words none roomy = record {
-  each = λ k. none k ∙ sym (new_at n first k);
-  roomy = rw (length-replicate n (empty_slot first)) roomy;
-}
 
 -- ---- the least slot without links
 

@@ -1,11 +1,11 @@
 -- The stack of free slots after a write of one slot.
-use Rattle.std.proofs.Common.{◌≡◌, ◌≢◌, ℕ, ◌+◌, ◌-◌, ◌<◌, ◌≤◌, Bool, true, false, cond, ◌==◌, ◌&&◌, nat_le, nat_lt, List, [], ◌∷◌, ◌++◌, length, set, get_or, Option, Some, None, refl, sym, ap, ◌∙◌, subst, inl, inr, arith}
+use Rattle.std.proofs.Common.{◌≡◌, ◌≢◌, ℕ, ◌+◌, ◌-◌, ◌<◌, ◌≤◌, Bool, true, false, cond, ◌==◌, List, [], ◌∷◌, ◌++◌, length, set, get_or, Option, Some, None, refl, sym, ap, ◌∙◌, subst, inl, inr, arith}
 use Prim.Native.Nat.{zero, suc}
 use Rattle.std.specs.Prelude.{slice_get, count_by}
 use Rattle.std.specs.Option.{option_map_or, option_to_list}
 use Rattle.std.proofs.lemmas.Bool.Decides.{eqb_tells, nat_tests}
 use Rattle.std.proofs.lemmas.Bool.{eq-eqb}
-use Rattle.std.proofs.lemmas.Option.{slice_get_within, slice_get_read, get_or_from_slice_get, none-some}
+use Rattle.std.proofs.lemmas.Option.{slice_get_within, slice_get_read, slice_get-get_or, get_or_from_slice_get, none-some}
 use Rattle.std.proofs.lemmas.List.Sums.{sum_by-set, sum_by-append, sum_by-cons, count_by-le-length}
 use Rattle.slot_table.specs.declared.phase.Phase.TheVariants as phase
 use Rattle.slot_table.specs.Slots.{Slot, SlotContent, Free, Used, Retired, stored_blob_in, stored_blob_at, phase_in, phase_at, is_free, free_slots}
@@ -79,7 +79,7 @@ free_slots-set slots k old new lt is =
 -- ---- the stack
 
 -- the number of occurrences in the stack after a push
-count-push : (stack : List ℕ) (k m : ℕ) → count_by (λ n. n == m) (stack ++ k ∷ []) ≡ count_by (λ n. n == m) stack + cond (k == m) 1 0
+pub count-push : (stack : List ℕ) (k m : ℕ) → count_by (λ n. n == m) (stack ++ k ∷ []) ≡ count_by (λ n. n == m) stack + cond (k == m) 1 0
 count-push stack k m =
     let f : ℕ → ℕ = λ n. cond (n == m) 1 0 in
     sum_by-append f stack (k ∷ []) ∙ ap (λ n. count_by (λ x. x == m) stack + n) (sum_by-cons f k [] ∙ (omega arith))
@@ -157,6 +157,11 @@ not_all_free (s ∷ slots) (suc k) lt used =
     at_most true few = omega arith
     at_most false few = omega arith
 
+-- a stack without a top is empty
+pub no_top : (stack : List ℕ) → slice_get stack (length stack - 1) ≡ None → stack ≡ []
+no_top [] none = refl
+no_top (x ∷ xs) none = absurd (none-some (get_or (x ∷ xs) (length (x ∷ xs) - 1) x) (sym none ∙ slice_get-get_or (x ∷ xs) (length (x ∷ xs) - 1) x (omega arith)))
+
 -- the stack after a pop, if the top is known
 pub popped : (stack rest : List ℕ) (n k : ℕ) (last : Option ℕ) → n ≡ length stack → slice_get stack (length stack - 1) ≡ Some k → ((d : ℕ) → 0 < n → last ≡ Some (get_or stack (n - 1) d)) → stack ≡ rest ++ option_to_list last → stack ≡ rest ++ k ∷ []
 popped stack rest n k last long top at items =
@@ -164,20 +169,3 @@ popped stack rest n k last long top at items =
     let some : 0 < n = omega arith in
     let is : get_or stack (n - 1) k ≡ k = ap (λ m. get_or stack (m - 1) k) long ∙ get_or_from_slice_get stack (length stack - 1) k k top in
     items ∙ ap (λ o. rest ++ option_to_list o) (at k some ∙ ap Some is)
-
--- ---- a new stack
-
--- the highest numbers below n are on the stack
-pub record ArePushed (n pushed : ℕ) (stack : List ℕ) : Type 0 where
-  pub within : pushed ≤ n
-  pub each : (k : ℕ) → count_by (λ x. x == k) stack ≡ cond (nat_le (n - pushed) k && nat_lt k n) 1 0
-
-one_more : (n pushed k : ℕ) → pushed < n → cond (nat_le (n - pushed) k && nat_lt k n) 1 0 + cond ((n - 1 - pushed) == k) 1 0 ≡ cond (nat_le (n - (pushed + 1)) k && nat_lt k n) 1 0
-one_more n pushed k lt = grind (arith, nat_tests)
-
--- the next number below them is pushed
-pub ArePushed-push : (n pushed : ℕ) (stack : List ℕ) → pushed < n → ArePushed n pushed stack → ArePushed n (pushed + 1) (stack ++ (n - 1 - pushed) ∷ [])
-ArePushed-push n pushed stack lt are = record {
-  within = omega arith;
-  each = λ k. count-push stack (n - 1 - pushed) k ∙ ap (λ m. m + cond ((n - 1 - pushed) == k) 1 0) (are.each k) ∙ one_more n pushed k lt;
-}

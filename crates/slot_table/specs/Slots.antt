@@ -1,5 +1,5 @@
 -- The slots of a store: their contents, and the queries and changes of them.
-use Rattle.std.specs.Prelude.{◌≡◌, ◌≢◌, ℕ, ◌+◌, ◌==◌, ◌≤◌, ◌&&◌, Bool, true, false, Option, Some, None, Result, Ok, Err, List, length, count_by, position, slice_get, slice_set, ◌-◌, cond, replicate, drop, nat_le, if◌then◌else◌}
+use Rattle.std.specs.Prelude.{◌≡◌, ◌≢◌, ℕ, ◌+◌, ◌==◌, ◌≤◌, ◌&&◌, ◌++◌, Bool, true, false, Option, Some, None, Result, Ok, Err, List, length, count_by, position, slice_get, slice_set, ◌-◌, cond, replicate, drop, nat_le, if◌then◌else◌}
 use Rattle.std.specs.Option.{option_map_or, option_map}
 use Rattle.blob_digest.specs.Slots.{greatest_slots}
 use Rattle.spec_lib.specs.Texts.{Text, same_text}
@@ -108,6 +108,10 @@ with_slot slots k f = option_map_or (λ s. slice_set slots k (f s)) (slice_get s
 -- a free slot of a generation
 abbrev pub empty_slot : ℕ → Slot
 empty_slot generation = record { generation = generation; content = Free }
+
+-- n slots: those with rows, and after them free slots of a generation
+abbrev pub padded_slots : ℕ → ℕ → List Slot → List Slot
+padded_slots n generation rows = rows ++ replicate (n - length rows) (empty_slot generation)
 
 -- the slots of a new table, if their number is within the limits
 abbrev pub initial_slots : ℕ → ℕ → Result (List Slot) Refusal

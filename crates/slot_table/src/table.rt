@@ -1,21 +1,21 @@
 //! The slots of a store, with an index of their digests and a stack of the free ones.
 
-ghost use Rattle.std.specs.Prelude.{◌≡◌, ◌+◌, ◌<◌, ◌≤◌, ◌^◌, length, replicate, None, Some, IfOk, IfErr, OnOk, OnErr, true, false};
+ghost use Rattle.std.specs.Prelude.{◌≡◌, ◌+◌, ◌<◌, ◌≤◌, ◌^◌, length, None, Some, IfOk, IfErr, OnOk, OnErr, true, false};
 ghost use Rattle.std.specs.Option.{option_map};
 ghost use Rattle.std.specs.Vec.{vec_len, vec_capacity};
 ghost use Rattle.std.specs.BTreeMap as tree;
 ghost use Rattle.blob_digest.specs.Slots.{greatest_slots};
 ghost use Rattle.blob_digest.specs.Outcomes.{Answers};
 ghost use Rattle.blob_digest.specs.declared.refusal.Refusal.TheVariants.{Memory, StoreFull};
-ghost use Rattle.slot_table.specs.Indexes.{HasEachOnce, ForgetsDigest};
-ghost use Rattle.slot_table.specs.Slots.{slot_of, blob_at, phase_at, links_at, generation_at, free_slots, empty_slot, orphan_from, initial_slots, with_slot, fill, on_stored_blob, link_up, link_down, lend, mark, freed_slot, retire, IsDistinct, IsUnlinked, RefusesFull, with_content};
+ghost use Rattle.slot_table.specs.Indexes.{ForgetsDigest, Restocks};
+ghost use Rattle.slot_table.specs.Slots.{slot_of, blob_at, phase_at, links_at, generation_at, free_slots, orphan_from, initial_slots, with_slot, fill, on_stored_blob, link_up, link_down, lend, mark, freed_slot, retire, IsDistinct, IsUnlinked, RefusesFull, with_content};
 ghost use Rattle.slot_table.specs.declared.phase.Phase.TheVariants as phase;
 
 use crate::phase::Phase;
 use crate::row::Row;
 use crate::slot_set::SlotSet;
 use blob_digest::{Blob, Digest, GREATEST_SLOTS, Refusal};
-use std::alloc::{AllocError, Global};
+use std::alloc::Global;
 use std::collections::BTreeMap;
 use std::marker::Model;
 use std::sync::Arc;
@@ -23,20 +23,23 @@ use std::sync::Arc;
 /// The slots of a store, 1 to 2^24, each with its generation and its content.
 ///
 /// A slot is identified by its number, from 0 on. No digest has two slots, and a condemned blob has no links.
-/// Contracts see the list of the slots. An index maps the digest of each used slot to the slot. A stack has the free
-/// slots, and a set has the used slots without links.
+/// Contracts see the list of the slots. Only slots that were used have rows. An index maps the digest of each used slot
+/// to the slot. A stack has the free slots with rows, and a set has the used slots without links.
 ///
 /// # Cost
 ///
 /// `find`, `place`, `free` and `retire` are logarithmic in the number of used slots. `orphans_from` passes over 64
-/// slots with links in one step. `new` is linear in the number of slots. Every other call is constant.
+/// slots with links in one step. `new` writes one bit for each slot. Every other call is constant.
 ///
 /// # Memory
 ///
-/// Only `new` and `place` allocate. `new` reserves room for all free slots on the stack.
+/// Only `new`, `place` and `replace` allocate. `new` reserves room for the rows and the stack of all slots, and does not
+/// touch it: no later call moves a row, and a slot takes memory from its first use on.
 #[derive(Drop)]
 pub struct SlotTable {
     alloc: Global,
+    slots: u32,
+    first_generation: u32,
     rows: Vec<Row>,
     index: BTreeMap<Digest, u32>,
     free: Vec<u32>,
@@ -44,41 +47,42 @@ pub struct SlotTable {
 }
 
 impl Model for SlotTable {
-    ghost use Rattle.std.specs.Prelude.{List};
+    ghost use Rattle.std.specs.Prelude.{List, length};
     ghost use Rattle.std.specs.Vec.{vec_capacity};
-    ghost use Rattle.slot_table.specs.Slots.{Slot, IsTable};
-    ghost use Rattle.slot_table.specs.Indexes.{IsSlotIndex};
+    ghost use Rattle.slot_table.specs.Slots.{Slot, IsTable, padded_slots};
+    ghost use Rattle.slot_table.specs.Indexes.{IsSlotIndex, HasRoom};
     ghost use Rattle.slot_table.specs.SlotSets.{HasOrphans};
 
     ghost Value = { List Slot };
 
-    ghost view = { λ a. a.rows.items };
+    ghost view = { λ a. padded_slots a.slots a.first_generation a.rows.items };
 
-    ghost invariant = { λ a. IsTable a.rows.items × IsSlotIndex a.rows.items a.index a.free.items (vec_capacity a.free) × HasOrphans a.rows.items a.orphans };
+    ghost invariant = { λ a. IsTable a.rows.items × IsSlotIndex a.rows.items a.index a.free.items (vec_capacity a.free) × HasOrphans a.rows.items a.orphans × HasRoom a.slots a.rows.items (vec_capacity a.rows) (vec_capacity a.free) (length a.orphans) };
 }
 
-/// Returns the rows of `slots` free slots of one generation.
-fn empty_rows(alloc: Global, slots: u32, generation: u32) -> Result<Vec<Row>, AllocError>
-    ensures { IfOk result (λ v. v.items ≡ replicate slots (empty_slot generation)) }
+/// Makes the row of the next slot and puts the slot on the stack, if the stack is empty and a slot has no row yet.
+fn restock(rows: &mut Vec<Row>, stack: &mut Vec<u32>, slots: u32, generation: u32)
+    requires few { vec_len rows.old ≤ slots }
+    requires row_room { slots ≤ vec_capacity rows.old }
+    requires stack_room { slots ≤ vec_capacity stack.old }
+    ensures made { Restocks slots generation rows.old.items stack.old.items
+        rows.new.items stack.new.items }
+    ensures row_room { vec_capacity rows.old ≤ vec_capacity rows.new }
+    ensures stack_room { vec_capacity stack.old ≤ vec_capacity stack.new }
 {
-    let mut rows = Vec::with_capacity(alloc, slots as usize)?;
-    for _ in 0..slots {
-        rows.push(Row::empty(generation))?;
+    if !stack.is_empty() {
+        return;
     }
-    Ok(rows)
-}
-
-/// Returns the stack of all slot numbers, with 0 on top.
-fn all_slots(alloc: Global, slots: u32) -> Result<Vec<u32>, AllocError>
-    ensures each { IfOk result (λ v. HasEachOnce slots v.items) }
-    ensures len { IfOk result (λ v. vec_len v ≡ slots) }
-    ensures room { IfOk result (λ v. slots ≤ vec_capacity v) }
-{
-    let mut stack = Vec::with_capacity(alloc, slots as usize)?;
-    for pushed in 0..slots {
-        stack.push(slots - 1 - pushed)?;
+    let next = rows.len() as u32;
+    if next == slots {
+        return;
     }
-    Ok(stack)
+    if rows.push(Row::empty(generation)).is_err() {
+        unreachable!();
+    }
+    if stack.push(next).is_err() {
+        unreachable!();
+    }
 }
 
 /// Removes the digest of the row's blob from the index.
@@ -109,11 +113,13 @@ impl SlotTable {
         if slots > GREATEST_SLOTS {
             return Err(Refusal::LimitReached);
         }
-        let rows = empty_rows(alloc, slots, first_generation)?;
-        let free = all_slots(alloc, slots)?;
+        let rows = Vec::with_capacity(alloc, slots as usize)?;
+        let free = Vec::with_capacity(alloc, slots as usize)?;
         let orphans = SlotSet::new(alloc, slots)?;
         Ok(SlotTable {
             alloc,
+            slots,
+            first_generation,
             rows,
             index: BTreeMap::new(alloc),
             free,
@@ -128,7 +134,7 @@ impl SlotTable {
         ensures distinct { IsDistinct self.now }
         ensures unlinked { IsUnlinked self.now }
     {
-        self.rows.len() as u32
+        self.slots
     }
 
     /// Returns the slot that has the blob of a digest, if there is one. Looks it up in the index.
@@ -143,7 +149,7 @@ impl SlotTable {
     pub fn free_count(&self) -> u32
         ensures { result ≡ free_slots self.now }
     {
-        self.free.len() as u32
+        self.free.len() as u32 + (self.slots - self.rows.len() as u32)
     }
 
     /// Returns a slot's phase.
@@ -151,7 +157,10 @@ impl SlotTable {
         requires { slot < length self.now }
         ensures { result ≡ phase_at self.now slot }
     {
-        self.rows[slot as usize].phase()
+        match self.rows.get(slot as usize) {
+            Some(row) => row.phase(),
+            None => Phase::Free,
+        }
     }
 
     /// Returns a slot's generation.
@@ -161,7 +170,10 @@ impl SlotTable {
         requires { slot < length self.now }
         ensures { result ≡ generation_at self.now slot }
     {
-        self.rows[slot as usize].generation()
+        match self.rows.get(slot as usize) {
+            Some(row) => row.generation(),
+            None => self.first_generation,
+        }
     }
 
     /// Returns the number of links to a slot's blob, or 0 if the slot has none.
@@ -169,7 +181,10 @@ impl SlotTable {
         requires { slot < length self.now }
         ensures { result ≡ links_at self.now slot }
     {
-        self.rows[slot as usize].links()
+        match self.rows.get(slot as usize) {
+            Some(row) => row.links(),
+            None => 0,
+        }
     }
 
     /// Returns a slot's blob, if it has one.
@@ -177,7 +192,10 @@ impl SlotTable {
         requires { slot < length self.now }
         ensures { option_map (λ b. b.now.value) result ≡ blob_at self.now slot }
     {
-        self.rows[slot as usize].blob()
+        match self.rows.get(slot as usize) {
+            Some(row) => row.blob(),
+            None => None,
+        }
     }
 
     /// Returns the first slot, from `slot` on, that has a blob without links, condemned blobs included.
@@ -214,6 +232,12 @@ impl SlotTable {
         ensures memory { IfErr result (λ e. e.0 ≡ Memory → 0 < free_slots self.old) }
         ensures err { OnErr result (self.new ≡ self.old) }
     {
+        restock(
+            &mut self.rows,
+            &mut self.free,
+            self.slots,
+            self.first_generation,
+        );
         let Some(slot) = self.free.last().copied() else {
             return Err((Refusal::StoreFull, blob));
         };

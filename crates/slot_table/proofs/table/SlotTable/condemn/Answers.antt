@@ -3,17 +3,36 @@ use Rattle.std.specs.Option.{option_map_or}
 use Rattle.std.specs.Vec.{vec_capacity}
 use Rattle.slot_table.specs.Slots.{on_stored_blob, mark}
 use Rattle.slot_table.proofs.Finding.{live_within}
-use Rattle.slot_table.proofs.Writes.{with_slot-set}
+use Rattle.slot_table.proofs.Padding.{live_row, links_at-padded, with_slot-padded, room-kept}
 use Rattle.slot_table.proofs.Changes.{changed}
 use Rattle.slot_table.proofs.SlotSets.{orphans-kept, orphan-held}
 use Rattle.slot_table.proofs.table.SlotTable.condemn.Goals as goal
 
 pub invariant_of-self : goal.invariant_of-self
 invariant_of-self c =
-    let found = rw (← c.self.view_is) at c.requires.live in
-    let kept = changed c.self.inside.rows.items c.args.slot c.index_mut.result.now (mark true) c.self.inside.index c.self.inside.free.items (vec_capacity c.self.inside.free)
-    c.self.invariant.0 c.self.invariant.1 (live_within c.self.inside.rows.items c.args.slot found) c.index_mut.ensures.value (λ h. refl) (λ h at_k is. sym (ap (λ o. option_map_or (λ x. x.links) o 0) at_k) ∙ (rw (← c.self.view_is) at c.requires.unlinked)) in
-    rw c.mark.ensures (kept.0, kept.1, orphans-kept c.self.inside.rows.items c.args.slot c.index_mut.result.now (on_stored_blob (mark true) c.index_mut.result.now) c.self.inside.orphans (live_within c.self.inside.rows.items c.args.slot found) c.index_mut.ensures.value (orphan-held (mark true) c.index_mut.result.now.content (λ h. refl)) c.self.invariant.2)
+    let n = c.self.inside.slots in
+    let g = c.self.inside.first_generation in
+    let rows = c.self.inside.rows.items in
+    let slot = c.args.slot in
+    let row = c.index_mut.result.now in
+    let live = live_row n g rows slot (rw (← c.self.view_is) at c.requires.live) in
+    let within = live_within rows slot live in
+    let kept = changed rows slot row (mark true) c.self.inside.index c.self.inside.free.items (vec_capacity c.self.inside.free)
+    c.self.invariant.0 c.self.invariant.1 within c.index_mut.ensures.value (λ h. refl) (λ h at_k is. sym (ap (λ o. option_map_or (λ x. x.links) o 0) at_k) ∙ sym (links_at-padded n g rows slot) ∙ (rw (← c.self.view_is) at c.requires.unlinked)) in
+    rw c.mark.ensures (
+      kept.0,
+      kept.1,
+      orphans-kept rows slot row (on_stored_blob (mark true) row) c.self.inside.orphans within c.index_mut.ensures.value (orphan-held (mark true) row.content (λ h. refl)) c.self.invariant.2,
+      room-kept slot (on_stored_blob (mark true) row) c.self.invariant.3,
+    )
 
 pub returns : goal.returns
-returns c = rw (← c.self.view_is) (with_slot-set c.self.inside.rows.items c.args.slot c.index_mut.result.now c.mark.new.self (on_stored_blob (mark true)) (live_within c.self.inside.rows.items c.args.slot (rw c.self.view_is c.requires.live)) c.index_mut.ensures.value c.mark.ensures)
+returns c =
+    let n = c.self.inside.slots in
+    let g = c.self.inside.first_generation in
+    let rows = c.self.inside.rows.items in
+    let slot = c.args.slot in
+    let row = c.index_mut.result.now in
+    let live = live_row n g rows slot (rw (← c.self.view_is) at c.requires.live) in
+    let within = live_within rows slot live in
+    rw (← c.self.view_is) (with_slot-padded n g rows slot row c.mark.new.self (on_stored_blob (mark true)) within c.index_mut.ensures.value c.mark.ensures)

@@ -1,14 +1,18 @@
 use Rattle.std.specs.Vec.{vec_capacity}
-use Rattle.std.proofs.Common.{◌≡◌, ◌≤◌, length, arith}
+use Rattle.std.proofs.Common.{◌≤◌, arith}
 use Rattle.blob_digest.specs.Slots.{greatest_slots}
 use Rattle.slot_table.proofs.Changes.{opened}
-use Rattle.slot_table.proofs.SlotSets.{orphans-new}
 use Rattle.slot_table.proofs.table.SlotTable.new.Goals as goal
 
 pub invariant_of-result : goal.invariant_of-result
 invariant_of-result c =
     let few : c.args.slots ≤ greatest_slots = omega arith in
-    let size = c.in_ok-free.ensures.len in
-    let long : length c.in_ok-free.free.items ≡ c.args.slots = omega arith in
-    let kept = opened c.args.slots c.args.first_generation c.new-2.result c.in_ok-free.free.items (vec_capacity c.in_ok-free.free) few c.new-2.ensures.empty c.in_ok-free.ensures.each long c.in_ok-free.ensures.room in
-    rw c.in_ok-rows.ensures (kept.0, kept.1, orphans-new c.args.slots c.args.first_generation c.in_ok-orphans.orphans c.in_ok-orphans.ensures.empty c.in_ok-orphans.ensures.room)
+    let row_room : c.args.slots ≤ vec_capacity c.in_ok-rows.rows = c.in_ok-rows.ensures.capacity in
+    let stack_room : c.args.slots ≤ vec_capacity c.in_ok-free.free = c.in_ok-free.ensures.capacity in
+    let kept = opened c.new-2.result c.in_ok-orphans.orphans (vec_capacity c.in_ok-free.free) c.new-2.ensures.empty c.in_ok-orphans.ensures.empty in
+    rw (c.in_ok-rows.ensures.items, c.in_ok-free.ensures.items) (
+      kept.0,
+      kept.1,
+      kept.2,
+      record { made = omega arith; few = few; rows_fit = row_room; stack_fits = stack_room; set_fits = c.in_ok-orphans.ensures.room },
+    )
