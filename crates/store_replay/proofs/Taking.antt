@@ -82,8 +82,3 @@ whole id frames c v (before, of) g none =
     let long : length v.replayed - length (payloads frames) ≡ length before = omega (arith, ap length all, length-append before (payloads frames)) in
     let front : replayed_before v frames ≡ before = ap (λ n. take n v.replayed) long ∙ ap (take (length before)) all ∙ take_at before (payloads frames) (length before) refl in
     all ∙ ap (λ t. t ++ payloads frames) (sym front)
-
--- nothing was left over before
-pub alone : (old new : DeviceView Step) (left payload rest more : List ℕ) → left ≡ [] → more ≡ rest → Continues old new payload rest → Continues old new (left ++ payload) more
-alone old new left payload rest more none same c =
-    subst (λ (l : List ℕ). Continues old new (l ++ payload) more) (sym none) (subst (λ (m : List ℕ). Continues old new payload m) (sym same) c)

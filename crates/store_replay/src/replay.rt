@@ -108,6 +108,24 @@ impl<'s, W: Wait, S: Naming, O: ChangeSink> Players<'s, W, S, O> {
         }
     }
 
+    /// Plays the whole records that the bytes begin with, and copies the bytes after them.
+    fn replay_copied(
+        &mut self,
+        alloc: Global,
+        progress: Progress<S>,
+        bytes: &[u8],
+    ) -> Result<(Progress<S>, Vec<u8>), Fault>
+        ensures { IfOk result (λ r. Continues progress.device r.0.device bytes.now r.1.items) }
+    {
+        match self.replay_records(progress, bytes) {
+            Ok((progress, rest)) => match copied(alloc, rest, progress.replayed) {
+                Ok(rest) => Ok((progress, rest)),
+                Err(fault) => Err(fault),
+            },
+            Err(fault) => Err(fault),
+        }
+    }
+
     /// Plays the whole records that the joined bytes begin with: those that were left over, and a payload. Returns also
     /// the bytes that are left over then.
     fn replay_payload(
@@ -120,17 +138,13 @@ impl<'s, W: Wait, S: Naming, O: ChangeSink> Players<'s, W, S, O> {
         ensures { IfOk result (λ r. Continues progress.device r.0.device (left.items ++ payload.now) r.1.items) }
     {
         if left.is_empty() {
-            let (progress, rest) = self.replay_records(progress, payload)?;
-            let rest = copied(alloc, rest, progress.replayed)?;
-            return Ok((progress, rest));
+            return self.replay_copied(alloc, progress, payload);
         }
         let mut joined = left;
         if joined.extend_from_slice(payload).is_err() {
             return Err(Cause::Memory.at(progress.replayed));
         }
-        let (progress, rest) = self.replay_records(progress, joined.as_slice())?;
-        let rest = copied(alloc, rest, progress.replayed)?;
-        Ok((progress, rest))
+        self.replay_copied(alloc, progress, joined.as_slice())
     }
 }
 
