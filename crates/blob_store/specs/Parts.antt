@@ -12,7 +12,10 @@ use Rattle.blob_digest.specs.declared.refusal.Refusal.{Refusal}
 use Rattle.store_book.specs.BookState.{BookState, coded_state}
 use Rattle.store_book.specs.Openings.{OpensBook, RefusesBook, tenants_shown, rules_of}
 use Rattle.store_book.specs.declared.config.Config.{Config}
-use Rattle.locked_book.specs.Names.{LedgerName, StoreNames, setting_of}
+use Rattle.durable_log.specs.Views.{BacklogView}
+use Rattle.store_model.specs.Amounts.{zero_amounts}
+use Rattle.locked_book.specs.Totals.{Counts}
+use Rattle.locked_book.specs.Names.{BelongsTo, IsNewCatalog, LedgerName, StoreNames, setting_of}
 use Rattle.locked_book.specs.declared.policy.LogPolicy.{LogPolicy}
 use Rattle.locked_book.specs.declared.policy.LogPolicy.TheVariants as policy
 
@@ -85,6 +88,18 @@ names_of p = record {
   policy = p.policy;
   opening = p.book.catalog;
 }
+
+-- parts that have the names of a store: its pins, its new book, counters of nothing, an empty history, and the policy of its log
+abbrev pub AreOfNewStore : StoreNames → TableId → BookState → Counts → BacklogView Step → LogPolicy → Type 0
+AreOfNewStore names pins book counts backlog p =
+    (pins ≡ names.table)
+    × IsNewCatalog book.catalog
+    × BelongsTo book names
+    × (book.catalog ≡ names.opening)
+    × (counts ≡ record { totals = zero_amounts; settled = zero_amounts; desks = 0 })
+    × (backlog.history ≡ [])
+    × (backlog.writers ≡ 0)
+    × (p ≡ names.policy)
 
 -- the parts have the new book of this configuration
 abbrev pub OpensParts : Config → PartsView → Type 0

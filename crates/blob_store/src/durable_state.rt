@@ -11,7 +11,7 @@ use std::sync::Wait;
 
 impl<S: Naming> Store<S> {
     /// Lets a desk see the store's whole history, and states that the log of this history restores the store, as
-    /// `LockedBook::reveal_durable_state` does.
+    /// `Kept::reveal_durable_state` does.
     ///
     /// No step is made, and nothing is counted. `compare` states that the histories of all desks are one.
     pub fn reveal_durable_state(&self, rt: &impl Wait, desk: &mut Desk<S>)
@@ -20,7 +20,7 @@ impl<S: Naming> Store<S> {
         self.locked(rt).reveal_durable_state(desk);
     }
 
-    /// Lets a desk see the store's whole history, and states what the disk of the log has of it, as `LockedBook::reveal_disk`
+    /// Lets a desk see the store's whole history, and states what the disk of the log has of it, as `Kept::reveal_disk`
     /// does. Returns the device unchanged.
     pub fn reveal_disk<D: Disk>(
         &self,
@@ -38,7 +38,7 @@ impl<S: Naming> Store<S> {
     }
 
     /// Lets a desk see the store's whole history. Returns the device unchanged, and whether its disk has the whole log of
-    /// this history and no more, as `LockedBook::is_on_disk` does.
+    /// this history and no more, as `Kept::is_on_disk` does.
     ///
     /// A start asks this after a replay: the store's history then has the records on the disk, and no others.
     pub fn is_on_disk<D: Disk>(

@@ -24,8 +24,8 @@ mod workers;
 pub use commit::SharedLogDevice;
 pub use lease::Lease;
 pub use locked_book::{
-    Counters, Desk, DroppableDesk, Kept, LEDGER_PARTS, LockedBook, LogPolicy, MAX_DESKS, Naming,
-    Settled, Totals,
+    Counters, Desk, DroppableDesk, Kept, LEDGER_PARTS, LogPolicy, MAX_DESKS, Naming, Settled,
+    Totals,
 };
 pub use parts::Parts;
 pub use playing::{MAX_WORKERS, Played, PlayedToEnd, play, play_to_end};

@@ -1,12 +1,12 @@
 //! The parts that a store is made of.
 
 ghost use Rattle.std.specs.Prelude.{◌≡◌, IfOk, IfErr};
-ghost use Rattle.blob_store.specs.Parts.{OpensParts, RefusesParts};
+ghost use Rattle.blob_store.specs.Parts.{AreOfNewStore, OpensParts, RefusesParts, names_of};
 
 use blob_digest::Refusal;
-use durable_log::HistoryMark;
+use durable_log::{Backlog, HistoryMark, UnopenedDevice};
 use ghost_log::SharedLog;
-use locked_book::{LEDGER_PARTS, LogPolicy, Step};
+use locked_book::{Counters, LEDGER_PARTS, LogPolicy, Naming, Step, StoreLog};
 use pin_table::Pins;
 use std::alloc::Global;
 use std::marker::Model;
@@ -93,4 +93,46 @@ impl Parts {
             policy,
         })
     }
+
+    /// Gives the parts the names of a store. Also returns the right to open the device of its log.
+    pub(crate) fn named<S: Naming>(self) -> (NamedParts<S>, UnopenedDevice<Step, StoreLog<S>>)
+        requires named { names_of self ≡ S.names }
+        ensures { AreOfNewStore S.names (result.0).pins (result.0).book (result.0).counters (result.0).backlog (result.0).policy }
+    {
+        let Parts {
+            alloc,
+            book,
+            pins,
+            commands,
+            received,
+            closed,
+            abandoned,
+            log,
+            durable_marks,
+            taken_marks,
+            policy,
+        } = self;
+        let counters = Counters::new(commands, received, closed, abandoned);
+        let (backlog, unopened) = Backlog::new(alloc, log, durable_marks, taken_marks);
+        let parts = NamedParts {
+            alloc,
+            pins,
+            book,
+            counters,
+            backlog,
+            policy,
+        };
+        (parts, unopened)
+    }
+}
+
+/// The parts of a store with the names of the type parameter.
+#[derive(Drop)]
+pub(crate) struct NamedParts<S: Naming> {
+    pub(crate) alloc: Global,
+    pub(crate) pins: Pins,
+    pub(crate) book: Book,
+    pub(crate) counters: Counters<S>,
+    pub(crate) backlog: Backlog<Step, StoreLog<S>>,
+    pub(crate) policy: LogPolicy,
 }

@@ -11,7 +11,7 @@ use crate::parts::Parts;
 use crate::store::Store;
 use crate::workers::{Job, WorkerResult, play_all};
 use blob_digest::Refusal;
-use locked_book::{Desk, LockedBook, Naming, Settled};
+use locked_book::{Desk, Kept, Naming, Settled};
 use script_player::{Gate, RepliesByRow, RowList, Worker, count_by_worker};
 use std::alloc::Global;
 use std::collections::VecDeque;
@@ -37,7 +37,7 @@ pub struct PlayedToEnd<S: Naming, L: RowList> {
     /// One reply for each row, in the order of the rows.
     pub replies: RepliesByRow<L>,
     /// The book after the last row, with its totals and its history.
-    pub book: LockedBook<S>,
+    pub book: Kept<S>,
 }
 
 /// Allocated room for the values that workers begin and end with.
@@ -234,7 +234,7 @@ pub fn play<
 /// Returns the replies and the book if all rows were played and the history has only the workers' steps.
 fn end_of_play<S: Naming, L: RowList>(
     played: Option<RepliesByRow<L>>,
-    book: LockedBook<S>,
+    book: Kept<S>,
     is_exclusive: bool,
 ) -> Result<PlayedToEnd<S, L>, Refusal>
     ensures { MatchResult result (IsEndOf is_exclusive played book) (λ e. e ≡ Memory) }

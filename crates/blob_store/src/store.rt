@@ -10,7 +10,7 @@ ghost use Rattle.store_model.specs.Histories.{SweepCall};
 ghost use Rattle.locked_book.specs.History.{AreFreshDesks, IsUnread, Makes, OneBegins};
 ghost use Rattle.locked_book.specs.Logging.{manifest_bytes};
 ghost use Rattle.locked_book.specs.Found.{AreTotalsOfSome, InSomeBook, IsSweepOfSome};
-ghost use Rattle.blob_store.specs.Parts.{names_of};
+ghost use Rattle.blob_store.specs.Parts.{AreOfNewStore, names_of};
 ghost use Rattle.blob_store.specs.StoreCalls.{DeletesBlob, LeasesBlob, MountsBlob, RemovesRepo};
 ghost use Rattle.blob_store.specs.StoreCalls.{DeletesManifest, GetsManifest, PutsManifest};
 ghost use Rattle.blob_store.specs.StoreCalls.{AreBalancedTotals, AreSumsOfDesks};
@@ -20,11 +20,11 @@ ghost use Rattle.blob_store.specs.StoreCalls.{IsFullLease, PrintsBook, RefusesNo
 ghost use Rattle.blob_digest.specs.declared.refusal.Refusal.TheVariants.{LimitReached, ManifestInvalid, Memory, SizeInvalid};
 
 use crate::lease::Lease;
-use crate::parts::Parts;
+use crate::parts::{NamedParts, Parts};
 use blob_digest::{Digest, Refusal, RepoName};
-use durable_log::{Backlog, IdleDevice};
+use durable_log::IdleDevice;
 use locked_book::{
-    Counters, Desk, LockedBook, LogPolicy, Naming, Settled, Step, StoreLog, Totals, manifest_record,
+    Desk, Kept, LogPolicy, Naming, Settled, Step, StoreLog, Totals, manifest_record,
 };
 use log_disk::Disk;
 use oci_manifest::{Manifest, read};
@@ -40,7 +40,7 @@ use store_book::{Mount, Swept};
 
 /// A store that threads share: the pins, and one lock around the book with the totals.
 ///
-/// Each command calls the function of its name of `LockedBook` under the lock. `append`, `close` and `put_manifest`
+/// Each command calls the function of its name of `Kept` under the lock. `append`, `close` and `put_manifest`
 /// take the lock for two such calls, and copy and hash between them without it. The contract of a command states that
 /// the caller's desk makes the command's step with this result (`Makes`). The desk's amounts grow by what the step
 /// counts, and the step is added to the store's history. Every call may wait for the lock.
@@ -54,7 +54,7 @@ use store_book::{Mount, Swept};
 #[derive(Drop)]
 pub struct Store<S: Naming> {
     pub(crate) pins: Pins,
-    book: Mutex<LockedBook<S>>,
+    book: Mutex<Kept<S>>,
     pub(crate) policy: LogPolicy,
     /// Stays 0: a thread that waits for the lock sleeps on it until its pause is over.
     rest: AtomicU64,
@@ -99,23 +99,8 @@ impl<S: Naming> Store<S> {
     pub fn new(parts: Parts) -> Store<S>
         requires named { names_of parts ≡ S.names }
     {
-        let Parts {
-            alloc,
-            book,
-            pins,
-            commands,
-            received,
-            closed,
-            abandoned,
-            log,
-            durable_marks,
-            taken_marks,
-            policy,
-        } = parts;
-        let counters = Counters::new(commands, received, closed, abandoned);
-        let (backlog, _) = Backlog::new(alloc, log, durable_marks, taken_marks);
-        let book = LockedBook::new(alloc, book, counters, policy, backlog);
-        Store::of_book(alloc, pins, policy, book)
+        let (parts, _) = parts.named();
+        Store::of_parts(parts)
     }
 
     /// Makes the store of these parts, whose names are those of the type parameter, with an empty log on a disk.
@@ -127,32 +112,24 @@ impl<S: Naming> Store<S> {
         requires synced { D.synced disk ≡ S.names.log.base }
         ensures { (result.1.written ≡ D.written disk) × (result.1.durable ≡ D.synced disk) }
     {
-        let Parts {
-            alloc,
-            book,
-            pins,
-            commands,
-            received,
-            closed,
-            abandoned,
-            log,
-            durable_marks,
-            taken_marks,
-            policy,
-        } = parts;
-        let counters = Counters::new(commands, received, closed, abandoned);
-        let (mut backlog, unopened) = Backlog::new(alloc, log, durable_marks, taken_marks);
-        let device = unopened.open(alloc, &mut backlog, disk, 0);
-        let book = LockedBook::new(alloc, book, counters, policy, backlog);
-        let store = Store::of_book(alloc, pins, policy, book);
-        (store, IdleDevice::new(device))
+        let (mut parts, unopened) = parts.named();
+        let device = unopened.open(parts.alloc, &mut parts.backlog, disk, 0);
+        (Store::of_parts(parts), IdleDevice::new(device))
     }
 
-    /// Makes the store of a book and its pins.
-    fn of_book(alloc: Global, pins: Pins, policy: LogPolicy, book: LockedBook<S>) -> Store<S>
-        requires table { pins ≡ S.names.table }
-        requires policy { policy ≡ S.names.policy }
+    /// Makes the store of parts that have its names.
+    fn of_parts(parts: NamedParts<S>) -> Store<S>
+        requires { AreOfNewStore S.names parts.pins parts.book parts.counters parts.backlog parts.policy }
     {
+        let NamedParts {
+            alloc,
+            pins,
+            book,
+            counters,
+            backlog,
+            policy,
+        } = parts;
+        let book = Kept::new(alloc, book, counters, policy, backlog);
         Store {
             pins,
             book: Mutex::new(book),
@@ -163,7 +140,7 @@ impl<S: Naming> Store<S> {
     }
 
     /// Returns the value under the lock, after the last use of the store.
-    pub(crate) fn into_book(self) -> LockedBook<S> {
+    pub(crate) fn into_book(self) -> Kept<S> {
         let Store {
             pins: _,
             book,
@@ -178,7 +155,7 @@ impl<S: Naming> Store<S> {
     /// thread first spins for about that long. A thread that pauses is not woken: the holder pays for no wake, and
     /// continues while the book's memory is in its cache. After `LOCK_ROUNDS` rounds the thread sleeps until it is
     /// woken.
-    pub(crate) fn locked(&self, rt: &impl Wait) -> MutexGuard<'_, LockedBook<S>> {
+    pub(crate) fn locked(&self, rt: &impl Wait) -> MutexGuard<'_, Kept<S>> {
         for _ in 0..LOCK_ROUNDS {
             if let Some(book) = self.book.try_lock() {
                 return book;

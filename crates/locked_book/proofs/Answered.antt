@@ -1,16 +1,20 @@
 -- Facts about the result of an accepted command.
-use Rattle.std.proofs.Common.{◌≡◌, ℕ, Bool, true, List, Option, Some, Result, Ok, Err, sym, ap, ◌∙◌}
-use Rattle.std.specs.Prelude.{OnErr, OnOk}
+use Rattle.std.proofs.Common.{◌≡◌, ℕ, Bool, true, false, List, Option, Some, Result, Ok, Err, length, sym, ap, ◌∙◌}
+use Rattle.std.specs.Prelude.{IfOk, OnErr, OnOk, if◌then◌else◌, nat_lt}
+use Rattle.std.specs.Option.{ok_or}
 use Rattle.std.specs.FinMap.{get}
 use Rattle.std.specs.Io.KnownBytes.{Appends}
 use Rattle.blob_digest.specs.Digests.{sha256_text}
-use Rattle.blob_digest.specs.declared.refusal.Refusal.TheVariants.{BlobUnknown, ManifestUnknown, TooManyReaders}
+use Rattle.blob_digest.specs.Outcomes.{Does}
+use Rattle.blob_digest.specs.declared.refusal.Refusal.{Refusal}
+use Rattle.blob_digest.specs.declared.refusal.Refusal.TheVariants.{BlobUnknown, LimitReached, ManifestInvalid, ManifestUnknown, SizeInvalid, TooManyReaders}
+use Rattle.oci_manifest.specs.Manifests.{refs_of, max_manifest}
 use Rattle.store_book.specs.BookState.{BookState}
 use Rattle.spec_lib.specs.Texts.{Text}
 use Rattle.store_model.specs.Catalog.{Resident, Catalog}
 use Rattle.store_model.specs.Invariant.{WellFormed}
 use Rattle.store_model.specs.BookText.{book_text}
-use Rattle.store_model.specs.Commands.{tenant, get_manifest, check_link, linked_blob, lease, with_leased, is_named}
+use Rattle.store_model.specs.Commands.{tenant, get_manifest, put_manifest, add_manifest, has_manifest, lacks_room_for, is_full_of_manifests, check_all_links, check_link, linked_blob, lease, with_leased, is_named}
 use Rattle.spec_lib.specs.Outcomes.{refuse}
 use Rattle.store_model.proofs.Commands.Accepted.{answer_by, left_by}
 use Rattle.spec_lib.proofs.Outcomes.{bound_ok, some_of_ok}
@@ -46,6 +50,26 @@ manifest_digest C repo digest bytes lawful answered =
     let a = bound_ok (tenant C repo) _ bytes answered in
     let law = lawful.manifests (repo, digest) bytes (some_of_ok _ ManifestUnknown bytes a.2) in
     sym law.name
+
+-- a put manifest is under its digest
+put_named : (C C' : Catalog) (repo bytes digest : Text) → put_manifest C repo bytes ≡ Ok (digest, C') → digest ≡ sha256_text bytes
+put_named C C' repo bytes digest stepped =
+    let a = bound_ok (tenant C repo) _ (digest, C') stepped in
+    let b = bound_ok (refuse (nat_lt max_manifest (length bytes)) SizeInvalid) _ (digest, C') a.2 in
+    let d = bound_ok (ok_or (refs_of bytes) ManifestInvalid) _ (digest, C') b.2 in
+    let e = bound_ok (check_all_links C repo d.0) _ (digest, C') d.2 in
+    by a.0 (has_manifest C repo (sha256_text bytes)) e.2
+  where
+    by : (t : ℕ) (b : Bool) → (if b then Ok (sha256_text bytes, C) else add_manifest C t repo bytes) ≡ Ok (digest, C') → digest ≡ sha256_text bytes
+    by t true h = sym (answer_by h)
+    by t false h =
+        let x = bound_ok (refuse (lacks_room_for C t repo) LimitReached) _ (digest, C') h in
+        let y = bound_ok (refuse (is_full_of_manifests C t repo) LimitReached) _ (digest, C') x.2 in
+        sym (answer_by y.2)
+
+pub put_digest : (C C' : Catalog) (repo bytes : Text) (result : Result Text Refusal) → Does (λ d. d) result C C' (put_manifest C repo bytes) → IfOk result (λ d. d ≡ sha256_text bytes)
+put_digest C C' repo bytes (Ok digest) does = put_named C C' repo bytes digest does
+put_digest C C' repo bytes (Err e) does = tt
 
 -- ---- the text
 

@@ -1,4 +1,4 @@
--- Each call of `Kept` is a step.
+-- Each call that has its outcome is a step.
 use Rattle.std.proofs.Common.{◌≡◌, ◌≢◌, ◌⊎◌, ℕ, Bool, true, false, Option, Some, None, Result, Ok, Err, refl, sym, ap, ◌∙◌, inl, inr, add-zero}
 use Rattle.std.specs.Prelude.{not}
 use Rattle.blob_digest.specs.declared.range.ByteRange.{ByteRange}

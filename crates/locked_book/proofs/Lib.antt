@@ -5,6 +5,7 @@ pub mod Rooms
 pub mod Keeping
 pub mod Additions
 pub mod Counted
+pub mod Performing
 pub mod Unread
 pub mod Wholes
 pub mod Views

@@ -11,7 +11,6 @@ use Rattle.atomic_table.proofs.send_lease.SendLease.TheSendSync as lease
 use Rattle.durable_log.specs.contracts.pending.Pending as Pending
 use Rattle.store_book.proofs.Sending.{book_send}
 use Rattle.locked_book.specs.declared.names.Naming.{Ghosts}
-use Rattle.locked_book.specs.contracts.locked.LockedBook as LockedBook
 use Rattle.locked_book.specs.contracts.kept.Kept as Kept
 use Rattle.locked_book.specs.contracts.counters.Counters as Counters
 use Rattle.locked_book.specs.contracts.history.History as History
@@ -20,17 +19,14 @@ use Rattle.locked_book.specs.contracts.droppable_desk.DroppableDesk as Droppable
 counters_send : (S : RattleType) (names : Ghosts S.Denot) → IsSend S → IsSend (Counters.the_row S names)
 counters_send S names s = search (share.the_send, ledger.the_send, sendable, crosses) depth 60 fits 20000
 
-kept_send : (S : RattleType) (names : Ghosts S.Denot) → IsSend S → IsSend (Kept.the_row S names)
-kept_send S names s = search (book_send, counters_send, sendable, crosses) depth 60 fits 20000
-
 pending_send : IsSend Pending.the_row
 pending_send = search (sendable, crosses) depth 60 fits 20000
 
 history_send : (S : RattleType) (names : Ghosts S.Denot) → IsSend S → IsSend (History.the_row S names)
 history_send S names s = search (table.the_send, lease.the_send, seat.the_send, pending_send, sendable, crosses) depth 60 fits 20000
 
-pub locked_book_send : (S : RattleType) (names : Ghosts S.Denot) → IsSend S → IsSend (LockedBook.the_row S names)
-locked_book_send S names s = search (kept_send, history_send, sendable, crosses) depth 60 fits 20000
+pub locked_book_send : (S : RattleType) (names : Ghosts S.Denot) → IsSend S → IsSend (Kept.the_row S names)
+locked_book_send S names s = search (book_send, counters_send, history_send, sendable, crosses) depth 60 fits 20000
 
 pub desk_send : (S : RattleType) (names : Ghosts S.Denot) → IsSend S → IsSend (DroppableDesk.the_row S names)
 desk_send S names s = search (share.the_send, badge.the_send, sendable, crosses) depth 60 fits 20000

@@ -6,7 +6,7 @@ use Rattle.std.specs.List.{sum_by}
 use Rattle.std.specs.FinMap.{FinMap, empty, entries, get, insert, remove}
 use Rattle.blob_digest.specs.declared.range.ByteRange.{ByteRange}
 use Rattle.blob_digest.specs.declared.refusal.Refusal.{Refusal}
-use Rattle.blob_digest.specs.declared.refusal.Refusal.TheVariants.{DigestInvalid, LimitReached, ManifestInvalid, SizeInvalid, StoreFull, UploadUnknown}
+use Rattle.blob_digest.specs.declared.refusal.Refusal.TheVariants.{DigestInvalid, LimitReached, ManifestInvalid, RepoInUse, SizeInvalid, StoreFull, UploadUnknown}
 use Rattle.spec_lib.specs.Outcomes.{◌>>=◌, refuse}
 use Rattle.blob_digest.specs.Digests.{sha256_text}
 use Rattle.blob_digest.proofs.KeyOrders.{number_cmp_total, exact_number}
@@ -18,7 +18,7 @@ use Rattle.spec_lib.specs.Texts.{Text}
 use Rattle.store_model.specs.Catalog.{SessionNumber, Chunks, CheckedIn, CheckedOutWith, Session, HandRecord, Catalog, session_number_cmp, received_length, next_number_of}
 use Rattle.store_model.specs.Invariant.{WellFormed}
 use Rattle.store_model.specs.declared.mount.Mount.{Mount}
-use Rattle.store_model.specs.Commands.{tenant, session, lacks_room_for, cannot_open, check_share, has_slot, is_full_for, is_digest_accepted, passes_share, start, mount, has_source, mounted_outcome, started_outcome, abandon, put_manifest, check_all_links, has_manifest, add_manifest, is_full_of_manifests, lease, take, put_back, after_cancel, finish}
+use Rattle.store_model.specs.Commands.{tenant, session, lacks_room_for, cannot_open, check_share, has_slot, is_full_for, is_digest_accepted, passes_share, start, mount, has_source, mounted_outcome, started_outcome, abandon, check_link, check_no_referrer, referrer, delete, manifest, delete_manifest, check_repo, is_in_use, remove_repo, put_manifest, check_all_links, has_manifest, add_manifest, is_full_of_manifests, lease, take, put_back, after_cancel, finish}
 use Rattle.store_model.proofs.Invariant.Sessions.{fresh}
 use Rattle.store_model.proofs.Commands.Hands.{home_chunks, received_length-with_chunk, taken_found, took, whole_long, IsProper}
 use Rattle.store_model.proofs.Commands.Accepted.{answer_by, left_by, session_found}
@@ -130,6 +130,26 @@ abandon_sums C C' repo number n stepped =
     let y = change.reserve in
     let z = change.bytes in
     subst (λ (D : Catalog). Sums C D 0 0 0 0 0 n) (left_by d.2) (record { hands = omega arith; reserve = omega arith; bytes = omega arith; setting = refl })
+
+pub delete_sums : (C C' : Catalog) (repo digest : Text) (u : Unit {0}) → delete C repo digest ≡ Ok (u, C') → Sums C C' 0 0 0 0 0 0
+delete_sums C C' repo digest u stepped =
+    let a = bound_ok (tenant C repo) _ (u, C') stepped in
+    let b = bound_ok (check_link C repo digest) _ (u, C') a.2 in
+    let d = bound_ok (check_no_referrer (referrer C repo digest)) _ (u, C') b.2 in
+    still_sums C C' (ap (λ (D : Catalog). D.sessions) (sym (left_by d.2))) (ap setting_of (sym (left_by d.2)))
+
+pub delete_manifest_sums : (C C' : Catalog) (repo digest : Text) (u : Unit {0}) → delete_manifest C repo digest ≡ Ok (u, C') → Sums C C' 0 0 0 0 0 0
+delete_manifest_sums C C' repo digest u stepped =
+    let a = bound_ok (tenant C repo) _ (u, C') stepped in
+    let b = bound_ok (manifest C repo digest) _ (u, C') a.2 in
+    still_sums C C' (ap (λ (D : Catalog). D.sessions) (sym (left_by b.2))) (ap setting_of (sym (left_by b.2)))
+
+pub remove_repo_sums : (C C' : Catalog) (repo : Text) (u : Unit {0}) → remove_repo C repo ≡ Ok (u, C') → Sums C C' 0 0 0 0 0 0
+remove_repo_sums C C' repo u stepped =
+    let a = bound_ok (tenant C repo) _ (u, C') stepped in
+    let b = bound_ok (check_repo C repo) _ (u, C') a.2 in
+    let d = bound_ok (refuse (is_in_use C repo) RepoInUse) _ (u, C') b.2 in
+    still_sums C C' (ap (λ (D : Catalog). D.sessions) (sym (left_by d.2))) (ap setting_of (sym (left_by d.2)))
 
 pub take_sums : (C C' : Catalog) (repo : Text) (number n : ℕ) (range : Option ByteRange) (hand : HandRecord) → take C repo number range n ≡ Ok (hand, C') → Sums C C' 1 n 0 0 0 0
 take_sums C C' repo number n range hand stepped =

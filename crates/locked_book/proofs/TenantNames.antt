@@ -1,5 +1,5 @@
 -- The names of tenants in records are those of the repositories.
-use Rattle.std.proofs.Common.{◌≡◌, ◌∙◌, false, ℕ, [], IfOk, List, Option, Some, Result, Ok, Err, ap, subst, sym}
+use Rattle.std.proofs.Common.{◌≡◌, ◌∙◌, false, ℕ, IfOk, List, Option, Some, Result, Ok, Err, ap, subst, sym}
 use Rattle.std.proofs.lemmas.List.Quantifiers.{position-Some}
 use Rattle.std.specs.Option.{option_map_or}
 use Rattle.blob_digest.specs.Names.{tenant_name}

@@ -1,6 +1,5 @@
 -- What desks know to be durable.
 use Rattle.std.specs.Prelude.{◌≡◌, ℕ, List, ◌++◌}
-use Rattle.ghost_log.specs.declared.view.Entry.{Entry}
 use Rattle.ghost_log.specs.Entries.{IsPrefix, events_by}
 use Rattle.durable_log.specs.Views as durable
 use Rattle.store_model.specs.Histories.{Step}

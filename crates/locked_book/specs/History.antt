@@ -11,7 +11,8 @@ use Rattle.store_model.specs.Amounts.{Amounts, zero_amounts, add_amounts, sum_of
 use Rattle.store_model.specs.Catalog.{Catalog, HandRecord}
 use Rattle.store_model.specs.Histories.{Step, CommandCall, TakeCall, PutBackCall, FinishCall, State, LeadsTo, IsLegal, IsStep, step_amounts}
 use Rattle.store_model.specs.Runs.{PutManifest}
-use Rattle.locked_book.specs.Counting.{StoreContent}
+use Rattle.store_book.specs.BookState.{BookState}
+use Rattle.locked_book.specs.Counting.{IsKeptState, StoreContent}
 use Rattle.locked_book.specs.Names.{StoreNames}
 use Rattle.locked_book.specs.Totals.{Counts}
 
@@ -27,6 +28,13 @@ state_of k = record { catalog = k.book.catalog; totals = k.counts.totals }
 -- a log leads from the opening catalog to this state
 abbrev pub LogLeadsTo : Catalog → List (Entry Step) → State → Type 0
 LogLeadsTo C entries s = LeadsTo C (steps_of entries) s
+
+-- With this many checked-out sessions and this many bytes reserved, the counts and the history are those of a book of the store: each session can
+-- still be counted, the totals are balanced, and the history leads to the book and the totals.
+abbrev pub AreRecordsOf : StoreNames → BookState → ℕ → ℕ → Counts → List (Entry Step) → Type 0
+AreRecordsOf names book hands reserve counts entries =
+    IsKeptState names book counts hands reserve
+    × LogLeadsTo names.opening entries (state_of (record { book = book; counts = counts }))
 
 -- some state that the log leads to allows this step
 abbrev pub Allows : Catalog → List (Entry Step) → Step → Type 0

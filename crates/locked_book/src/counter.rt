@@ -2,7 +2,7 @@
 ghost use Rattle.std.specs.Prelude.{◌≡◌, ◌+◌, ◌<◌, ◌≤◌, ◌^◌, ℕ};
 ghost use Rattle.locked_book.specs.Totals.{CounterView, IssuesPart, counter_after_settling, ledger_parts};
 
-use crate::kept::LEDGER_PARTS;
+use crate::desks::LEDGER_PARTS;
 use std::marker::Model;
 use std::sync::ledger::{Blank, Book as LedgerBook, Ledger, Share};
 

@@ -1,13 +1,13 @@
 //! The four totals, each with its ledger.
-ghost use Rattle.std.specs.Prelude.{◌≡◌, ◌+◌, ◌<◌, ◌≤◌, ◌^◌, ℕ};
+ghost use Rattle.std.specs.Prelude.{◌≡◌, ◌+◌, ◌<◌, ◌≤◌, ◌^◌, ℕ, IfSome};
 ghost use Rattle.store_model.specs.Amounts.{Amounts, zero_amounts, add_amounts, command_amounts_of};
 ghost use Rattle.locked_book.specs.Names.{IsLedger};
 ghost use Rattle.locked_book.specs.Results.{HasSums, HasTotals};
-ghost use Rattle.locked_book.specs.Totals.{AreAtMost, AreInSessions, Counts, counts_after, fits_totals, ledger_parts};
+ghost use Rattle.locked_book.specs.Totals.{AreAtMost, AreInSessions, CanCount, Counts, amounts_with, counts_after, counts_with, fits_totals, ledger_parts};
 
 use crate::counter::Counter;
 use crate::desk::Settled;
-use crate::kept::LEDGER_PARTS;
+use crate::desks::LEDGER_PARTS;
 use crate::names::{Abandoned, Closed, Commands, Naming, Received};
 use crate::tally::Tally;
 use crate::totals::Totals;
@@ -79,6 +79,17 @@ impl<S: Naming> Counters<S> {
         self.received.add(&mut desk.received, received);
         self.closed.add(&mut desk.closed, closed);
         self.abandoned.add(&mut desk.abandoned, abandoned);
+    }
+
+    /// Counts a command in the totals and in a desk's tally, if it was accepted and abandoned these bytes.
+    pub fn count_command(&mut self, desk: &mut Tally<S>, abandoned: Option<u64>)
+        requires { IfSome abandoned (λ n. CanCount self.old.totals n) }
+        ensures totals { self.new ≡ counts_with self.old abandoned }
+        ensures desk { desk.new ≡ amounts_with desk.old abandoned }
+    {
+        if let Some(bytes) = abandoned {
+            self.add(desk, 0, 0, bytes);
+        }
     }
 
     /// Returns the totals. The bytes in sessions are those received less those closed and abandoned.

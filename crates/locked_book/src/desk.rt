@@ -13,7 +13,7 @@ use std::marker::Model;
 /// It is the right to add steps to the history under a number of its own. Contracts see its amounts and its trace: its
 /// number, the prefix of the history that it has seen, and its own steps.
 ///
-/// A desk can't be dropped: `LockedBook::settle` or `conclude` consumes it. `into_droppable` converts it to a type that
+/// A desk can't be dropped: `Kept::settle` or `conclude` consumes it. `into_droppable` converts it to a type that
 /// closures and thread results may hold.
 pub struct Desk<S: Naming> {
     pub(crate) tally: Tally<S>,

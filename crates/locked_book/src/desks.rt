@@ -10,21 +10,34 @@ ghost use Rattle.locked_book.specs.History.{AreFreshDesks, IsFreshDesk, IsMadeBy
 ghost use Rattle.locked_book.specs.Results.{FailsWith, HasSums, HasTotals};
 
 use crate::desk::{Desk, Settled};
-use crate::locked::LockedBook;
+use crate::kept::Kept;
 use crate::names::Naming;
 use crate::settling::settle_all;
 use crate::totals::Totals;
 use blob_digest::Refusal;
 use std::alloc::Global;
 
-impl<S: Naming> LockedBook<S> {
+/// The largest number of unsettled desks.
+pub const MAX_DESKS: u64 = 1024;
+
+/// The number of parts of a ledger: one for each desk, and one that no desk gets.
+pub const LEDGER_PARTS: u64 = MAX_DESKS + 1;
+
+impl<S: Naming> Kept<S> {
+    /// Returns whether `count` is 0, or `count` more desks would be more than `MAX_DESKS`.
+    fn lacks_desks(&self, count: u64) -> bool
+        ensures { result ≡ cannot_hand_out self.now count }
+    {
+        count == 0 || count > MAX_DESKS || self.counters.desks() > MAX_DESKS - count
+    }
+
     /// Creates a desk with empty shares and no steps.
     fn issue(&mut self) -> Desk<S>
         requires { self.old.counts.desks + 1 < 1025 }
         ensures counts { self.new ≡ with_desks self.old 1 }
         ensures fresh { IsFreshDesk result }
     {
-        let tally = self.kept.issue();
+        let tally = self.counters.issue();
         let writer = self.history.writer();
         Desk { tally, writer }
     }
@@ -57,7 +70,7 @@ impl<S: Naming> LockedBook<S> {
         ensures limit { cannot_hand_out self.old count ≡ true → FailsWith result LimitReached }
         ensures refused { IfErr result (λ e. (e ≡ LimitReached) ⊎ (e ≡ Refusal.Memory)) }
     {
-        if self.kept.lacks_desks(count) {
+        if self.lacks_desks(count) {
             return Err(Refusal::LimitReached);
         }
         let mut desks = Vec::with_capacity(alloc, count as usize)?;
@@ -83,7 +96,18 @@ impl<S: Naming> LockedBook<S> {
         ensures settled { SettlesAll self.old.counts self.new.counts desks.items }
         ensures whole { result ≡ true → IsMadeBy S.names.opening self.new desks.items }
     {
-        settle_all(&mut self.kept, &mut self.history, desks)
+        settle_all(&mut self.counters, &mut self.history, desks)
+    }
+
+    /// Returns the settled amounts and the number of unsettled desks. If that is 0, the amounts equal the totals.
+    fn settled(&mut self) -> Settled
+        ensures same { self.new ≡ self.old }
+        ensures amounts { HasSums result self.old.counts.settled }
+        ensures left { result.left ≡ self.old.counts.desks }
+        ensures all { result.left ≡ 0 → self.old.counts.settled ≡ self.old.counts.totals }
+    {
+        self.counters.reveal_invariant();
+        self.counters.settled()
     }
 
     /// Settles desks, and returns the sums of their shares and the number of desks that are still unsettled.
@@ -105,9 +129,9 @@ impl<S: Naming> LockedBook<S> {
         ensures settled { SettlesAll self.old.counts self.new.counts desks.items }
         ensures all { result.left ≡ 0 → self.new.counts.settled ≡ self.new.counts.totals }
     {
-        let before = self.kept.settled();
+        let before = self.settled();
         let _ = self.conclude(desks);
-        let after = self.kept.settled();
+        let after = self.settled();
         Settled {
             commands: after.commands - before.commands,
             received: after.received - before.received,
@@ -130,6 +154,6 @@ impl<S: Naming> LockedBook<S> {
         ensures found { IsContentOf S.names self.now }
     {
         self.reveal_invariant();
-        self.kept.totals()
+        self.counters.totals()
     }
 }

@@ -5,13 +5,13 @@ ghost use Rattle.locked_book.specs.History.{LogLeadsTo, state_of};
 ghost use Rattle.locked_book.specs.Restoring.{IsOnDisk, IsWholeOnDisk, SeesStoreHistory};
 
 use crate::desk::Desk;
-use crate::locked::LockedBook;
+use crate::kept::Kept;
 use crate::names::{Naming, StoreLog};
 use crate::step::Step;
 use durable_log::LogDevice;
 use log_disk::Disk;
 
-impl<S: Naming> LockedBook<S> {
+impl<S: Naming> Kept<S> {
     /// Shows a desk the whole history, and states that the history leads to the book and that its log restores the store.
     ///
     /// The log has the records of the changes that the history makes. The durable state after these changes agrees

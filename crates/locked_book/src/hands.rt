@@ -1,6 +1,6 @@
-//! Sessions that are checked out of the locked book.
+//! Sessions that are checked out of the book.
 
-ghost use Rattle.std.specs.Prelude.{◌≡◌, ◌≢◌, ◌+◌, ◌<◌, None, IfOk, length, sum_by};
+ghost use Rattle.std.specs.Prelude.{◌≡◌, ◌≢◌, ◌+◌, None, IfOk, length, sum_by};
 ghost use Rattle.store_model.specs.Hands.{filled_length};
 ghost use Rattle.store_model.specs.Histories.{PutBackCall, FinishCall};
 ghost use Rattle.store_model.specs.Lanes.{IsHeld};
@@ -11,17 +11,23 @@ ghost use Rattle.locked_book.specs.Performing.{ChecksIn, ChecksInUnchanged, Chec
 ghost use Rattle.locked_book.specs.Results.{EndsWithRange};
 
 use crate::call::Call;
+use crate::checked_out::{check_in, check_in_unchanged, check_out, close};
 use crate::desk::Desk;
 use crate::kept::Kept;
-use crate::locked::{LockedBook, kept_if_ok};
+use crate::manifests::kept_if_ok;
 use crate::names::Naming;
 use blob_digest::{ByteRange, Digest, Refusal, RepoName};
 use pin_table::Pins;
 use std::snapshot::Snapshot;
 use upload_table::Hand;
 
-impl<S: Naming> LockedBook<S> {
-    /// Checks a session out with `Kept::take`. The command is counted at check-in.
+impl<S: Naming> Kept<S> {
+    /// Checks a session out with `Book::take`, and reserves `len` bytes. The command is counted at check-in.
+    ///
+    /// # Errors
+    ///
+    /// - `LimitReached` if one more command with `len` bytes can't be counted in addition to the checked-out sessions.
+    /// - Those of `Book::take`.
     pub fn take(
         &mut self,
         desk: &mut Desk<S>,
@@ -35,8 +41,15 @@ impl<S: Naming> LockedBook<S> {
         ensures names { IfOk result (λ h. IsHandOf S.names.setting.tenants repo.now number h) }
         ensures makes { MakesCheckOut S.names repo.now number range len result desk.old desk.new }
     {
-        self.kept.reveal_invariant();
-        let result = self.kept.take(repo, number, range, len);
+        let result = check_out(
+            &mut self.book,
+            &mut self.out,
+            &self.counters,
+            repo,
+            number,
+            range,
+            len,
+        );
         self.history.add_unrecorded(
             &mut desk.writer,
             Call::Take(repo, number, range, len, &result),
@@ -44,7 +57,7 @@ impl<S: Naming> LockedBook<S> {
         result
     }
 
-    /// Checks a session in with its new chunk by `Kept::put_back`.
+    /// Checks a session in with its new chunk by `Book::put_back`, and counts the command with that chunk's bytes.
     pub fn put_back(
         &mut self,
         desk: &mut Desk<S>,
@@ -60,7 +73,13 @@ impl<S: Naming> LockedBook<S> {
     {
         let _ = hand.reserved();
         let given = Snapshot::of(&hand);
-        let result = self.kept.put_back(&mut desk.tally, hand);
+        let result = check_in(
+            &mut self.book,
+            &mut self.out,
+            &mut self.counters,
+            &mut desk.tally,
+            hand,
+        );
         let promised = self.history.policy().promises_chunks() && result.is_ok();
         let bytes = kept_if_ok(bytes, &result);
         self.history.add_recorded(
@@ -72,7 +91,7 @@ impl<S: Naming> LockedBook<S> {
         result
     }
 
-    /// Checks a session in unchanged by `Kept::cancel`.
+    /// Checks a session in unchanged by `Book::put_back`, and counts nothing.
     pub fn cancel(&mut self, desk: &mut Desk<S>, hand: Hand) -> Result<u64, Refusal>
         requires unfilled { hand.last ≡ None }
         requires held { IsHeld hand desk.old.trace.own }
@@ -80,13 +99,19 @@ impl<S: Naming> LockedBook<S> {
         ensures makes { Makes S.names.opening (PutBackCall hand result) desk.old desk.new }
     {
         let given = Snapshot::of(&hand);
-        let result = self.kept.cancel(hand);
+        let result = check_in_unchanged(&mut self.book, &mut self.out, &self.counters, hand);
         self.history
             .add_unrecorded(&mut desk.writer, Call::PutBack(&given, &result));
         result
     }
 
-    /// Closes a checked-out session with `Kept::finish`.
+    /// Closes a checked-out session with `Book::finish`, and counts the command.
+    ///
+    /// The bytes of the last chunk are counted as received, and all bytes of the session as closed.
+    ///
+    /// # Errors
+    ///
+    /// Those of `Book::finish`. Each but `UploadUnknown` checks the session in unchanged.
     pub fn finish(
         &mut self,
         pins: &Pins,
@@ -106,7 +131,15 @@ impl<S: Naming> LockedBook<S> {
     {
         let _ = hand.reserved();
         let given = Snapshot::of(&hand);
-        let result = self.kept.finish(pins, &mut desk.tally, hand, digest);
+        let result = close(
+            &mut self.book,
+            &mut self.out,
+            &mut self.counters,
+            pins,
+            &mut desk.tally,
+            hand,
+            digest,
+        );
         let promised = self.history.policy().promises_changes() && result.is_ok();
         let bytes = kept_if_ok(bytes, &result);
         self.history.add_recorded(

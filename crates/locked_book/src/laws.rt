@@ -10,7 +10,7 @@ ghost use Rattle.locked_book.specs.CutLogs.{CutLogsRestore, SameLogsRestart};
 /// - `restarts`: a store of the same tenants, whose log has the first bytes of another store's log, agrees with the
 ///   durable state of the other store after such first steps.
 ///
-/// Both hold for stores with a log, if the log restores the history. `LockedBook::reveal_durable_state` states that it
+/// Both hold for stores with a log, if the log restores the history. `Kept::reveal_durable_state` states that it
 /// does.
 pub fn logs()
     ensures cuts { CutLogsRestore }

@@ -8,10 +8,12 @@
 //! - The history, which exists in the proof alone, leads from the opening catalog to the catalog of the book and to the
 //!   totals.
 //!
-//! This crate has no lock and starts no thread: `blob_store` puts the lock around `LockedBook`.
+//! This crate has no lock and starts no thread: `blob_store` puts the lock around `Kept`.
 #![tactic(auto)]
 
 mod call;
+mod checked_out;
+mod commands;
 mod counter;
 mod counters;
 mod desk;
@@ -22,8 +24,9 @@ mod hands;
 mod history;
 mod kept;
 pub mod laws;
-mod locked;
+mod leases;
 mod log;
+mod manifests;
 mod names;
 mod policy;
 mod record;
@@ -31,14 +34,15 @@ mod settling;
 mod step;
 mod tally;
 mod totals;
+mod tried;
 
 pub use call::Call;
 pub use counters::Counters;
 pub use desk::{Desk, Settled};
+pub use desks::{LEDGER_PARTS, MAX_DESKS};
 pub use droppable_desk::DroppableDesk;
 pub use history::{History, HistoryWriter};
-pub use kept::{Kept, LEDGER_PARTS, MAX_DESKS};
-pub use locked::LockedBook;
+pub use kept::Kept;
 pub use names::{Naming, StoreLog, StorePins};
 pub use policy::LogPolicy;
 pub use record::{chunk_record, manifest_record, seal_record};

@@ -9,7 +9,7 @@ ghost use Rattle.locked_book.specs.Restoring.{SeesStoreHistory, records_of};
 ghost use Rattle.locked_book.specs.Logging.{promises, recorded_bytes};
 
 use crate::desk::Desk;
-use crate::locked::LockedBook;
+use crate::kept::Kept;
 use crate::names::{Naming, StoreLog};
 use crate::step::Step;
 use durable_log::{CommitError, LogDevice};
@@ -33,7 +33,7 @@ impl<S: Naming> Desk<S> {
     }
 }
 
-impl<S: Naming> LockedBook<S> {
+impl<S: Naming> Kept<S> {
     /// Returns whether all that the desk has seen is durable. If so, the desk then knows it.
     pub fn confirm(&mut self, desk: &mut Desk<S>) -> bool
         ensures same { self.new ≡ self.old }

@@ -1,24 +1,23 @@
 //! Settling desks, and comparing their steps with the history.
 
 ghost use Rattle.std.specs.Prelude.{◌≡◌, ◌+◌, true, vec_len};
-ghost use Rattle.locked_book.specs.Counting.{KeepsTotals};
 ghost use Rattle.locked_book.specs.History.{HasStepsOf, SettlesAll, steps_of_each};
 
+use crate::counters::Counters;
 use crate::desk::Desk;
 use crate::history::History;
-use crate::kept::Kept;
 use crate::names::Naming;
 
 /// Settles desks, and returns whether their steps are the whole history, each desk's under the number of its place.
 pub fn settle_all<S: Naming>(
-    kept: &mut Kept<S>,
+    counters: &mut Counters<S>,
     history: &mut History<S>,
     mut desks: Vec<Desk<S>>,
 ) -> bool
-    ensures same { KeepsTotals kept.old kept.new }
+    ensures totals { counters.new.totals ≡ counters.old.totals }
     ensures history { history.new ≡ history.old }
-    ensures desks { kept.new.counts.desks + vec_len desks ≡ kept.old.counts.desks }
-    ensures settled { SettlesAll kept.old.counts kept.new.counts desks.items }
+    ensures desks { counters.new.desks + vec_len desks ≡ counters.old.desks }
+    ensures settled { SettlesAll counters.old counters.new desks.items }
     ensures whole { result ≡ true → HasStepsOf history.new (steps_of_each desks.items) }
 {
     let writers = desks.len() as u64;
@@ -26,7 +25,7 @@ pub fn settle_all<S: Naming>(
     while let Some(desk) = desks.pop() {
         let Desk { tally, writer } = desk;
         whole &= history.take_back(writer, desks.len() as u64, writers);
-        kept.settle(tally);
+        counters.settle(tally);
     }
     desks.destroy_empty();
     whole

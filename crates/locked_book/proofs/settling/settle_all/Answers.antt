@@ -16,13 +16,12 @@ loop-desk-preserved g c =
     let all = c.args.desks in
     let order = c.args.history.now in
     let count = c.in-Some.ensures.len in
-    let settled = c.settle.ensures.settled ∙ ap (λ (d : DeskView). add_amounts c.loop-desk.kept.counts.settled d.amounts) c.desk.view_is in
+    let settled = c.settle.ensures.settled ∙ ap (λ (d : DeskView). add_amounts c.loop-desk.counters.settled d.amounts) c.desk.view_is in
     let sums = ap (λ ds. sum_of (amounts_of ds)) c.in-Some.ensures.items ∙ desk_pushed left.items desk in
     let split : all.items ≡ left.items ++ desk ∷ was.split.0 = was.split.1 ∙ ap (λ ds. ds ++ was.split.0) c.in-Some.ensures.items ∙ append_assoc left.items (desk ∷ []) was.split.0 in
     let place : c.len.result ≡ length left.items = omega (arith, c.len.ensures, left.ok.0) in
     record {
-      book = c.settle.ensures.same.0 ∙ was.book;
-      totals = c.settle.ensures.same.1 ∙ was.totals;
+      totals = c.settle.ensures.totals ∙ was.totals;
       history = c.take_back-whole.ensures.same ∙ was.history;
       writers = was.writers;
       desks = omega (arith, c.settle.ensures.desks, was.desks, count);

@@ -1,37 +1,15 @@
-use Rattle.std.proofs.Common.{ap, arith, length, ◌∙◌}
-use Rattle.locked_book.proofs.SessionSums.{unfilled_is, put_back_sums}
+use Rattle.std.proofs.Common.{sym, subst}
+use Rattle.store_model.specs.Histories.{IsStep, PutBackCall}
+use Rattle.locked_book.specs.History.{state_of}
+use Rattle.locked_book.proofs.Counted.{gives_up}
 use Rattle.locked_book.proofs.kept.Kept.cancel.Goals as goal
 
-pub overflow_sub-self : goal.overflow_sub-self
-overflow_sub-self g c =
-    let was = c.self.invariant in
-    let sums = put_back_sums c.self.inside.book.catalog c.put_back.new.self.catalog c.args.hand c.in_ok-received.received c.in_ok-received.ensures.does in
-    let hands = sums.hands in
-    omega (arith, was.0, hands)
+pub add_unrecorded-requires-clause-allows : goal.add_unrecorded-requires-clause-allows
+add_unrecorded-requires-clause-allows g c =
+    let step = subst (λ h. IsStep (state_of (record { book = c.self.inside.book; counts = c.self.inside.counters })) (PutBackCall h c.check_in_unchanged-result.result) (state_of (record { book = c.check_in_unchanged-result.new.book; counts = c.self.inside.counters }))) (sym c.of-given.ensures) (gives_up (record { book = c.self.inside.book; counts = c.self.inside.counters }) (record { book = c.check_in_unchanged-result.new.book; counts = c.self.inside.counters }) c.args.hand c.check_in_unchanged-result.result c.requires.unfilled c.check_in_unchanged-result.ensures.does) in
+    (state_of (record { book = c.self.inside.book; counts = c.self.inside.counters }), state_of (record { book = c.check_in_unchanged-result.new.book; counts = c.self.inside.counters }), c.self.invariant.1, step)
 
-pub overflow_sub-self-2 : goal.overflow_sub-self-2
-overflow_sub-self-2 g c =
-    let was = c.self.invariant in
-    let sums = put_back_sums c.self.inside.book.catalog c.put_back.new.self.catalog c.args.hand c.in_ok-received.received c.in_ok-received.ensures.does in
-    let value = c.reserved-reserved.ensures.value in
-    let reserve = sums.reserve in
-    omega (arith, was.1, reserve, value)
-
-pub invariant_of-self-2 : goal.invariant_of-self-2
-invariant_of-self-2 g c =
-    let was = c.self.invariant in
-    let sums = put_back_sums c.self.inside.book.catalog c.put_back.new.self.catalog c.args.hand c.in_ok-received.received c.in_ok-received.ensures.does in
-    let value = c.reserved-reserved.ensures.value in
-    let unfilled = unfilled_is c.args.hand c.requires.unfilled in
-    let hands = sums.hands in
-    let reserve = sums.reserve in
-    let bytes = sums.bytes in (
-      omega (arith, was.0, hands),
-      omega (arith, was.1, reserve, value),
-      omega (arith, was.0, was.2, hands),
-      omega (arith, was.1, was.3, reserve, value),
-      omega (arith, was.4, bytes, unfilled),
-      c.put_back.ensures.slots.0 ∙ was.5,
-      ap length c.put_back.ensures.slots.1 ∙ was.6,
-      sums.setting ∙ was.7,
-    )
+pub invariant_of-self : goal.invariant_of-self
+invariant_of-self g c =
+    let step = subst (λ h. IsStep (state_of (record { book = c.self.inside.book; counts = c.self.inside.counters })) (PutBackCall h c.check_in_unchanged-result.result) (state_of (record { book = c.check_in_unchanged-result.new.book; counts = c.self.inside.counters }))) (sym c.of-given.ensures) (gives_up (record { book = c.self.inside.book; counts = c.self.inside.counters }) (record { book = c.check_in_unchanged-result.new.book; counts = c.self.inside.counters }) c.args.hand c.check_in_unchanged-result.result c.requires.unfilled c.check_in_unchanged-result.ensures.does) in
+    (c.check_in_unchanged-result.ensures.kept, c.add_unrecorded.ensures.leads (state_of (record { book = c.self.inside.book; counts = c.self.inside.counters })) (state_of (record { book = c.check_in_unchanged-result.new.book; counts = c.self.inside.counters })) c.self.invariant.1 step)

@@ -1,131 +1,15 @@
-use Rattle.std.proofs.Common.{ap, arith, ◌∙◌}
-use Rattle.store_model.specs.Catalog.{Catalog}
-use Rattle.locked_book.specs.Names.{setting_of}
-use Rattle.store_model.specs.Amounts.{command_amounts_of}
-use Rattle.locked_book.proofs.SessionSums.{finish_sums, full_is, refused_sums, still_sums, unknown_stays}
-use Rattle.locked_book.proofs.Rooms.{added}
+use Rattle.std.proofs.Common.{sym, subst}
+use Rattle.store_model.specs.Histories.{FinishCall, IsStep}
+use Rattle.locked_book.specs.History.{state_of}
+use Rattle.locked_book.proofs.Counted.{finishes}
 use Rattle.locked_book.proofs.kept.Kept.finish.Goals as goal
 
-pub overflow_sub-self : goal.overflow_sub-self
-overflow_sub-self g c =
-    let was = c.self.invariant in
-    let done = finish_sums c.self.inside.book.catalog c.finish.new.self.catalog c.args.hand c.args.digest.now c.in-Ok.size (record { pieces = c.reserved-reserved.ensures.pieces; last = c.reserved-reserved.ensures.last }) c.requires.full c.in-Ok.ensures.does in
-    let sums = done.sums in
-    let hands = sums.hands in
-    omega (arith, was.0, hands)
-
-pub overflow_sub-self-in-Ok : goal.overflow_sub-self-in-Ok
-overflow_sub-self-in-Ok g c =
-    let was = c.self.invariant in
-    let done = finish_sums c.self.inside.book.catalog c.finish.new.self.catalog c.args.hand c.args.digest.now c.in-Ok.size (record { pieces = c.reserved-reserved.ensures.pieces; last = c.reserved-reserved.ensures.last }) c.requires.full c.in-Ok.ensures.does in
-    let sums = done.sums in
-    let value = c.reserved-reserved.ensures.value in
-    let reserve = sums.reserve in
-    omega (arith, was.1, reserve, value)
-
-pub add-requires-clause-commands : goal.add-requires-clause-commands
-add-requires-clause-commands g c =
-    let was = c.self.invariant in
-    let done = finish_sums c.self.inside.book.catalog c.finish.new.self.catalog c.args.hand c.args.digest.now c.in-Ok.size (record { pieces = c.reserved-reserved.ensures.pieces; last = c.reserved-reserved.ensures.last }) c.requires.full c.in-Ok.ensures.does in
-    let sums = done.sums in
-    let hands = sums.hands in
-    omega (arith, was.0, was.2, hands)
-
-pub add-requires-clause-received : goal.add-requires-clause-received
-add-requires-clause-received g c =
-    let was = c.self.invariant in
-    let done = finish_sums c.self.inside.book.catalog c.finish.new.self.catalog c.args.hand c.args.digest.now c.in-Ok.size (record { pieces = c.reserved-reserved.ensures.pieces; last = c.reserved-reserved.ensures.last }) c.requires.full c.in-Ok.ensures.does in
-    let sums = done.sums in
-    let value = c.reserved-reserved.ensures.value in
-    let reserve = sums.reserve in
-    omega (arith, was.1, was.3, reserve, value)
-
-pub add-requires-clause-closed : goal.add-requires-clause-closed
-add-requires-clause-closed g c =
-    let was = c.self.invariant in
-    let done = finish_sums c.self.inside.book.catalog c.finish.new.self.catalog c.args.hand c.args.digest.now c.in-Ok.size (record { pieces = c.reserved-reserved.ensures.pieces; last = c.reserved-reserved.ensures.last }) c.requires.full c.in-Ok.ensures.does in
-    let sums = done.sums in
-    let size = done.size in
-    let reserve = sums.reserve in
-    let bytes = sums.bytes in
-    omega (arith, was.1, was.3, was.4, reserve, bytes, size)
+pub add_recorded-requires-clause-allows : goal.add_recorded-requires-clause-allows
+add_recorded-requires-clause-allows g c =
+    let step = subst (λ h. IsStep (state_of (record { book = c.self.inside.book; counts = c.self.inside.counters })) (FinishCall h c.args.digest.now c.close-result.result) (state_of (record { book = c.close-result.new.book; counts = c.close-result.new.counters }))) (sym c.of-given.ensures) (finishes (record { book = c.self.inside.book; counts = c.self.inside.counters }) (record { book = c.close-result.new.book; counts = c.close-result.new.counters }) c.args.hand c.args.digest.now c.close-result.result c.close-result.ensures.does) in
+    (state_of (record { book = c.self.inside.book; counts = c.self.inside.counters }), state_of (record { book = c.close-result.new.book; counts = c.close-result.new.counters }), c.self.invariant.1, step)
 
 pub invariant_of-self : goal.invariant_of-self
 invariant_of-self g c =
-    let was = c.self.invariant in
-    let done = finish_sums c.self.inside.book.catalog c.finish.new.self.catalog c.args.hand c.args.digest.now c.in-Ok.size (record { pieces = c.reserved-reserved.ensures.pieces; last = c.reserved-reserved.ensures.last }) c.requires.full c.in-Ok.ensures.does in
-    let sums = done.sums in
-    let value = c.reserved-reserved.ensures.value in
-    let size = done.size in
-    let hands = sums.hands in
-    let reserve = sums.reserve in
-    let bytes = sums.bytes in
-    let totals = added c.self.inside.counters c.add.new.self (command_amounts_of c.reserved-reserved.result c.in-Ok.size 0) c.add.ensures.totals in (
-      omega (arith, was.0, hands),
-      omega (arith, was.1, reserve, value),
-      omega (arith, was.0, was.2, hands, totals.commands),
-      omega (arith, was.1, was.3, reserve, value, totals.received),
-      omega (arith, was.4, bytes, value, size, totals.received, totals.closed, totals.abandoned),
-      c.finish.ensures.slots.0 ∙ was.5,
-      c.finish.ensures.slots.1.0 ∙ was.6,
-      sums.setting ∙ was.7,
-    )
-
-pub overflow_sub-self-in_default : goal.overflow_sub-self-in_default
-overflow_sub-self-in_default g c =
-    let was = c.self.invariant in
-    let sums = refused_sums c.self.inside.book.catalog c.finish.new.self.catalog c.args.hand c.in-Err.ensures.does.1 (c.in-Err.ensures.taken (λ e. c.in_default.not-UploadUnknown e)) in
-    let hands = sums.hands in
-    omega (arith, was.0, hands)
-
-pub overflow_sub-self-in_default-2 : goal.overflow_sub-self-in_default-2
-overflow_sub-self-in_default-2 g c =
-    let was = c.self.invariant in
-    let sums = refused_sums c.self.inside.book.catalog c.finish.new.self.catalog c.args.hand c.in-Err.ensures.does.1 (c.in-Err.ensures.taken (λ e. c.in_default.not-UploadUnknown e)) in
-    let value = c.reserved-reserved.ensures.value in
-    let reserve = sums.reserve in
-    omega (arith, was.1, reserve, value)
-
-pub invariant_of-self-in_default : goal.invariant_of-self-in_default
-invariant_of-self-in_default g c =
-    let was = c.self.invariant in
-    let sums = refused_sums c.self.inside.book.catalog c.finish.new.self.catalog c.args.hand c.in-Err.ensures.does.1 (c.in-Err.ensures.taken (λ e. c.in_default.not-UploadUnknown e)) in
-    let value = c.reserved-reserved.ensures.value in
-    let hands = sums.hands in
-    let reserve = sums.reserve in
-    let bytes = sums.bytes in (
-      omega (arith, was.0, hands),
-      omega (arith, was.1, reserve, value),
-      omega (arith, was.0, was.2, hands),
-      omega (arith, was.1, was.3, reserve, value),
-      omega (arith, was.4, bytes),
-      c.finish.ensures.slots.0 ∙ was.5,
-      c.finish.ensures.slots.1.0 ∙ was.6,
-      sums.setting ∙ was.7,
-    )
-
-pub invariant_of-self-in-UploadUnknown : goal.invariant_of-self-in-UploadUnknown
-invariant_of-self-in-UploadUnknown g c =
-    let was = c.self.invariant in
-    let is = c.in-UploadUnknown.is in
-    let same = unknown_stays c.self.inside.book.catalog c.finish.new.self.catalog c.args.hand c.args.digest.now c.in-Err.ensures.does.1 (rw is at c.in-Err.ensures.does.0 (λ e. absurd cc)) in
-    let sums = still_sums c.self.inside.book.catalog c.finish.new.self.catalog (ap (λ (C : Catalog). C.sessions) same) (ap setting_of same) in
-    let hands = sums.hands in
-    let reserve = sums.reserve in
-    let bytes = sums.bytes in (
-      omega (arith, was.0, hands),
-      omega (arith, was.1, reserve),
-      was.2,
-      was.3,
-      omega (arith, was.4, bytes),
-      c.finish.ensures.slots.0 ∙ was.5,
-      c.finish.ensures.slots.1.0 ∙ was.6,
-      sums.setting ∙ was.7,
-    )
-
-pub returns-in-Ok-clause-length : goal.returns-in-Ok-clause-length
-returns-in-Ok-clause-length g c =
-    let done = finish_sums c.self.inside.book.catalog c.finish.new.self.catalog c.args.hand c.args.digest.now c.in-Ok.size (record { pieces = c.reserved-reserved.ensures.pieces; last = c.reserved-reserved.ensures.last }) c.requires.full c.in-Ok.ensures.does in
-    let size = done.size in
-    let filled = full_is c.args.hand c.reserved-reserved.ensures.last c.requires.full in
-    omega (arith, size, filled)
+    let step = subst (λ h. IsStep (state_of (record { book = c.self.inside.book; counts = c.self.inside.counters })) (FinishCall h c.args.digest.now c.close-result.result) (state_of (record { book = c.close-result.new.book; counts = c.close-result.new.counters }))) (sym c.of-given.ensures) (finishes (record { book = c.self.inside.book; counts = c.self.inside.counters }) (record { book = c.close-result.new.book; counts = c.close-result.new.counters }) c.args.hand c.args.digest.now c.close-result.result c.close-result.ensures.does) in
+    (c.close-result.ensures.kept, c.add_recorded.ensures.leads (state_of (record { book = c.self.inside.book; counts = c.self.inside.counters })) (state_of (record { book = c.close-result.new.book; counts = c.close-result.new.counters })) c.self.invariant.1 step)

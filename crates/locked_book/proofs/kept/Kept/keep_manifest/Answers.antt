@@ -1,9 +1,12 @@
-use Rattle.std.proofs.Common.{ap, length}
-use Rattle.locked_book.proofs.SessionSums.{put_manifest_sums}
-use Rattle.locked_book.proofs.Keeping.{counted_kept}
+use Rattle.std.proofs.Common.{◌≡◌, subst, sym}
+use Rattle.std.specs.Prelude.{IfOk}
+use Rattle.blob_digest.specs.Digests.{sha256_text}
+use Rattle.locked_book.proofs.Answered.{put_digest}
 use Rattle.locked_book.proofs.kept.Kept.keep_manifest.Goals as goal
+use Rattle.locked_book.proofs.kept.Kept.keep_manifest.Goals.{in-Ok, in-Err}
 
-pub invariant_of-self-2 : goal.invariant_of-self-2
-invariant_of-self-2 g c =
-    let sums = put_manifest_sums c.self.inside.book.catalog c.keep_manifest.new.self.catalog c.args.repo.now c.args.manifest c.in_ok-digest.digest c.in_ok-digest.ensures.does in
-    counted_kept g.S.Naming.names c.self.inside.book c.keep_manifest.new.self c.self.inside.counters c.add.new.self c.args.self.now c.self.inside.hands c.self.inside.reserve 0 c.in_ok-room.field-0 c.self.invariant sums c.add.ensures.totals c.self.view_is c.in_ok-room.ensures c.keep_manifest.ensures.slots.0 (ap length c.keep_manifest.ensures.slots.1)
+pub returns-clause-digest : goal.returns-clause-digest
+returns-clause-digest g c = elim c.match-room.branch [
+  | in-Ok w ↦ subst (λ r. IfOk r (λ d. d ≡ sha256_text c.args.manifest)) (sym w.result-is) (put_digest c.self.inside.book.catalog w.keep_manifest-result.new.self.catalog c.args.repo.now c.args.manifest w.keep_manifest-result.result w.keep_manifest-result.ensures.does)
+  | in-Err w ↦ subst (λ r. IfOk r (λ d. d ≡ sha256_text c.args.manifest)) (sym w.result-is) tt
+]

@@ -1,55 +1,15 @@
-use Rattle.std.proofs.Common.{ap, arith, length, ◌∙◌}
-use Rattle.store_model.specs.Amounts.{command_amounts_of}
-use Rattle.locked_book.proofs.SessionSums.{filled_is, put_back_sums}
-use Rattle.locked_book.proofs.Rooms.{added}
+use Rattle.std.proofs.Common.{sym, subst}
+use Rattle.store_model.specs.Histories.{IsStep, PutBackCall}
+use Rattle.locked_book.specs.History.{state_of}
+use Rattle.locked_book.proofs.Counted.{comes_back}
 use Rattle.locked_book.proofs.kept.Kept.put_back.Goals as goal
 
-pub overflow_sub-self : goal.overflow_sub-self
-overflow_sub-self g c =
-    let was = c.self.invariant in
-    let sums = put_back_sums c.self.inside.book.catalog c.put_back.new.self.catalog c.args.hand c.in_ok-after.after c.in_ok-after.ensures.does in
-    let hands = sums.hands in
-    omega (arith, was.0, hands)
+pub add_recorded-requires-clause-allows : goal.add_recorded-requires-clause-allows
+add_recorded-requires-clause-allows g c =
+    let step = subst (λ h. IsStep (state_of (record { book = c.self.inside.book; counts = c.self.inside.counters })) (PutBackCall h c.check_in-result.result) (state_of (record { book = c.check_in-result.new.book; counts = c.check_in-result.new.counters }))) (sym c.of-given.ensures) (comes_back (record { book = c.self.inside.book; counts = c.self.inside.counters }) (record { book = c.check_in-result.new.book; counts = c.check_in-result.new.counters }) c.args.hand c.check_in-result.result c.requires.filled c.check_in-result.ensures.does) in
+    (state_of (record { book = c.self.inside.book; counts = c.self.inside.counters }), state_of (record { book = c.check_in-result.new.book; counts = c.check_in-result.new.counters }), c.self.invariant.1, step)
 
-pub overflow_sub-self-2 : goal.overflow_sub-self-2
-overflow_sub-self-2 g c =
-    let was = c.self.invariant in
-    let sums = put_back_sums c.self.inside.book.catalog c.put_back.new.self.catalog c.args.hand c.in_ok-after.after c.in_ok-after.ensures.does in
-    let value = c.reserved-reserved.ensures.value in
-    let reserve = sums.reserve in
-    omega (arith, was.1, reserve, value)
-
-pub add-requires-clause-commands : goal.add-requires-clause-commands
-add-requires-clause-commands g c =
-    let was = c.self.invariant in
-    let sums = put_back_sums c.self.inside.book.catalog c.put_back.new.self.catalog c.args.hand c.in_ok-after.after c.in_ok-after.ensures.does in
-    let hands = sums.hands in
-    omega (arith, was.0, was.2, hands)
-
-pub add-requires-clause-received : goal.add-requires-clause-received
-add-requires-clause-received g c =
-    let was = c.self.invariant in
-    let sums = put_back_sums c.self.inside.book.catalog c.put_back.new.self.catalog c.args.hand c.in_ok-after.after c.in_ok-after.ensures.does in
-    let value = c.reserved-reserved.ensures.value in
-    let reserve = sums.reserve in
-    omega (arith, was.1, was.3, reserve, value)
-
-pub invariant_of-self-2 : goal.invariant_of-self-2
-invariant_of-self-2 g c =
-    let was = c.self.invariant in
-    let sums = put_back_sums c.self.inside.book.catalog c.put_back.new.self.catalog c.args.hand c.in_ok-after.after c.in_ok-after.ensures.does in
-    let value = c.reserved-reserved.ensures.value in
-    let filled = filled_is c.args.hand c.reserved-reserved.ensures.last c.requires.filled in
-    let hands = sums.hands in
-    let reserve = sums.reserve in
-    let bytes = sums.bytes in
-    let totals = added c.self.inside.counters c.add.new.self (command_amounts_of c.reserved-reserved.result 0 0) c.add.ensures.totals in (
-      omega (arith, was.0, hands),
-      omega (arith, was.1, reserve, value),
-      omega (arith, was.0, was.2, hands, totals.commands),
-      omega (arith, was.1, was.3, reserve, value, totals.received),
-      omega (arith, was.4, bytes, value, filled, totals.received, totals.closed, totals.abandoned),
-      c.put_back.ensures.slots.0 ∙ was.5,
-      ap length c.put_back.ensures.slots.1 ∙ was.6,
-      sums.setting ∙ was.7,
-    )
+pub invariant_of-self : goal.invariant_of-self
+invariant_of-self g c =
+    let step = subst (λ h. IsStep (state_of (record { book = c.self.inside.book; counts = c.self.inside.counters })) (PutBackCall h c.check_in-result.result) (state_of (record { book = c.check_in-result.new.book; counts = c.check_in-result.new.counters }))) (sym c.of-given.ensures) (comes_back (record { book = c.self.inside.book; counts = c.self.inside.counters }) (record { book = c.check_in-result.new.book; counts = c.check_in-result.new.counters }) c.args.hand c.check_in-result.result c.requires.filled c.check_in-result.ensures.does) in
+    (c.check_in-result.ensures.kept, c.add_recorded.ensures.leads (state_of (record { book = c.self.inside.book; counts = c.self.inside.counters })) (state_of (record { book = c.check_in-result.new.book; counts = c.check_in-result.new.counters })) c.self.invariant.1 step)

@@ -1,22 +1,17 @@
-use Rattle.std.proofs.Common.{ap, arith, length, ◌∙◌}
-use Rattle.locked_book.proofs.SessionSums.{take_sums}
-use Rattle.locked_book.proofs.Rooms.{room_given}
+use Rattle.std.proofs.Common.{ap}
+use Rattle.locked_book.specs.History.{state_of}
+use Rattle.locked_book.proofs.Counted.{takes}
+use Rattle.locked_book.proofs.TenantNames.{take_names}
 use Rattle.locked_book.proofs.kept.Kept.take.Goals as goal
 
-pub invariant_of-self-2 : goal.invariant_of-self-2
-invariant_of-self-2 g c =
-    let was = c.self.invariant in
-    let sums = take_sums c.self.inside.book.catalog c.take.new.self.catalog c.args.repo.now c.args.number c.args.len c.args.range c.in_ok-hand.hand c.in_ok-hand.ensures.does in
-    let hands = sums.hands in
-    let reserve = sums.reserve in
-    let bytes = sums.bytes in
-    let room = room_given (record { book = c.self.inside.book; counts = c.self.inside.counters }) c.args.self.now c.args.len c.in_ok-room.field-0 c.self.view_is c.in_ok-room.ensures in (
-      omega (arith, was.0, hands),
-      omega (arith, was.1, reserve),
-      omega (arith, was.0, room.0),
-      omega (arith, was.1, room.1),
-      omega (arith, was.4, bytes),
-      c.take.ensures.slots.0 ∙ was.5,
-      ap length c.take.ensures.slots.1 ∙ was.6,
-      sums.setting ∙ was.7,
-    )
+pub add_unrecorded-requires-clause-allows : goal.add_unrecorded-requires-clause-allows
+add_unrecorded-requires-clause-allows g c = (state_of (record { book = c.self.inside.book; counts = c.self.inside.counters }), state_of (record { book = c.check_out-result.new.book; counts = c.self.inside.counters }), c.self.invariant.1, takes (record { book = c.self.inside.book; counts = c.self.inside.counters }) (record { book = c.check_out-result.new.book; counts = c.self.inside.counters }) c.args.repo.now c.args.number c.args.range c.args.len c.check_out-result.result c.check_out-result.ensures.does)
+
+pub invariant_of-self : goal.invariant_of-self
+invariant_of-self g c = (c.check_out-result.ensures.kept, c.add_unrecorded.ensures.leads (state_of (record { book = c.self.inside.book; counts = c.self.inside.counters })) (state_of (record { book = c.check_out-result.new.book; counts = c.self.inside.counters })) c.self.invariant.1 (takes (record { book = c.self.inside.book; counts = c.self.inside.counters }) (record { book = c.check_out-result.new.book; counts = c.self.inside.counters }) c.args.repo.now c.args.number c.args.range c.args.len c.check_out-result.result c.check_out-result.ensures.does))
+
+pub returns-clause-names : goal.returns-clause-names
+returns-clause-names g c =
+    take_names (record { book = c.self.inside.book; counts = c.self.inside.counters }) (record { book = c.check_out-result.new.book; counts = c.self.inside.counters }) g.S.Naming.names.setting.tenants c.args.repo.now c.args.number c.args.range c.args.len c.check_out-result.result
+    (ap (λ s. s.tenants) c.self.invariant.0.7)
+    (takes (record { book = c.self.inside.book; counts = c.self.inside.counters }) (record { book = c.check_out-result.new.book; counts = c.self.inside.counters }) c.args.repo.now c.args.number c.args.range c.args.len c.check_out-result.result c.check_out-result.ensures.does)
