@@ -13,6 +13,9 @@ from room import all_there, clients, compares, ends_well, fault, looks, stops, t
 # How often a program is stopped at a random place while another one takes over.
 ROUNDS = 12
 
+# The longest time until a program notices that another one has taken over, in seconds: it looks once a second.
+SOON = 10
+
 # How a rewriting of the log ended, also one before another program took over, and how far a slow start was.
 PROGRESS = re.compile(r" was (not rewritten|not written|written): |^blobd: (examining|replaying) ")
 
@@ -70,6 +73,21 @@ def taken_over(room):
         ends_well("a program that took over", second)
         compares("the owners", len(owners_of(folder)), 1)
         all_there(room, folder, everybody)
+
+
+def idle_owners(room):
+    """Tests that a program of which nobody asks anything ends soon after another one has taken over, also one that never syncs."""
+    for policy in ("closes", "never"):
+        folder = room.fresh()
+        first = room.starts(folder, "--sync", policy)
+        first.opens()
+        (folder / "lock").unlink()
+        second = room.starts(folder, "--sync", policy)
+        second.opens()
+        begun = time.monotonic()
+        loses(f"an idle program that was taken over, with --sync {policy}", folder, first)
+        compares("whether it took more than the seconds that it may", time.monotonic() - begun > SOON, False)
+        ends_well("a program that took over from an idle one", second)
 
 
 def stopped_owners(room):

@@ -23,13 +23,13 @@ use std::alloc::{AllocError, Global};
 use std::io::{self, ErrorKind, Read, Write};
 use std::marker::Brand;
 use std::snapshot::Snapshot;
-use std::sync::Wait;
+use std::sync::{Arc, Wait};
 use std::thread::{self, Threads};
 use store_replay::{
     Cause, ContinueError, Fault, FolderFile, LogPlace, Replay, Replayed, continue_on_file,
     replay_log,
 };
-use store_server::{Connection, EndCell, serve_on};
+use store_server::{Connection, EndCell, ServiceEnd, serve_on};
 
 /// The log of a folder: its files are examined, and not yet replayed.
 #[derive(Drop)]
@@ -254,9 +254,28 @@ fn replay_on<W: Wait, S: Naming>(
     started
 }
 
-/// Starts the thread that rewrites the log. Without the thread, the log is rewritten only at a start.
-fn start_watch<W: Threads>(rt: &W, watch: Watch) {
-    let _ = thread::spawn(rt, move || watch.run());
+/// Returns the error of a commit after another process has become the owner of the folder.
+pub fn lost_folder() -> CommitError {
+    CommitError::Disk(DiskError::Content)
+}
+
+/// Starts the thread that rewrites the log, and ends the service if another process becomes the owner of the folder.
+///
+/// Without the thread, the log is rewritten only at a start, and only a commit finds that there is another owner.
+fn start_watch<W: Threads + Wait + Copy + Send + 'static>(
+    rt: &W,
+    watch: Watch,
+    end: &Arc<EndCell, Global>,
+) {
+    let Ok(end) = Arc::try_clone(end) else {
+        return;
+    };
+    let handle = *rt;
+    let job = move || {
+        watch.run();
+        end.end(&handle, ServiceEnd::Failed(lost_folder()));
+    };
+    let _ = thread::spawn(rt, job);
 }
 
 /// Writes what waits, syncs it unless the log is never synced, and marks the end of the log.
@@ -369,7 +388,7 @@ fn serve_started<
 /// The store's history begins with the records that were replayed, and no others, all of them durable on the log's device
 /// (`start`). The store of these parts, which is served, and the store of this log are one: they have the same names.
 fn serve_log_parts<
-    W: Threads + Wait + Sync,
+    W: Threads + Wait + Sync + Copy + Send + 'static,
     S: Naming + Send + Sync,
     L: LeaseNaming + Send + Sync,
     I: Read + Send + Drop,
@@ -380,7 +399,7 @@ fn serve_log_parts<
     parts: Parts,
     examined: ExaminedLog<'_>,
     leases: SharedLog<LeaseEvent>,
-    end: &EndCell,
+    end: &Arc<EndCell, Global>,
     lines: &mut [Connection<I, O>],
 ) -> Result<ServedLog<S>, ServeFault>
     requires named { names_of parts ≡ S.names }
@@ -401,13 +420,13 @@ fn serve_log_parts<
     let replayed = ReplayedDisk::new(alloc)?;
     let (store, device) = Store::<S>::with_log(parts, replayed);
     let started = replay_hashed(rt, &host, folder, alloc, &store, device, log, next)?;
-    start_watch(rt, watch);
+    start_watch(rt, watch, end);
     serve_started::<W, S, L, I, O>(rt, alloc, &store, started, leases, end, lines)
 }
 
 /// Serves as `serve_log_parts` does. Returns the totals alone, so that its caller may name the parts and the log.
 fn serve_for_totals<
-    W: Threads + Wait + Sync,
+    W: Threads + Wait + Sync + Copy + Send + 'static,
     S: Naming + Send + Sync,
     L: LeaseNaming + Send + Sync,
     I: Read + Send + Drop,
@@ -418,7 +437,7 @@ fn serve_for_totals<
     parts: Parts,
     examined: ExaminedLog<'_>,
     leases: SharedLog<LeaseEvent>,
-    end: &EndCell,
+    end: &Arc<EndCell, Global>,
     lines: &mut [Connection<I, O>],
 ) -> Result<Totals, ServeFault>
     requires named { names_of parts ≡ S.names }
@@ -434,7 +453,8 @@ fn serve_for_totals<
 /// does. Each change is recorded in the log, and is durable before its reply if the policy of the parts promises that. Returns
 /// the store's totals, in which the replayed changes are counted.
 ///
-/// While the connections are served, a thread rewrites the closed files of the log. It goes on until the program ends.
+/// While the connections are served, a thread rewrites the closed files of the log. It goes on until the program ends, or another
+/// process becomes the owner of the folder: then `end` gets that.
 ///
 /// If the log fails, no reply is sent any more, and `end` gets the error at once: the other connections may wait for requests.
 ///
@@ -444,12 +464,16 @@ fn serve_for_totals<
 /// - `Read`, if the log cannot be read.
 /// - `Record`, if a record cannot be replayed. Then no connection is served.
 /// - `Log`, if the log cannot be written, at the start or at the end.
-pub fn serve_log<W: Threads + Wait + Sync, I: Read + Send + Drop, O: Write + Send + Drop>(
+pub fn serve_log<
+    W: Threads + Wait + Sync + Copy + Send + 'static,
+    I: Read + Send + Drop,
+    O: Write + Send + Drop,
+>(
     rt: &W,
     alloc: Global,
     parts: Parts,
     examined: ExaminedLog<'_>,
-    end: &EndCell,
+    end: &Arc<EndCell, Global>,
     lines: &mut [Connection<I, O>],
 ) -> Result<Totals, ServeFault>
     ensures served { OnOk result (AreServedOn parts I.remaining O.contents lines.old lines.new) }

@@ -10,8 +10,9 @@ use log_folder::{
     salvage,
 };
 use server_cli::{LogOptions, Need, Options, Stop};
+use std::alloc::Global;
 use std::io::{self, ErrorKind, Read, Write};
-use std::sync::Wait;
+use std::sync::{Arc, Wait};
 use std::thread::Threads;
 use store_replay::{Cause, Damage, FolderFile, LogPlace};
 use store_server::{Connection, EndCell};
@@ -218,7 +219,7 @@ fn serve_once<
     options: &Options<'w>,
     how: LogOptions<'w>,
     log: ExaminedLog<'w>,
-    end: &EndCell,
+    end: &Arc<EndCell, Global>,
     lines: &mut [Connection<I, O>],
 ) -> Result<(), Stop<'w>>
     requires { IsWithin (options.now).store }
@@ -288,7 +289,7 @@ pub fn serve_folder<
     folder: &DataFolder<'w>,
     how: LogOptions<'w>,
     log: ExaminedLog<'w>,
-    end: &EndCell,
+    end: &Arc<EndCell, Global>,
     lines: &mut [Connection<I, O>],
 ) -> Result<(), Stop<'w>>
     requires { IsWithin (options.now).store }

@@ -27,14 +27,14 @@ mod hashers;
 mod log_service;
 mod totals;
 
+use crate::durable_serving::lost_folder;
 use crate::folder_stop::{folder_stop, log_stop, owner_stop};
 use crate::log_service::{open_folder, serve_folder};
 use crate::totals::conclude;
 use blob_store::Parts;
-use durable_log::CommitError;
-use log_disk::DiskError;
 use log_folder::DataFolder;
 use server_cli::{LogOptions, Options, Stop, read_arguments};
+use std::alloc::Global;
 use std::env;
 use std::fs::File;
 use std::io::{self, BufReader, BufWriter, ErrorKind, Read, Write};
@@ -138,7 +138,7 @@ fn run_in_folder<'w, W: Threads + Wait + Sync + Copy + Send + 'static>(
     options: &Options<'w>,
     folder: &DataFolder<'w>,
     how: LogOptions<'w>,
-    end: &EndCell,
+    end: &Arc<EndCell, Global>,
 ) -> Result<(), Stop<'w>>
     requires { IsWithin (options.now).store }
 {
@@ -166,7 +166,7 @@ fn run_with_log<'w, W: Threads + Wait + Sync + Copy + Send + 'static>(
     threads: &W,
     options: &Options<'w>,
     how: LogOptions<'w>,
-    end: &EndCell,
+    end: &Arc<EndCell, Global>,
 ) -> Result<(), Stop<'w>>
     requires { IsWithin (options.now).store }
 {
@@ -210,17 +210,12 @@ fn status_of(rt: &HostRuntime, done: Result<(), Stop<'_>>) -> u8 {
     }
 }
 
-/// Returns the error of a commit after another process has become the owner of the folder.
-fn lost_folder() -> CommitError {
-    CommitError::Disk(DiskError::Content)
-}
-
 /// Serves a store with a log as the arguments say, and returns how the service ended.
 fn serve_words<W: Threads + Wait + Sync + Copy + Send + 'static>(
     rt: &HostRuntime,
     threads: &W,
     words: &[String],
-    end: &EndCell,
+    end: &Arc<EndCell, Global>,
 ) -> ServiceEnd {
     let options = match read_arguments(rt.alloc(), words) {
         Ok(options) => options,
