@@ -38,8 +38,8 @@ def a_registry():
 def what_was_pushed_is_shown():
     with a_registry() as (server, manifest, report):
         text = shown(chromium(server.address, "--dump-dom"))
-        for word in ("acme", "60.0 kB of 100.0 kB", "3 of 32768 blobs", "0 of 7 blobs", "2 repositories", "acme/web", "acme/tools/build", f"v2 {manifest}", f"referrer {report} application/spdx+json", "1 manifest", "2 manifests", "other",
-                     "No repository.", "freed 1 slots", "Free slots 65533 of 65536", "Data durable", "Store not verified" if "NOT VERIFIED" in server.logged() else "Store verified",
+        for word in ("acme", "60.0 kB of 100.0 kB", "3 of 524288 blobs", "0 of 7 blobs", "2 repositories", "acme/web", "acme/tools/build", f"v2 {manifest}", f"referrer {report} application/spdx+json", "1 manifest", "2 manifests", "other",
+                     "No repository.", "freed 1 slots", "Free slots 1048573 of 1048576", "Data durable", "Store not verified" if "NOT VERIFIED" in server.logged() else "Store verified",
                      "Last commit of tags", "Last sync of the log"):
             assert word in text, (word, text)
         assert "v1" not in text.split() and "Cannot" not in text and "Loading" not in text, text

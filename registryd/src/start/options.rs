@@ -82,7 +82,7 @@ pub(crate) struct Options {
     #[arg(long, value_name = "ADDR:PORT", default_value = "127.0.0.1:5000")]
     pub(super) listen: SocketAddr,
     /// Set the maximum number of different blobs
-    #[arg(long, value_name = "N", default_value_t = 65536, value_parser = clap::value_parser!(u32).range(1..=1 << 24))]
+    #[arg(long, value_name = "N", default_value_t = 1 << 20, value_parser = clap::value_parser!(u32).range(1..=1 << 24))]
     pub(super) slots: u32,
     /// Limit the length of a blob
     #[arg(long, value_name = "BYTES", default_value_t = 1 << 32)]
