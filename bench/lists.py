@@ -146,6 +146,7 @@ def requests(registry, size, calls):
         ("100 tags", lists, lambda number: registry.ask("GET", f"/v2/t/one/tags/list?n=100&last=v{middle}")),
         ("100 repositories", lists, lambda number: registry.ask("GET", f"/v2/_catalog?n=100&last=t/r{middle}")),
         ("100 referrers", lists, lambda number: registry.ask("GET", f"/v2/t/two/referrers/{DESCRIPTOR['digest']}?n=100&last=sha256:8")),
+        ("no referrers", calls, lambda number: registry.ask("GET", f"/v2/t/one/referrers/{digest_of(content(f'one {number * spread % size}'))}")),
         ("PUT of a manifest, which moves a tag", calls, put_new),
         ("DELETE of a manifest", calls, delete_new),
     ]

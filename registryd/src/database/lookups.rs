@@ -4,7 +4,7 @@ use crate::http::pages::Page;
 use crate::metadata::bounds::Totals;
 use crate::metadata::document::Facts;
 use crate::metadata::repository::NamedManifest;
-use crate::metadata::tag::TagTimes;
+use crate::metadata::tag::{RemovedTag, TagTimes};
 use rusqlite::{params, Connection, OptionalExtension, Row, Statement, StatementStatus, ToSql};
 
 /// A tag as the database has it, with its manifest.
@@ -201,6 +201,18 @@ pub(crate) fn tags_of(
     page(connection, query, params![repo, digest], most, |row| Ok(Some(row.get(0)?).filter(|tag: &String| is_wanted(tag))))
 }
 
+/// Returns the tags of a manifest in order with their times.
+pub(super) fn tags_to_remove(connection: &Connection, repo: &str, digest: &str) -> rusqlite::Result<Vec<RemovedTag>> {
+    // By itself, SQLite would look at all tags of the repository: their order is that of the names too.
+    let query = "SELECT tag, pushed, pulled FROM tags INDEXED BY tags_by_digest
+                 WHERE repository = ?1 AND digest = ?2 ORDER BY tag";
+    let read = |row: &Row<'_>| {
+        let times = TagTimes { pushed: number(row, 1)?, pulled: number(row, 2)? };
+        Ok(Some(RemovedTag { name: row.get(0)?, times }))
+    };
+    Ok(page(connection, query, params![repo, digest], usize::MAX, read)?.items)
+}
+
 /// Returns the names of the tags after `last` in order. `is_hidden` returns whether those of a manifest are left out.
 pub(crate) fn tag_names(
     connection: &Connection,
@@ -240,7 +252,8 @@ pub(crate) fn referrers(
     (repo, subject, last): (&str, &str, &str),
     mut see: impl FnMut(NamedManifest, Option<String>, u64) -> bool,
 ) -> rusqlite::Result<()> {
-    let query = "SELECT digest, media_type, size, artifact_type, since FROM manifests
+    // By itself, SQLite would look at all manifests after `last`: their order is that of the digests too.
+    let query = "SELECT digest, media_type, size, artifact_type, since FROM manifests INDEXED BY manifests_by_subject
                  WHERE repository = ?1 AND subject = ?2 AND digest > ?3 ORDER BY digest";
     let mut statement = connection.prepare_cached(query)?;
     let mut rows = statement.query(params![repo, subject, last])?;
@@ -256,13 +269,18 @@ pub(crate) fn referrers(
 
 /// Returns the manifests that are no indexes and have no subject, in the order of their digests, at most `most`. `is_hidden` returns whether
 /// one is left out.
+///
+/// # Cost
+///
+/// Looks at the indexes in front of the last one too.
 pub(crate) fn images(
     connection: &Connection,
     repo: &str,
     most: usize,
     is_hidden: impl Fn(&str) -> bool,
 ) -> rusqlite::Result<Page<NamedManifest>> {
-    let query = "SELECT digest, media_type, size FROM manifests AS image WHERE repository = ?1 AND subject IS NULL
+    let query = "SELECT digest, media_type, size FROM manifests AS image INDEXED BY manifests_by_subject
+                 WHERE repository = ?1 AND subject IS NULL
                  AND NOT EXISTS (SELECT 1 FROM listed WHERE listed.repository = ?1 AND listed.digest = image.digest)
                  ORDER BY digest";
     page(connection, query, params![repo], most, |row| Ok(Some(named(row, 0)?).filter(|image| !is_hidden(&image.digest))))
@@ -274,6 +292,10 @@ pub(crate) fn digests(connection: &Connection, repo: &str) -> rusqlite::Result<V
 }
 
 /// Returns the manifests after `last` in the order of their digests that have no tag, at most `most`. `keep` returns what is kept of one.
+///
+/// # Cost
+///
+/// Looks at the manifests with tags in front of the last one too.
 pub(crate) fn untagged<T>(
     connection: &Connection,
     (repo, last): (&str, &str),

@@ -1,5 +1,7 @@
 //! The database `registry.db` and the thread that writes it.
 pub(crate) mod change;
+#[cfg(test)]
+mod costs;
 pub(crate) mod event_rows;
 pub(crate) mod lookups;
 pub(crate) mod marks;

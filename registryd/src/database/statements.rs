@@ -79,13 +79,7 @@ fn record_pull(transaction: &Transaction<'_>, Pull { repo, tag, time }: &Pull) -
 
 /// Removes a manifest with its tags, which it returns. It ceases to hold what it lists, and what has it as subject.
 fn remove_manifest(transaction: &Transaction<'_>, repo: &str, digest: &str, now: u64) -> rusqlite::Result<Vec<RemovedTag>> {
-    let query = "SELECT tag, pushed, pulled FROM tags WHERE repository = ?1 AND digest = ?2 ORDER BY tag";
-    let mut select = transaction.prepare_cached(query)?;
-    let read = |row: &rusqlite::Row<'_>| {
-        let times = TagTimes { pushed: row.get::<_, i64>(1)? as u64, pulled: row.get::<_, i64>(2)? as u64 };
-        Ok(RemovedTag { name: row.get(0)?, times })
-    };
-    let tags = select.query_map(params![repo, digest], read)?.collect::<rusqlite::Result<Vec<RemovedTag>>>()?;
+    let tags = lookups::tags_to_remove(transaction, repo, digest)?;
     for query in [
         "UPDATE manifests SET since = ?3 WHERE repository = ?1
          AND digest IN (SELECT listed FROM listed WHERE repository = ?1 AND digest = ?2)",
