@@ -51,9 +51,14 @@ pub(super) fn is_of_log(name: &str) -> bool {
 
 /// Returns the last file of the log in a folder, or `None` if no regular file is part of one. A segment with the number of a base
 /// was replaced by it.
-pub(crate) fn last_file(folder: &Path) -> Option<LastFile> {
+///
+/// # Errors
+///
+/// Fails if the folder or a file of the log cannot be looked at.
+pub(crate) fn find_last_file(folder: &Path) -> io::Result<Option<LastFile>> {
     let mut last: Option<(u64, bool, PathBuf, u64)> = None;
-    for file in std::fs::read_dir(folder).ok()?.flatten() {
+    for file in std::fs::read_dir(folder)? {
+        let file = file?;
         let name = file.file_name();
         let name = name.to_str().unwrap_or_default();
         let (found, is_base) = match (number_of(name, "log"), number_of(name, "base")) {
@@ -63,13 +68,20 @@ pub(crate) fn last_file(folder: &Path) -> Option<LastFile> {
         };
         let length = match std::fs::metadata(file.path()) {
             Ok(data) if data.is_file() => data.len(),
-            _ => continue,
+            Err(error) if error.kind() != io::ErrorKind::NotFound => return Err(error),
+            // It is no file, or was removed meanwhile.
+            Ok(_) | Err(_) => continue,
         };
         if last.as_ref().map_or(true, |(number, was_base, ..)| (found, is_base) > (*number, *was_base)) {
             last = Some((found, is_base, file.path(), length));
         }
     }
-    last.map(|(number, is_base, path, length)| LastFile { path, number, length: if is_base { WHOLE } else { length } })
+    Ok(last.map(|(number, is_base, path, length)| LastFile { path, number, length: if is_base { WHOLE } else { length } }))
+}
+
+/// Returns the last file of the log in a folder, or `None` if there is none or it cannot be found.
+pub(super) fn last_file(folder: &Path) -> Option<LastFile> {
+    find_last_file(folder).ok().flatten()
 }
 
 /// Returns the id in the header of a file of a log, or `None` if it has none.
@@ -152,7 +164,14 @@ mod tests {
         put("log.11", b"x");
         assert_eq!(LogEnd::of(&folder), None);
         assert!(last_file(&folder).is_some());
-        std::fs::remove_dir_all(folder).unwrap();
+        // A link to itself can be found and not followed, and one to nothing leads to no file.
+        std::os::unix::fs::symlink("none", folder.join("log.12")).unwrap();
+        assert_eq!(find_last_file(&folder).unwrap().map(|last| last.number), Some(11));
+        std::os::unix::fs::symlink("log.13", folder.join("log.13")).unwrap();
+        assert!(find_last_file(&folder).is_err() && last_file(&folder).is_none());
+        std::fs::remove_dir_all(&folder).unwrap();
+        let missing = find_last_file(&folder).err().map(|error| error.kind());
+        assert_eq!((missing, last_file(&folder).is_none()), (Some(io::ErrorKind::NotFound), true));
     }
 
     #[test]

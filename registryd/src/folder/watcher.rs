@@ -1,5 +1,6 @@
 //! The look at the folder that happens once a second while clients are served. It finds out if a file that the programs have
-//! open was removed, moved or replaced, looks at the room on the disk, and records in the database how far the log is on the disk.
+//! open was removed, moved or replaced, or cannot be reached, looks at the room on the disk, and records in the database how far the log is
+//! on the disk.
 use crate::database::change::Change;
 use crate::database::sqlite;
 use crate::database::writer::Writer;
@@ -21,7 +22,7 @@ const REST: Duration = Duration::from_secs(1);
 /// The number of looks after which the end of the log is recorded although it changes all the time.
 const MOST_LOOKS: u32 = 60;
 
-/// The pause before a second look at a file that seems to be gone: a name may be missed while others are made.
+/// The pause before a second look after one that found something wrong: a name may be missed while others are made.
 const SECOND_LOOK: Duration = Duration::from_millis(100);
 
 /// The name of the file that the store locks.
@@ -32,6 +33,26 @@ type Identity = (u64, u64);
 
 fn identity(path: &Path) -> io::Result<Identity> {
     std::fs::metadata(path).map(|data| (data.dev(), data.ino()))
+}
+
+/// What is wrong with the folder or a file in it.
+#[derive(Debug)]
+enum Trouble {
+    /// It was removed, moved or replaced.
+    Gone(PathBuf),
+    /// It cannot be looked at.
+    Unreachable(PathBuf, io::Error),
+}
+
+impl Trouble {
+    /// Returns what is wrong with a file that had an identity, by the look at its path.
+    fn of(path: &Path, known: Identity, looked: io::Result<Identity>) -> Result<(), Trouble> {
+        match looked {
+            Ok(found) if found == known => Ok(()),
+            Err(error) if error.kind() != io::ErrorKind::NotFound => Err(Trouble::Unreachable(path.to_path_buf(), error)),
+            Ok(_) | Err(_) => Err(Trouble::Gone(path.to_path_buf())),
+        }
+    }
 }
 
 /// The folder and the files in it that may not change.
@@ -48,33 +69,37 @@ impl Files {
     fn of(folder: &Path) -> Files {
         let fixed = [folder.to_path_buf(), folder.join(LOCK), folder.join(sqlite::FILE_NAME)];
         let fixed = fixed.into_iter().filter_map(|path| identity(&path).ok().map(|found| (path, found))).collect();
-        Files { fixed, last: last_of(folder) }
+        Files { fixed, last: last_of(folder).ok().flatten() }
     }
 
-    /// Returns the file that is gone, if one is, and notes the last file of the log.
-    fn gone(&mut self, folder: &Path) -> Option<PathBuf> {
-        let is_gone = |path: &Path, known: Identity| identity(path).map_or(true, |found| found != known);
-        if let Some((path, _)) = self.fixed.iter().find(|(path, known)| is_gone(path, *known)) {
-            return Some(path.clone());
-        }
-        let found = last_of(folder);
+    /// Checks that each file is in its place, and notes the last file of the log.
+    ///
+    /// # Errors
+    ///
+    /// Fails if a file is gone, or if it cannot be reached.
+    fn check(&mut self, folder: &Path) -> Result<(), Trouble> {
+        self.fixed.iter().try_for_each(|(path, known)| Trouble::of(path, *known, identity(path)))?;
+        let found = match last_of(folder) {
+            // It was removed after its name was read.
+            Err(error) if error.kind() == io::ErrorKind::NotFound => None,
+            found => found.map_err(|error| Trouble::Unreachable(folder.to_path_buf(), error))?,
+        };
         if let Some((number, path, known)) = &self.last {
             match &found {
                 Some((now, ..)) if now > number => {}
                 Some((now, _, identity)) if now == number && identity == known => {}
-                _ => return Some(path.clone()),
+                _ => return Err(Trouble::Gone(path.clone())),
             }
         }
         self.last = found;
-        None
+        Ok(())
     }
 }
 
 /// Returns the last file of the log.
-fn last_of(folder: &Path) -> Option<(u64, PathBuf, Identity)> {
-    let last = log_end::last_file(folder)?;
-    let found = identity(&last.path).ok()?;
-    Some((last.number, last.path, found))
+fn last_of(folder: &Path) -> io::Result<Option<(u64, PathBuf, Identity)>> {
+    let last = log_end::find_last_file(folder)?;
+    last.map(|last| identity(&last.path).map(|found| (last.number, last.path, found))).transpose()
 }
 
 /// The looks at a folder.
@@ -122,11 +147,9 @@ impl Watcher {
         if matches!(self.owner.is_current(), Ok(false)) {
             return Err(Failure::of_lost_folder());
         }
-        if self.files.gone(&self.folder).is_some() {
+        if self.files.check(&self.folder).is_err() {
             std::thread::sleep(SECOND_LOOK);
-            if let Some(path) = self.files.gone(&self.folder) {
-                return Err(self.why_gone(&path));
-            }
+            self.files.check(&self.folder).map_err(|trouble| self.failure(&trouble))?;
         }
         self.room.tend();
         let end = LogEnd::of(&self.folder);
@@ -138,11 +161,12 @@ impl Watcher {
         Ok(())
     }
 
-    /// Returns why a file is gone: another store has taken the folder over, or somebody has removed it.
-    fn why_gone(&self, path: &Path) -> Failure {
-        match self.owner.is_current() {
-            Ok(false) => Failure::of_lost_folder(),
-            _ => Failure::of_gone(path),
+    /// Returns why the programs end: another store has taken the folder over, or else a file is gone or cannot be reached.
+    fn failure(&self, trouble: &Trouble) -> Failure {
+        match (self.owner.is_current(), trouble) {
+            (Ok(false), _) => Failure::of_lost_folder(),
+            (_, Trouble::Gone(path)) => Failure::of_gone(path),
+            (_, Trouble::Unreachable(path, error)) => Failure::of_unreachable(path, error),
         }
     }
 
@@ -168,4 +192,59 @@ fn keep_end(folder: &Path, writer: &Writer) -> Result<Option<LogEnd>, Failure> {
 /// Records the end of the log when no request changes it any more.
 pub(crate) async fn keep_last_end(folder: PathBuf, writer: Arc<Writer>) -> Result<(), Failure> {
     blocking(move || keep_end(&folder, &writer).map(|_| ())).await
+}
+
+#[cfg(test)]
+mod tests {
+    use super::*;
+    use crate::database::test_folder::TestFolder;
+    use std::os::unix::fs::symlink;
+
+    #[test]
+    fn only_a_file_that_is_not_found_or_another_one_is_gone() {
+        let of = |looked| Trouble::of(Path::new("/data/lock"), (1, 2), looked);
+        let failed = |code| of(Err(io::Error::from_raw_os_error(code)));
+        assert!(of(Ok((1, 2))).is_ok());
+        for gone in [of(Ok((1, 3))), of(Ok((2, 2))), failed(libc::ENOENT)] {
+            assert!(matches!(&gone, Err(Trouble::Gone(path)) if path == Path::new("/data/lock")), "{gone:?}");
+        }
+        for code in [libc::EIO, libc::ESTALE, libc::EACCES, libc::ENOTCONN, libc::ETIMEDOUT] {
+            let unreachable = failed(code);
+            assert!(
+                matches!(&unreachable, Err(Trouble::Unreachable(_, error)) if error.raw_os_error() == Some(code)),
+                "{unreachable:?}"
+            );
+        }
+    }
+
+    #[test]
+    fn files_that_are_gone_or_cannot_be_reached_are_found() {
+        let folder = TestFolder::new();
+        let at = |name: &str| folder.0.join(name);
+        let write = |name: &str| std::fs::write(at(name), name).unwrap();
+        ["lock", "log.1"].map(write);
+        let mut files = Files::of(&folder.0);
+        let text = |files: &mut Files| match files.check(&folder.0) {
+            Ok(()) => "in place".to_string(),
+            Err(Trouble::Gone(path)) => format!("{} is gone", path.file_name().unwrap().to_string_lossy()),
+            Err(Trouble::Unreachable(path, error)) => {
+                format!("{}: {}", path.strip_prefix(&folder.0).unwrap().display(), error.raw_os_error().unwrap())
+            }
+        };
+        assert_eq!(text(&mut files), "in place");
+        // A link to itself can be found and not followed.
+        let unreachable = libc::ELOOP;
+        for (name, found) in [("lock", format!("lock: {unreachable}")), ("log.1", format!(": {unreachable}"))] {
+            std::fs::rename(at(name), at("moved")).unwrap();
+            assert_eq!(text(&mut files), format!("{name} is gone"));
+            symlink(name, at(name)).unwrap();
+            assert_eq!(text(&mut files), found);
+            std::fs::rename(at("moved"), at(name)).unwrap();
+            assert_eq!(text(&mut files), "in place");
+        }
+        write("log.2");
+        assert_eq!(text(&mut files), "in place");
+        std::fs::remove_file(at("log.2")).unwrap();
+        assert_eq!(text(&mut files), "log.2 is gone");
+    }
 }

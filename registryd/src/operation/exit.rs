@@ -105,6 +105,12 @@ impl Failure {
         Failure { status: NOT_WRITTEN, text }
     }
 
+    /// The folder, or a file that the programs have open, cannot be reached.
+    pub(crate) fn of_unreachable(path: &Path, error: &io::Error) -> Failure {
+        let advice = "see to its disk, its rights and its network, and start again";
+        Failure { status: NOT_WRITTEN, text: format!("cannot reach {}: {error}: {advice}", path.display()) }
+    }
+
     /// The log could not be synced.
     pub(crate) fn of_log(error: &io::Error) -> Failure {
         let advice = "make room or replace the disk, and start again";
@@ -158,6 +164,14 @@ impl From<OpenError> for Failure {
 #[cfg(test)]
 mod tests {
     use super::*;
+
+    #[test]
+    fn a_file_that_cannot_be_reached_is_not_called_gone() {
+        let failure = Failure::of_unreachable(Path::new("/data/lock"), &io::Error::from_raw_os_error(libc::EIO));
+        let text = failure.to_string();
+        assert!(text.starts_with("cannot reach /data/lock: Input/output error (os error 5): "), "{text}");
+        assert_eq!((failure.status, Failure::of_gone(Path::new("/data/lock")).status), (NOT_WRITTEN, NOT_WRITTEN));
+    }
 
     #[test]
     fn the_statuses_of_a_folder_are_those_of_blobd() {

@@ -132,6 +132,12 @@ fn is_full(room: &DiskRoom, folder: &Path) -> bool {
     is_full
 }
 
+/// Returns whether there is a log in the folder. Fails if that cannot be found out.
+fn has_log(folder: &Path) -> Result<bool, Failure> {
+    let last = log_end::find_last_file(folder);
+    last.map(|last| last.is_some()).map_err(|error| Failure::of_folder("cannot look at the log", folder, &error))
+}
+
 /// Opens the folder of the options. Drops its cached pages before anything reads them.
 pub(super) fn open(options: &Options, folder: PathBuf, room: &DiskRoom) -> Result<Opened, Failure> {
     let is_synced = options.is_durable();
@@ -148,7 +154,7 @@ pub(super) fn open(options: &Options, folder: PathBuf, room: &DiskRoom) -> Resul
         tracing::warn!("--accept-loss is given: a loss that this start finds is accepted; remove the option afterwards");
     }
     let on_loss = on_loss(options, &folder);
-    if !has_database(&folder) && log_end::last_file(&folder).is_some() {
+    if !has_database(&folder) && has_log(&folder)? {
         on_loss.meet(&Loss::Database)?;
     }
     let is_full = is_full(room, &folder);
@@ -159,8 +165,7 @@ pub(super) fn open(options: &Options, folder: PathBuf, room: &DiskRoom) -> Resul
         true => Database::open_without_room(&folder, is_synced)?,
         false => Database::open(&folder, is_synced)?,
     };
-    let has_log = log_end::last_file(&folder).is_some();
-    if let Some(loss) = Loss::by_marks(database.marks(), database.older_by(), has_log, LogEnd::of(&folder)) {
+    if let Some(loss) = Loss::by_marks(database.marks(), database.older_by(), has_log(&folder)?, LogEnd::of(&folder)) {
         on_loss.meet(&loss)?;
     }
     if !is_full {
