@@ -57,13 +57,15 @@ impl Default for ManifestTable {
 impl ManifestTable {
     /// Makes the table over a database.
     pub(crate) fn over(rows: Arc<Readers>) -> ManifestTable {
-        let counted =
-            rows.read(|rows| lookups::repositories(rows, ("", ""), "", usize::MAX, |repo, totals| Some((repo, totals))));
-        let mut stored: HashMap<String, Totals> = HashMap::new();
-        for (repo, totals) in counted.items {
-            let sum = stored.entry(tenant_of(&repo).to_string()).or_default();
-            *sum = *sum + totals;
-        }
+        let stored = rows.read(|rows| {
+            let mut stored: HashMap<String, Totals> = HashMap::new();
+            lookups::repositories(rows, ("", ""), "", usize::MAX, |repo, totals| {
+                let sum = stored.entry(tenant_of(&repo).to_string()).or_default();
+                *sum = *sum + totals;
+                None::<()>
+            })?;
+            Ok(stored)
+        });
         let tenant = |(name, stored)| (name, Arc::new(Mutex::new(Tenant::of(stored))));
         ManifestTable {
             rows,
@@ -370,6 +372,19 @@ mod tests {
             self.take_tags_of(repo, digest, now);
             self.finish_removal(repo, digest);
         }
+    }
+
+    #[test]
+    fn a_table_over_rows_has_the_totals_of_their_tenants() {
+        let table = ManifestTable::default();
+        for (repo, digest, tag) in
+            [("acme/a", "a", Some("v1")), ("acme/b", "a", None), ("acme/b", "b", Some("v1")), ("other", "a", None)]
+        {
+            table.put(repo, digest, Facts { size: 7, ..facts(TYPE) }, tag, 1);
+        }
+        let again = ManifestTable::over(table.rows);
+        assert_eq!(again.totals("acme"), Totals { manifests: 3, manifest_bytes: 21, tags: 2 });
+        assert_eq!((again.totals("other"), again.totals("none")), (one(7), Totals::default()));
     }
 
     #[test]

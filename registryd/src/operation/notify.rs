@@ -89,16 +89,21 @@ impl Notifier {
         }
     }
 
-    /// Sends the status of a start again and again, and gives the start more time each time that it has gone on. It never returns.
+    /// Sends and logs the status of a start again and again, and gives the start more time each time that it has gone on. It never
+    /// returns.
     pub(crate) async fn extend_start<T>(&self, progress: impl Fn() -> Progress) -> T {
         let mut last = None;
         loop {
             let found = progress();
-            if last != Some(found.read) {
-                last = Some(found.read);
+            if last != Some(found.done) {
+                last = Some(found.done);
                 self.send(&format!("EXTEND_TIMEOUT_USEC={}", START_TIME.as_micros()));
             }
             self.send(&format!("STATUS={found}"));
+            // The first one comes when the start begins.
+            if found.seconds > 0 {
+                tracing::info!("{found}");
+            }
             tokio::time::sleep(START_REST).await;
         }
     }

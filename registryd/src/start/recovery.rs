@@ -23,14 +23,18 @@ use crate::start::opening::Opened;
 use crate::store::client::{Store, StoreUnavailable};
 use crate::store::frames::{Command, Reason, Refusal, Request};
 use crate::store::undo::Undo;
-use std::collections::{BTreeMap, HashMap, HashSet};
+use std::collections::{BTreeMap, BTreeSet, HashMap, HashSet};
 use std::path::PathBuf;
+use std::sync::atomic::{AtomicU64, Ordering};
 
 /// The number of calls that are sent at once. Their replies fit into the shortest pipe, so `blobd` reads all of them.
 const BATCH: usize = 64;
 
 /// The number of manifests of the database that are compared with the store at once.
 const COMPARED: usize = 4096;
+
+/// The number of manifests that the start of this process has compared with the store.
+static COMPARED_SO_FAR: AtomicU64 = AtomicU64::new(0);
 
 /// The first and the greatest number of session numbers that are searched at once.
 const SEARCHED: (u32, u32) = (128, 4096);
@@ -75,6 +79,11 @@ struct Findings {
     recorded: Vec<(String, u32)>,
     /// Whether numbers are used again, because the store has lost some.
     have_numbers_returned: bool,
+}
+
+/// Returns the number of manifests that the start of this process has compared with the store.
+pub(crate) fn manifests_compared() -> u64 {
+    COMPARED_SO_FAR.load(Ordering::Relaxed)
 }
 
 /// Compares the database of a folder with the store, and corrects it. Ends the start if the store has lost something that was on
@@ -260,11 +269,19 @@ async fn missing_manifests(store: &Store, mut database: Database) -> Result<(Dat
             None => return Ok((back, missing)),
         };
         database = back;
-        let command = Request::new(Command::StatManifest);
-        let requests: Vec<Request<'_>> = keys.iter().map(|(repo, digest)| Request { repo, digest, ..command.clone() }).collect();
-        let answers = store.ask_each(&requests).await.map_err(|StoreUnavailable| not_replied())?;
-        missing.extend(keys.iter().zip(&answers).filter(|(_, answer)| is_missing(answer)).map(|(key, _)| key.clone()));
+        let see = |key: &ManifestKey, answer: Result<u64, Refusal>| {
+            if is_missing(&answer) {
+                missing.push(key.clone());
+            }
+        };
+        let asked = store.ask_each(keys.iter(), stat_request, see).await;
+        asked.map_err(|StoreUnavailable| not_replied())?;
+        COMPARED_SO_FAR.fetch_add(keys.len() as u64, Ordering::Relaxed);
     }
+}
+
+fn stat_request((repo, digest): &ManifestKey) -> Request<'_> {
+    Request { repo, digest, ..Request::new(Command::StatManifest) }
 }
 
 /// Returns whether the store replied that it does not have a manifest.
@@ -298,20 +315,18 @@ async fn find_uploads(
 ) -> Result<(), StoreUnavailable> {
     let known: Vec<&UploadRow> = rows.uploads.iter().filter(|row| tenant_of(&row.repo) == tenant).collect();
     let mut open = 0;
-    let requests: Vec<Request<'_>> = known.iter().map(|row| status_request(&row.repo, row.number)).collect();
-    for (row, answer) in known.iter().zip(store.ask_each(&requests).await?) {
-        match answer {
-            Ok(received) => {
-                open += 1;
-                findings.uploads.push(FoundUpload { repo: row.repo.clone(), number: row.number, received });
-            }
-            Err(Refusal { reason: Reason::UploadUnknown, .. }) => {
-                findings.changes.push(Change::EndUpload { repo: row.repo.clone(), number: row.number });
-            }
-            // It stays recorded, and the next start asks again.
-            Err(refusal) => tracing::warn!(repo = %row.repo, reason = ?refusal.reason, "cannot find an upload"),
+    let see = |row: &UploadRow, answer| match answer {
+        Ok(received) => {
+            open += 1;
+            findings.uploads.push(FoundUpload { repo: row.repo.clone(), number: row.number, received });
         }
-    }
+        Err(Refusal { reason: Reason::UploadUnknown, .. }) => {
+            findings.changes.push(Change::EndUpload { repo: row.repo.clone(), number: row.number });
+        }
+        // It stays recorded, and the next start asks again.
+        Err(refusal) => tracing::warn!(repo = %row.repo, reason = ?refusal.reason, "cannot find an upload"),
+    };
+    store.ask_each(known.iter().copied(), |row| status_request(&row.repo, row.number), see).await?;
     let recorded = rows.recorded.get(tenant).copied().unwrap_or(0);
     if is_full {
         return Ok(());
@@ -344,21 +359,20 @@ async fn find_uploads(
 /// Removes the repositories that are empty, or that the store does not have. A crash may leave them, and so does the
 /// search for uploads. Returns the changes that remove their records. Those of other tenants stay.
 async fn remove_unused(store: &Store, repos: &mut Vec<String>) -> Result<Vec<Change>, StoreUnavailable> {
-    let (own, other): (Vec<String>, Vec<String>) = repos.drain(..).partition(|repo| store.has_tenant(repo));
-    let requests: Vec<Request<'_>> = own.iter().map(|repo| Request { repo, ..Request::new(Command::RemoveRepo) }).collect();
-    let answers = store.ask_each(&requests).await?;
-    *repos = other;
-    let mut changes = Vec::new();
-    for (repo, answer) in own.into_iter().zip(answers) {
-        match answer {
-            Ok(_) | Err(Refusal { reason: Reason::NameUnknown, .. }) => changes.push(Change::RemoveRepository { repo }),
-            Err(_) => repos.push(repo),
+    let mut removed = BTreeSet::new();
+    let see = |repo: &String, answer| {
+        if matches!(answer, Ok(_) | Err(Refusal { reason: Reason::NameUnknown, .. })) {
+            removed.insert(repo.clone());
         }
+    };
+    let request = |repo| Request { repo, ..Request::new(Command::RemoveRepo) };
+    let own = repos.iter().filter(|repo| store.has_tenant(repo));
+    store.ask_each(own, |repo: &String| request(repo), see).await?;
+    if !removed.is_empty() {
+        repos.retain(|repo| !removed.contains(repo));
+        tracing::info!(count = removed.len(), "removed empty repositories");
     }
-    if !changes.is_empty() {
-        tracing::info!(count = changes.len(), "removed empty repositories");
-    }
-    Ok(changes)
+    Ok(removed.into_iter().map(|repo| Change::RemoveRepository { repo }).collect())
 }
 
 fn status_request(repo: &str, number: u32) -> Request<'_> {
@@ -368,14 +382,13 @@ fn status_request(repo: &str, number: u32) -> Request<'_> {
 /// Returns the uploads with these numbers that are open in one of the repositories.
 async fn search(store: &Store, repos: &[&str], numbers: &[u32]) -> Result<Vec<FoundUpload>, StoreUnavailable> {
     let mut found = Vec::new();
-    for repo in repos {
-        let requests: Vec<Request<'_>> = numbers.iter().map(|number| status_request(repo, *number)).collect();
-        for (number, answer) in numbers.iter().zip(store.ask_each(&requests).await?) {
-            if let Ok(received) = answer {
-                found.push(FoundUpload { repo: repo.to_string(), number: *number, received });
-            }
+    let asked = repos.iter().flat_map(|repo| numbers.iter().map(move |number| (*repo, *number)));
+    let see = |(repo, number): (&str, u32), answer| {
+        if let Ok(received) = answer {
+            found.push(FoundUpload { repo: repo.to_string(), number, received });
         }
-    }
+    };
+    store.ask_each(asked, |(repo, number)| status_request(repo, number), see).await?;
     Ok(found)
 }
 
@@ -396,14 +409,44 @@ async fn next_number(store: &Store, repos: &[&str]) -> Result<Option<u32>, Store
     Ok(None)
 }
 
+/// Returns items in batches of at most `BATCH`.
+fn batches<T>(mut items: impl Iterator<Item = T>) -> impl Iterator<Item = Vec<T>> {
+    std::iter::from_fn(move || {
+        let batch: Vec<T> = items.by_ref().take(BATCH).collect();
+        (!batch.is_empty()).then_some(batch)
+    })
+}
+
 impl Store {
-    /// Makes many short calls for the program itself, and returns the first number of each reply.
-    async fn ask_each(&self, requests: &[Request<'_>]) -> Result<Vec<Result<u64, Refusal>>, StoreUnavailable> {
-        let mut firsts = Vec::with_capacity(requests.len());
-        for batch in requests.chunks(BATCH) {
-            let answers = self.ask_many(self.own(), self.limit, batch, Undo::Nothing).await?;
-            firsts.extend(answers.into_iter().map(|answer| answer.map(|reply| reply.first)));
+    /// Makes a short call for the program itself about each of many items, and calls `see` with the first number of its reply.
+    ///
+    /// # Cost
+    ///
+    /// The calls of a batch are in memory at once.
+    async fn ask_each<'r, T: Copy>(
+        &self,
+        items: impl Iterator<Item = T>,
+        request: impl Fn(T) -> Request<'r>,
+        mut see: impl FnMut(T, Result<u64, Refusal>),
+    ) -> Result<(), StoreUnavailable> {
+        for batch in batches(items) {
+            let requests: Vec<Request<'_>> = batch.iter().map(|item| request(*item)).collect();
+            let answers = self.ask_many(self.own(), self.limit, &requests, Undo::Nothing).await?;
+            batch.into_iter().zip(answers).for_each(|(item, answer)| see(item, answer.map(|reply| reply.first)));
         }
-        Ok(firsts)
+        Ok(())
+    }
+}
+
+#[cfg(test)]
+mod tests {
+    use super::*;
+
+    #[test]
+    fn batches_are_bounded_and_none_is_empty() {
+        let lengths = |count: usize| batches(0..count).map(|batch| batch.len()).collect::<Vec<_>>();
+        assert_eq!((lengths(0), lengths(1), lengths(BATCH)), (vec![], vec![1], vec![BATCH]));
+        assert_eq!(lengths(2 * BATCH + 3), [BATCH, BATCH, 3]);
+        assert_eq!(batches(0..BATCH + 1).flatten().collect::<Vec<_>>(), (0..BATCH + 1).collect::<Vec<_>>());
     }
 }

@@ -5,6 +5,7 @@ use crate::http::browser::restrict;
 use crate::http::fault::Fault;
 use crate::http::responses::{empty, with_body};
 use crate::operation::health::{ALIVE, HEALTH, READY};
+use crate::start::recovery;
 use crate::store::process;
 use hyper::header::{HeaderValue, CONNECTION};
 use hyper::{Body, Request, Response, StatusCode};
@@ -16,19 +17,32 @@ use tokio::sync::OnceCell;
 
 /// How far a start is.
 pub(crate) struct Progress {
-    seconds: u64,
-    /// The number of bytes that the store has read, if that is known.
-    pub(crate) read: Option<u64>,
+    pub(crate) seconds: u64,
     log_bytes: u64,
+    pub(crate) done: Done,
+}
+
+/// What a start has done.
+#[derive(Clone, Copy, PartialEq, Eq)]
+pub(crate) struct Done {
+    /// The number of bytes that the store has read, if that is known.
+    read: Option<u64>,
+    /// The number of manifests of the database that were compared with the store.
+    compared: u64,
 }
 
 impl fmt::Display for Progress {
     fn fmt(&self, text: &mut fmt::Formatter) -> fmt::Result {
         write!(text, "starting for {} s: ", self.seconds)?;
-        if let Some(read) = self.read {
+        let Done { read, compared } = self.done;
+        if let Some(read) = read {
             write!(text, "the store has read {read} bytes, ")?;
         }
-        write!(text, "the log has {} bytes", self.log_bytes)
+        write!(text, "the log has {} bytes", self.log_bytes)?;
+        match compared {
+            0 => Ok(()),
+            _ => write!(text, ", {compared} manifests are compared with the store"),
+        }
     }
 }
 
@@ -75,7 +89,8 @@ impl Service {
 
     /// Returns how far the start is.
     pub(crate) fn progress(&self) -> Progress {
-        Progress { seconds: self.begun.elapsed().as_secs(), read: process::bytes_read(), log_bytes: self.log_bytes }
+        let done = Done { read: process::bytes_read(), compared: recovery::manifests_compared() };
+        Progress { seconds: self.begun.elapsed().as_secs(), log_bytes: self.log_bytes, done }
     }
 
     /// Returns the reply of a start. The connection is closed after it.
@@ -113,8 +128,11 @@ mod tests {
 
     #[test]
     fn progress_has_what_is_known() {
-        let text = |read| Progress { seconds: 3, read, log_bytes: 9 }.to_string();
-        assert_eq!(text(Some(5)), "starting for 3 s: the store has read 5 bytes, the log has 9 bytes");
-        assert_eq!(text(None), "starting for 3 s: the log has 9 bytes");
+        let text = |read, compared| Progress { seconds: 3, log_bytes: 9, done: Done { read, compared } }.to_string();
+        assert_eq!(text(Some(5), 0), "starting for 3 s: the store has read 5 bytes, the log has 9 bytes");
+        assert_eq!(text(None, 0), "starting for 3 s: the log has 9 bytes");
+        let compared =
+            "starting for 3 s: the store has read 9 bytes, the log has 9 bytes, 4096 manifests are compared with the store";
+        assert_eq!(text(Some(9), 4096), compared);
     }
 }
