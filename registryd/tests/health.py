@@ -55,11 +55,11 @@ class Json(Server):
 
 
 class Quiet(Server):
-    """A registry that does not log its address. It is asked at the address of its metrics."""
+    """A registry with few slots that does not log its address. It is asked at the address of its metrics."""
 
     def __init__(self, level):
         self.address = f"127.0.0.1:{free_port()}"
-        super().__init__("--metrics-listen", self.address, "--log-level", level)
+        super().__init__("--slots", "1000", "--metrics-listen", self.address, "--log-level", level)
 
     def listens(self, seconds=60):
         def is_healthy():
