@@ -1,4 +1,4 @@
-//! What a log restores that has notes of contents in place of their bytes. It is proof alone: nothing of it runs.
+//! A log that has notes of contents in place of their bytes determines a store up to these notes. The crate is proof alone.
 #![tactic(auto)]
 
 pub mod laws;
