@@ -1,19 +1,16 @@
 -- The pieces of a content after one deed more.
 use Rattle.std.proofs.Common.{◌≡◌, ◌≤◌, ◌<◌, ◌-◌, ◌+◌, ◌∙◌, ℕ, List, [], ◌∷◌, ◌++◌, true, ap, arith, length, length-append, refl, subst, sym}
 use Rattle.std.specs.Prelude.{drop, map, sum, sum_by, take, get_or}
-use Rattle.content_files.specs.Reads.{IsPieceAt, IsPlaceOf, IsReadOf}
-use Rattle.std.proofs.Math.Seq.{drop-cons, take-add, take-append_seam, take-length}
+use Rattle.std.proofs.Math.Seq.{take-append_seam, take-length}
 use Rattle.std.proofs.lemmas.Grind.{flat_map-append}
-use Rattle.std.proofs.lemmas.List.{length-map, length-take-le, take-append-le, append_assoc, append-nil, map-append, get_or-map, take-append-drop, take-map}
+use Rattle.std.proofs.lemmas.List.{length-map, length-take-le, take-append-le, append_assoc, append-nil, map-append, get_or-map, take-append-drop}
 use Rattle.std.proofs.lemmas.Simd.{map-map}
 use Rattle.std.proofs.lemmas.List.Sums.{sum-map}
-use Rattle.std.proofs.lemmas.List.Concat.{length-flat_map}
-use Rattle.std.specs.Prelude.{◌<◌, nat_lt}
+use Rattle.std.specs.Prelude.{◌<◌}
 use Prim.Native.Nat.{suc}
-use Rattle.std.proofs.lemmas.Bool.{and_parts, lt-ltb}
-use Rattle.std.proofs.lemmas.List.Folds.{list_all-append}
+use Rattle.std.proofs.lemmas.Bool.{lt-ltb}
 use Rattle.content_files.specs.Notes.{PieceNote, is_read, joined, note_of}
-use Rattle.content_files.specs.Pieces.{IsAtEndOf, Pieces, with_piece}
+use Rattle.content_files.specs.Pieces.{IsAtEndOf, LieAs, Pieces, with_piece}
 use Rattle.content_files.specs.Placed.{Placed, placed}
 use Rattle.content_files.specs.Shown.{AreNotesOf, note_shown}
 use Rattle.content_files.specs.declared.note.Note.{Note}
@@ -80,7 +77,7 @@ forgotten notes all n len total pieces are is within =
 pub joined-snoc : (pieces : List (List ℕ)) (piece : List ℕ) → joined (pieces ++ piece ∷ []) ≡ joined pieces ++ piece
 joined-snoc pieces piece = flat_map-append (λ p. p) pieces (piece ∷ []) ∙ ap (λ l. joined pieces ++ l) (append-nil piece)
 
-take_all : (xs : List ℕ) (n : ℕ) → n ≡ length xs → take n xs ≡ xs
+pub take_all : (xs : List ℕ) (n : ℕ) → n ≡ length xs → take n xs ≡ xs
 take_all xs n is = ap (λ k. take k xs) is ∙ take-length xs
 
 -- a whole content with one piece more
@@ -113,45 +110,10 @@ lens_of notes pieces each =
     sym (sum-map (λ (n : Note). n.len) notes) ∙ ap sum (sym (map-map (λ (x : PieceNote). x.len) note_shown notes) ∙ ap (map (λ (x : PieceNote). x.len)) each ∙ map-map (λ (x : PieceNote). x.len) note_of pieces)
     ∙ sum-map (λ (p : List ℕ). length p) pieces
 
--- what was read in place of a piece that is noted
-pub piece_at : (notes : List Note) (total : ℕ) (pieces : List (List ℕ)) (offset i start : ℕ) (note : Note) (bytes : List ℕ) → AreNotesOf notes total pieces → IsPlaceOf notes offset i start →
-    note ≡ get_or notes i note → note_of bytes ≡ note_shown note → IsPieceAt pieces offset start bytes
-piece_at notes total pieces offset i start note bytes are at is same =
-    let count : i < length pieces = omega (arith, at.within, ap length are.each, length-map notes note_shown, length-map pieces note_of) in
-    let piece = get_or pieces i [] in
-    let parts : pieces ≡ take i pieces ++ (piece ∷ drop (suc i) pieces) = sym (take-append-drop i pieces) ∙ ap (λ l. take i pieces ++ l) (drop-cons pieces i [] count) in
-    let each : map note_shown (take i notes) ≡ map note_of (take i pieces) = sym (take-map note_shown i notes) ∙ ap (take i) are.each ∙ take-map note_of i pieces in
-    let size : length bytes ≡ (get_or notes i note).len = ap (λ (x : PieceNote). x.len) same ∙ ap (λ (n : Note). n.len) is in
-    record {
-      front = joined (take i pieces);
-      piece = piece;
-      back = joined (drop (suc i) pieces);
-      whole = ap joined parts ∙ flat_map-append (λ p. p) (take i pieces) (piece ∷ drop (suc i) pieces);
-      place = at.before ∙ lens_of (take i notes) (take i pieces) each ∙ sym (length-flat_map (λ (p : List ℕ). p) (take i pieces));
-      same = same ∙ note_at notes pieces i note are.each count is;
-      from = at.from;
-      to = omega (arith, size, at.to note);
-    }
-
--- the same of a beginning of the pieces
-pub read_of : (pieces : List (List ℕ)) (len offset start : ℕ) (bytes : List ℕ) → len ≤ length (joined pieces) → IsPieceAt pieces offset start bytes → IsReadOf (take len (joined pieces)) offset start bytes
-read_of pieces len offset start bytes within at =
-    let size : length (take len (joined pieces)) ≡ len = length-take-le len (joined pieces) within in
-    record {
-      front = at.front;
-      piece = at.piece;
-      back = at.back;
-      whole = ap (take len) at.whole ∙ ap (λ k. take k (at.front ++ (at.piece ++ at.back))) (sym size);
-      place = at.place;
-      same = at.same;
-      from = at.from;
-      to = at.to;
-    }
-
 -- pieces to which a part of what was written was added, and the rest
 abbrev pub IsAdding : Pieces → List ℕ → Pieces → Placed → Type 0
 IsAdding start all p w =
-    (p.name ≡ start.name) × IsAtEndOf w p
+    LieAs start p × IsAtEndOf w p
     × (joined p.each ++ w.bytes ≡ joined start.each ++ all)
     × (take (length (joined start.each)) (joined p.each) ≡ joined start.each)
     × (length (joined start.each) ≤ length (joined p.each))
@@ -179,12 +141,3 @@ added_one start all p w first second mid next within front back is adding =
 -- the length of both
 pub sizes : (a r b w : List ℕ) → a ++ r ≡ b ++ w → length a + length r ≡ length b + length w
 sizes a r b w is = omega (arith, ap length is, length-append a r, length-append b w)
-
--- a slice that was written whole
-pub written : (out items : List ℕ) (n : ℕ) → n ≡ length out → take n (out ++ drop (length out) items) ≡ out
-written out items n is = ap (λ k. take k (out ++ drop (length out) items)) is ∙ take-append_seam out (drop (length out) items)
-
--- the beginning of a content that was read was read
-pub read_front : (n m : ℕ) (content : List ℕ) → is_read (take (n + m) content) ≡ true → is_read (take n content) ≡ true
-read_front n m content all = (and_parts (is_read (take n content)) (is_read (take m (drop n content)))
-    (sym (list_all-append (λ b. nat_lt b 256) (take n content) (take m (drop n content))) ∙ ap is_read (sym (take-add n m content)) ∙ all)).0

@@ -1,3 +1,5 @@
 pub mod Joined
 pub mod Parts
 pub mod Chunks
+pub mod FirstNotes
+pub mod Held

@@ -1,12 +1,13 @@
 -- The parts of a content that are read piece by piece.
 use Rattle.std.proofs.Common.{◌≡◌, ◌≤◌, ◌<◌, ◌+◌, ◌-◌, ◌∙◌, ◌++◌, ◌∷◌, [], ℕ, Bool, List, ap, arith, drop, false, get_or, length, length-append, map, refl, subst, sym, take, true}
-use Rattle.std.proofs.Math.Seq.{drop-append-add, take-append_seam}
+use Rattle.std.specs.Prelude.{Err, IfOk, Ok, Result}
+use Rattle.std.proofs.Math.Seq.{drop-append-add, take-append-add, take-append_seam, take-length}
 use Rattle.std.proofs.lemmas.Grind.{flat_map-append}
 use Rattle.std.proofs.lemmas.List.{append-nil, drop-append-le, drop-take, get_or-drop, length-drop, length-map, take-append-drop, take-append-le, take-map, take-take, take_more}
 use Rattle.std.proofs.lemmas.List.Concat.{length-flat_map}
 use Rattle.content_files.proofs.Joined.{joined-snoc, lens_of, note_at}
 use Rattle.content_files.specs.Notes.{PieceNote, joined, note_of}
-use Rattle.content_files.specs.Parts.{AreReadOf, IsAddedRead, IsCountIn, IsPart, IsReadBetween, IsReadWithin, between}
+use Rattle.content_files.specs.Parts.{AreReadOf, IsAddedRead, IsCountIn, IsPart, IsReadAs, IsReadBetween, IsReadWithin, between}
 use Rattle.content_files.specs.Reads.{IsCountWithin, IsPlaceOf}
 use Rattle.content_files.specs.Shown.{AreNotesOf, note_shown}
 use Rattle.content_files.specs.declared.note.Note.{Note}
@@ -162,3 +163,50 @@ part_in_memory true content start end part is = (
   },
   is,
 )
+
+-- bytes in memory, and what was read in place of a content
+with_front : (front content given : List ℕ) → IsReadAs content given → IsReadAs (front ++ content) (front ++ given)
+with_front front content given read = record {
+  pieces = front ∷ read.pieces;
+  givens = front ∷ read.givens;
+  whole = ap (λ l. front ++ l) read.whole;
+  same = ap (λ l. front ++ l) read.same;
+  each = (refl, read.each);
+}
+
+-- a part of a content, after bytes in memory
+pub part_after : (front content : List ℕ) (base start end : ℕ) (part : List ℕ) → base ≡ length front → base ≤ start → base ≤ end → IsPart true content (start - base) (end - base) part → IsPart true (front ++ content) start end part
+part_after front content base start end part is from to read =
+    let at : start ≡ length front + (start - base) = omega (arith, is) in
+    let size : end - base - (start - base) ≡ end - start = omega arith in (
+      front ++ read.0,
+      with_front front content read.0 read.1,
+      read.2 ∙ ap (λ k. take k (drop (start - base) read.0)) size
+          ∙ sym (ap (λ k. take (end - start) (drop k (front ++ read.0))) at ∙ ap (take (end - start)) (drop-append-add front read.0 (start - base))),
+    )
+
+less_none : (n : ℕ) → n - 0 ≡ n
+less_none n = omega arith
+
+-- a part of both
+pub part_across : (front content : List ℕ) (base start end : ℕ) (first others : List ℕ) → base ≡ length front → start ≤ base → base ≤ end → first ≡ between front start base → IsPart true content 0 (end - base) others →
+    IsPart true (front ++ content) start end (first ++ others)
+part_across front content base start end first others is from to had read =
+    let left : List ℕ = drop start front in
+    let size : length left ≡ base - start = length-drop start front ∙ ap (λ k. k - start) (sym is) in
+    let long : end - start ≡ length left + (end - base) = omega (arith, size) in
+    let had_is : first ≡ left = had ∙ ap (λ k. take k left) (sym size) ∙ take-length left in (
+      front ++ read.0,
+      with_front front content read.0 read.1,
+      (λ i. had_is i ++ (read.2 ∙ ap (λ k. take k read.0) (less_none (end - base))) i) ∙ sym (take-append-add left read.0 (end - base)) ∙ ap (λ k. take k (left ++ read.0)) (sym long)
+          ∙ ap (take (end - start)) (sym (drop-append-le start front read.0 (omega (arith, is, from)))),
+    )
+
+-- what two facts of a success give
+pub if_ok_both : {A E : Type 0} (r : Result A E) {P Q R : A → Type 0} → IfOk r P → IfOk r Q → ((x : A) → P x → Q x → R x) → IfOk r R
+if_ok_both (Ok x) p q both = both x p q
+if_ok_both (Err e) p q both = tt
+
+-- contents that may lie in files
+pub part_on_disk : (on_disk : Bool) (content : List ℕ) (start end : ℕ) (part : List ℕ) → on_disk ≡ true → IsPart true content start end part → IsPart on_disk content start end part
+part_on_disk on_disk content start end part is part_is = subst (λ b. IsPart b content start end part) (sym is) part_is

@@ -7,3 +7,5 @@ pub mod Places
 pub mod Reads
 pub mod Parts
 pub mod Chunks
+pub mod FirstNotes
+pub mod Held

@@ -1,9 +1,10 @@
 //! A content, in memory or in a file.
 
-ghost use Rattle.std.specs.Prelude.{◌≡◌, ◌<◌, ◌++◌, length, take, IfOk, IfSome, OnErr, OnOk, [], true};
-ghost use Rattle.content_files.specs.Chunks.{chunk_notes, is_in_file};
+ghost use Rattle.std.specs.Prelude.{◌≡◌, ◌<◌, ◌++◌, length, take, IfOk, IfSome, OnErr, OnOk, [], false, true};
+ghost use Rattle.content_files.specs.Chunks.{chunk_notes, is_in_file, read_notes};
 ghost use Rattle.content_files.specs.Notes.{is_read};
 ghost use Rattle.content_files.specs.Parts.{IsPart};
+ghost use Rattle.content_files.specs.Places.{content_shown};
 
 use crate::disk_content::DiskContent;
 use crate::error::ContentError;
@@ -14,6 +15,7 @@ use crate::pieces::part_of;
 use crate::store::ContentStore;
 use std::alloc::{AllocError, Global};
 use std::marker::Model;
+use std::mem;
 
 /// Where a content lies.
 #[derive(Drop)]
@@ -23,6 +25,8 @@ enum Place {
 }
 
 /// A content, in memory or in a file. Contracts see its bytes.
+///
+/// A content in a file keeps the bytes in memory that it had before it moved there. The file has them too.
 #[derive(Drop)]
 pub struct Content {
     place: Place,
@@ -70,6 +74,24 @@ impl Content {
         }
     }
 
+    /// Returns whether a byte of the content was not read since the start.
+    pub fn is_unread(&self) -> bool
+        ensures { result ≡ true → is_read self.now ≡ false }
+    {
+        match &self.place {
+            Place::Resident(_) => false,
+            Place::OnDisk(content) => content.is_unread(),
+        }
+    }
+
+    /// Returns the name, if the content lies in a file.
+    pub fn name(&self) -> Option<ContentName> {
+        match &self.place {
+            Place::Resident(_) => None,
+            Place::OnDisk(content) => Some(content.name()),
+        }
+    }
+
     /// Returns the bytes, if they are in memory.
     pub fn bytes(&self) -> Option<&[u8]>
         ensures { IfSome result (λ b. b.now ≡ self.now) }
@@ -94,7 +116,7 @@ impl Content {
     pub fn on_disk(alloc: Global, name: ContentName) -> Result<Content, AllocError>
         ensures { IfOk result (λ c. c ≡ []) }
     {
-        let content = DiskContent::new(alloc, name)?;
+        let content = DiskContent::new(alloc, name, Vec::new(alloc))?;
         Ok(Content {
             place: Place::OnDisk(content),
         })
@@ -103,7 +125,7 @@ impl Content {
     /// Adds bytes at the end. If the content is in a file, they are written and synced.
     ///
     /// If the content is in memory and becomes longer than its home allows, it moves into its file first: what it has is written
-    /// and synced. In a file, the notes of the pieces of the bytes are appended to `notes`.
+    /// and synced, and stays in memory. In a file, the notes of the pieces of the bytes are appended to `notes`.
     ///
     /// # Errors
     ///
@@ -128,7 +150,7 @@ impl Content {
                 if let Some(home) = home
                     && home.has_content_of(len)
                 {
-                    let content = moved(files, home.name, old, bytes, notes)?;
+                    let content = DiskContent::moved(files, home.name, old, bytes, notes)?;
                     self.place = Place::OnDisk(content);
                     return Ok(());
                 }
@@ -139,23 +161,58 @@ impl Content {
         }
     }
 
-    /// Cuts the content to a length, if it is longer.
-    pub fn truncate(&mut self, len: usize)
-        ensures { self.new ≡ take len self.old }
-    {
-        match &mut self.place {
-            Place::Resident(bytes) => bytes.truncate(len),
-            Place::OnDisk(content) => content.truncate(len as u64),
-        }
-    }
-
-    /// Returns the bytes from `start` to before `end`. If the content is in a file, it reads them, and compares the sums of the
-    /// pieces that have them.
+    /// Adds a chunk that an earlier process added and that was not read since the start, by the notes of its pieces. Nothing is
+    /// written or read.
+    ///
+    /// If the content is in memory, what it has stays there, and what follows lies in the file of this name. A content in a file
+    /// keeps its name. No notes change nothing.
     ///
     /// # Errors
     ///
-    /// - `Cut`: the content was cut within a piece.
+    /// The content is unchanged.
+    ///
+    /// - `Notes`: these are not the notes of a chunk.
+    /// - `Cut`: the content was cut.
+    /// - `Memory`
+    pub fn extend_noted(&mut self, name: ContentName, notes: &[u8]) -> Result<(), ContentError>
+        ensures ok { OnOk result (self.new ≡ self.old ++ read_notes notes.now) }
+        ensures notes { OnOk result (chunk_notes (read_notes notes.now) ≡ notes.now) }
+        ensures err { OnErr result (self.new ≡ self.old) }
+    {
+        if notes.is_empty() {
+            return Ok(());
+        }
+        match &mut self.place {
+            Place::Resident(old) => {
+                let content = DiskContent::noted(name, old, notes)?;
+                self.place = Place::OnDisk(content);
+                Ok(())
+            }
+            Place::OnDisk(content) => content.add_notes(notes),
+        }
+    }
+
+    /// Cuts the content to a length, if it is longer. If all that is left is in memory, it is a content in memory again. The file is
+    /// not changed.
+    pub fn truncate(&mut self, len: usize)
+        ensures { self.new ≡ take len self.old }
+    {
+        let alloc = match &self.place {
+            Place::Resident(bytes) => *bytes.allocator(),
+            Place::OnDisk(content) => content.allocator(),
+        };
+        let empty = Place::Resident(Vec::new(alloc));
+        let place = mem::replace(&mut self.place, empty);
+        self.place = truncated(place, len);
+    }
+
+    /// Returns the bytes from `start` to before `end`. It reads those that are not in memory, and compares the sums of the pieces
+    /// that have them.
+    ///
+    /// # Errors
+    ///
     /// - `Fault`: the content ends before `end`, or the file has other bytes or too few.
+    /// - `Cut`: the content was cut within a piece.
     /// - `Memory`
     /// - `Io`: the operating system's error.
     ///
@@ -184,23 +241,21 @@ impl Content {
     }
 }
 
-/// Returns a content in a file that has the old bytes and the new ones: writes and syncs them. The notes of the pieces of the
-/// new ones are appended to `notes`.
-fn moved<F: ContentStore>(
-    files: &F,
-    name: ContentName,
-    old: &Vec<u8>,
-    bytes: &[u8],
-    notes: &mut Vec<u8>,
-) -> Result<DiskContent, ContentError>
-    ensures content { IfOk result (λ d. d ≡ old.now.items ++ bytes.now) }
-    ensures noted { OnOk result (notes.new.items ≡ notes.old.items ++ chunk_notes bytes.now) }
+/// Cuts what lies at a place to a length.
+fn truncated(place: Place, len: usize) -> Place
+    ensures { content_shown result ≡ take len (content_shown place) }
 {
-    let alloc = *old.allocator();
-    let mut content = DiskContent::new(alloc, name)?;
-    content.add(files, old.as_slice(), &mut Vec::new(alloc))?;
-    content.add(files, bytes, notes)?;
-    Ok(content)
+    match place {
+        Place::Resident(bytes) => {
+            let mut front = bytes;
+            front.truncate(len);
+            Place::Resident(front)
+        }
+        Place::OnDisk(content) => match content.truncated(len as u64) {
+            Ok(front) => Place::Resident(front),
+            Err(rest) => Place::OnDisk(rest),
+        },
+    }
 }
 
 /// Takes what threads may share, and what one may give to another.

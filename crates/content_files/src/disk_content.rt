@@ -1,64 +1,153 @@
 //! A content in a file.
 
-ghost use Rattle.std.specs.Prelude.{◌≡◌, ◌++◌, ◌<◌, [], IfOk, OnOk, OnErr, length, take, true};
-ghost use Rattle.content_files.specs.Chunks.{chunk_notes};
-ghost use Rattle.content_files.specs.Notes.{is_read, unread};
+ghost use Rattle.std.specs.Prelude.{◌≡◌, ◌++◌, ◌<◌, IfErr, IfOk, OnOk, OnErr, false, length, take, true};
+ghost use Rattle.content_files.specs.Chunks.{chunk_notes, read_notes};
+ghost use Rattle.content_files.specs.Held.{first_noted, first_within};
+ghost use Rattle.content_files.specs.Notes.{is_read};
 ghost use Rattle.content_files.specs.Parts.{IsPart};
-ghost use Rattle.content_files.specs.Reads.{IsReadOf};
 
 use crate::error::ContentError;
 use crate::name::ContentName;
-use crate::note::{Note, reveal_read};
-use crate::pieces::Pieces;
+use crate::note::reveal_read;
+use crate::pieces::{Pieces, part_of};
 use crate::store::ContentStore;
 use std::alloc::{AllocError, Global};
 use std::marker::Model;
+use std::mem;
 
 /// A content in a file, in pieces of at most `MAX_PIECE` bytes. Memory keeps the length and the sum of each piece.
 ///
+/// The first bytes may be in memory too: those that the content had before it moved into its file. They have no piece and
+/// no note, and each piece lies at its offset in the content.
+///
 /// Contracts see the bytes that were added, or, for a piece that an earlier process added, as many numbers above 255
-/// (`unread`). That the file holds the bytes is the premise of `write_synced`.
+/// (`unread`). That the file holds the bytes is the premise of `write_synced` and
+/// `read_back`.
 #[derive(Drop)]
 pub struct DiskContent {
+    /// The first bytes.
+    front: Vec<u8>,
     pieces: Pieces,
-    /// The length of the content. It is less than that of the pieces if the content was cut.
+    /// The length of the content. It is less than that of the first bytes and the pieces if the content was cut.
     len: u64,
-    /// Whether no piece was added by its note alone.
-    all_read: bool,
+    /// The offset of the first byte that was not read since the start.
+    first_unread: Option<u64>,
 }
 
 impl Model for DiskContent {
-    ghost use Rattle.std.specs.Prelude.{◌≡◌, ℕ, List, ◌≤◌, length, take, true};
-    ghost use Rattle.content_files.specs.Notes.{is_read, joined};
+    ghost use Rattle.std.specs.Prelude.{ℕ, List};
+    ghost use Rattle.content_files.specs.Held.{IsHeld, held};
 
     ghost Value = { List ℕ };
 
-    ghost view = { λ d. take d.len (joined d.pieces.each) };
+    ghost view = { λ d. held d.front.items d.len d.pieces };
 
-    ghost invariant = { λ d. (d.len ≤ length (joined d.pieces.each))
-        × (d.all_read ≡ true → is_read (take d.len (joined d.pieces.each)) ≡ true) };
+    ghost invariant = { λ d. IsHeld d.front.items d.len d.pieces d.first_unread };
 }
 
 impl DiskContent {
-    /// Creates a content without bytes. Its file need not exist.
+    /// Creates a content of these bytes, which stay in memory. Nothing is written, and its file need not exist.
     ///
     /// # Cost
     ///
     /// Two small allocations, which are given back.
-    pub fn new(alloc: Global, name: ContentName) -> Result<DiskContent, AllocError>
-        ensures { IfOk result (λ d. d ≡ []) }
+    pub fn new(alloc: Global, name: ContentName, front: Vec<u8>) -> Result<DiskContent, AllocError>
+        ensures { IfOk result (λ d. d ≡ front.items) }
     {
-        let pieces = Pieces::new(alloc, name)?;
+        let len = front.len() as u64;
+        let pieces = Pieces::new(alloc, name, len)?;
+        reveal_read(front.as_slice());
         Ok(DiskContent {
+            front,
             pieces,
-            len: 0,
-            all_read: true,
+            len,
+            first_unread: None,
+        })
+    }
+
+    /// Moves a content in memory into its file, with more bytes: writes and syncs both. The notes of the pieces of the further
+    /// bytes are appended to `notes`. What the content had stays in memory too.
+    ///
+    /// # Errors
+    ///
+    /// The content in memory is unchanged. `notes` may have grown.
+    ///
+    /// - `Memory`
+    /// - The error of `ContentStore::write`.
+    pub(crate) fn moved<F: ContentStore>(
+        files: &F,
+        name: ContentName,
+        content: &mut Vec<u8>,
+        bytes: &[u8],
+        notes: &mut Vec<u8>,
+    ) -> Result<DiskContent, ContentError>
+        ensures ok { IfOk result (λ d. d ≡ content.old.items ++ bytes.now) }
+        ensures noted { OnOk result (notes.new.items ≡ notes.old.items ++ chunk_notes bytes.now) }
+        ensures err { OnErr result (content.new.items ≡ content.old.items) }
+    {
+        let alloc = *content.allocator();
+        let base = content.len() as u64;
+        let Some(len) = base.checked_add(bytes.len() as u64) else {
+            return Err(ContentError::Memory);
+        };
+        let mut pieces = Pieces::new(alloc, name, base)?;
+        if !content.is_empty() {
+            let _front = files.write(name, 0, content.as_slice())?;
+        }
+        pieces.write(files, bytes, notes)?;
+        reveal_read(content.as_slice());
+        reveal_read(bytes);
+        Ok(DiskContent {
+            front: mem::replace(content, Vec::new(alloc)),
+            pieces,
+            len,
+            first_unread: None,
+        })
+    }
+
+    /// Takes a content in memory, and adds a chunk that lies in the file of this name, by the notes of its pieces. Nothing is
+    /// written or read.
+    ///
+    /// # Errors
+    ///
+    /// The content in memory is unchanged.
+    ///
+    /// - `Notes`: these are not the notes of a chunk.
+    /// - `Memory`
+    pub(crate) fn noted(
+        name: ContentName,
+        content: &mut Vec<u8>,
+        notes: &[u8],
+    ) -> Result<DiskContent, ContentError>
+        ensures ok { IfOk result (λ d. d ≡ content.old.items ++ read_notes notes.now) }
+        ensures notes { OnOk result (chunk_notes (read_notes notes.now) ≡ notes.now) }
+        ensures err { OnErr result (content.new.items ≡ content.old.items) }
+    {
+        let alloc = *content.allocator();
+        let base = content.len() as u64;
+        let mut pieces = Pieces::new(alloc, name, base)?;
+        pieces.add_notes(notes)?;
+        let Some(len) = base.checked_add(pieces.total()) else {
+            return Err(ContentError::Memory);
+        };
+        reveal_read(content.as_slice());
+        let first_unread = first_after(None, base, len);
+        Ok(DiskContent {
+            front: mem::replace(content, Vec::new(alloc)),
+            pieces,
+            len,
+            first_unread,
         })
     }
 
     /// Returns the name.
     pub fn name(&self) -> ContentName {
         self.pieces.name()
+    }
+
+    /// Returns the allocator of the first bytes.
+    pub(crate) fn allocator(&self) -> Global {
+        *self.front.allocator()
     }
 
     /// Returns the length in bytes.
@@ -68,11 +157,18 @@ impl DiskContent {
         self.len
     }
 
-    /// Returns whether every piece of the content was added as bytes, and none by its note alone.
+    /// Returns whether every byte was added as a byte, and none by a note alone.
     pub fn is_read(&self) -> bool
         ensures { result ≡ true → is_read self.now ≡ true }
     {
-        self.all_read
+        self.first_unread.is_none()
+    }
+
+    /// Returns whether some byte was added by a note alone.
+    pub fn is_unread(&self) -> bool
+        ensures { result ≡ true → is_read self.now ≡ false }
+    {
+        self.first_unread.is_some()
     }
 
     /// Cuts the content to a length in bytes, if it is longer. The file is not changed.
@@ -81,7 +177,24 @@ impl DiskContent {
     {
         if len < self.len {
             self.len = len;
+            self.first_unread = first_before(self.first_unread, len);
         }
+    }
+
+    /// Cuts the content to a length in bytes. Returns its bytes if all of them are in memory, and the content if not.
+    pub(crate) fn truncated(self, len: u64) -> Result<Vec<u8>, DiskContent>
+        ensures front { IfOk result (λ v. v.items ≡ take len self) }
+        ensures rest { IfErr result (λ d. d ≡ take len self) }
+    {
+        let mut content = self;
+        content.truncate(len);
+        let left = content.len;
+        if left > content.front.len() as u64 {
+            return Err(content);
+        }
+        let mut front = content.front;
+        front.truncate(left as usize);
+        Ok(front)
     }
 
     /// Adds bytes: writes them at the end of the file, and syncs them. The notes of their pieces are appended to `notes`. No
@@ -91,7 +204,7 @@ impl DiskContent {
     ///
     /// The content is unchanged, and the next bytes go to the same place.
     ///
-    /// - `Cut`: the content was cut within a piece.
+    /// - `Cut`: the content was cut within its first bytes or a piece.
     /// - The error of `ContentStore::write`.
     /// - `Memory`, also if the content would be longer than 2^64 bytes.
     ///
@@ -112,48 +225,54 @@ impl DiskContent {
         if bytes.is_empty() {
             return Ok(());
         }
-        self.pieces.cut(self.len)?;
-        if self.pieces.total() != self.len {
+        let Some(rest) = self.len.checked_sub(self.front.len() as u64) else {
             return Err(ContentError::Cut);
-        }
+        };
         let Some(len) = self.len.checked_add(bytes.len() as u64) else {
             return Err(ContentError::Memory);
         };
+        self.pieces.cut(rest)?;
+        self.pieces.write(files, bytes, notes)?;
         reveal_read(bytes);
-        let written = files.write(self.pieces.name(), self.len, bytes)?;
-        self.pieces.add_written(written, notes)?;
         self.len = len;
         Ok(())
     }
 
-    /// Adds a piece that an earlier process added, by its note. Nothing is written or read.
+    /// Adds a chunk that an earlier process added, by the notes of its pieces. Nothing is written or read.
     ///
     /// # Errors
     ///
     /// The content is unchanged.
     ///
-    /// - `Cut`: the content was cut.
-    /// - `Memory`
-    pub fn add_noted(&mut self, note: Note) -> Result<(), ContentError>
-        requires { 0 < note.len }
-        ensures ok { OnOk result (self.new ≡ self.old ++ unread note.len note.sum) }
+    /// - `Cut`: the content was cut within its first bytes or a piece.
+    /// - `Notes`: these are not the notes of a chunk.
+    /// - `Memory`, also if the content would be longer than 2^64 bytes.
+    pub fn add_notes(&mut self, notes: &[u8]) -> Result<(), ContentError>
+        ensures ok { OnOk result (self.new ≡ self.old ++ read_notes notes.now) }
+        ensures notes { OnOk result (chunk_notes (read_notes notes.now) ≡ notes.now) }
         ensures err { OnErr result (self.new ≡ self.old) }
     {
-        if self.pieces.total() != self.len {
+        let base = self.front.len() as u64;
+        let Some(rest) = self.len.checked_sub(base) else {
             return Err(ContentError::Cut);
-        }
-        self.pieces.add_noted(note)?;
-        self.len = self.pieces.total();
-        self.all_read = false;
+        };
+        self.pieces.cut(rest)?;
+        self.pieces.add_notes(notes)?;
+        let Some(len) = base.checked_add(self.pieces.total()) else {
+            return Err(ContentError::Memory);
+        };
+        self.first_unread = first_after(self.first_unread, self.len, len);
+        self.len = len;
         Ok(())
     }
 
-    /// Reads the bytes from `start` to before `end`, piece by piece, and compares the pieces' sums.
+    /// Returns the bytes from `start` to before `end`. Those that are not in memory are read, piece by piece, and the pieces'
+    /// sums are compared.
     ///
     /// # Errors
     ///
-    /// - `Cut`: the content was cut within a piece.
     /// - `Fault`: the content ends before `end`, or the file has other bytes or too few.
+    /// - `Cut`: the content was cut within a piece.
     /// - `Memory`
     /// - `Io`: the operating system's error.
     ///
@@ -169,33 +288,45 @@ impl DiskContent {
         end: u64,
     ) -> Result<Vec<u8>, ContentError>
         requires { start < end }
-        ensures read { IfOk result (λ v. IsPart true self.now start end v.items) }
-        ensures there { IfOk result (λ _. F.on_disk ≡ true) }
+        ensures { IfOk result (λ v. IsPart F.on_disk self.now start end v.items) }
     {
-        self.pieces.read_between(files, alloc, self.len, start, end)
+        let base = self.front.len() as u64;
+        if end > self.len {
+            return Err(ContentError::Fault);
+        }
+        if end <= base {
+            return part_of(alloc, self.front.as_slice(), start, end);
+        }
+        let rest = self.len - base;
+        if base <= start {
+            return self
+                .pieces
+                .read_between(files, alloc, rest, start - base, end - base);
+        }
+        let mut bytes = part_of(alloc, self.front.as_slice(), start, base)?;
+        let others = self.pieces.read_between(files, alloc, rest, 0, end - base)?;
+        bytes.extend_from_slice(others.as_slice())?;
+        Ok(bytes)
     }
+}
 
-    /// Reads the piece that has the byte at an offset, and compares its sum. Returns the piece's bytes, and where it begins.
-    ///
-    /// The last piece may end behind the content's end, if the content was cut.
-    ///
-    /// # Errors
-    ///
-    /// - `Fault`: no piece has such a byte, or the file has other bytes or too few.
-    /// - `Memory`
-    /// - `Io`: the operating system's error.
-    ///
-    /// # Cost
-    ///
-    /// One step for each piece before it, one read, and an allocation of the piece's length.
-    pub fn read<F: ContentStore>(
-        &self,
-        files: &F,
-        alloc: Global,
-        offset: u64,
-    ) -> Result<(Vec<u8>, u64), ContentError>
-        ensures { IfOk result (λ r. IsReadOf self.now offset r.1 r.0.items) }
-    {
-        self.pieces.read(files, alloc, offset)
+/// Returns the offset of the first unread byte of a content that is cut to this length.
+fn first_before(first_unread: Option<u64>, len: u64) -> Option<u64>
+    ensures { result ≡ first_within first_unread len }
+{
+    match first_unread {
+        Some(first) if first < len => Some(first),
+        _ => None,
+    }
+}
+
+/// Returns the offset of the first unread byte of a content that grew by an unread chunk.
+fn first_after(first_unread: Option<u64>, old_len: u64, new_len: u64) -> Option<u64>
+    ensures { result ≡ first_noted first_unread old_len new_len }
+{
+    match first_unread {
+        Some(first) => Some(first),
+        None if old_len < new_len => Some(old_len),
+        None => None,
     }
 }

@@ -22,6 +22,9 @@ pub enum ContentError {
     /// The content was cut within a piece, and can no more grow.
     #[error("it was cut within a piece")]
     Cut,
+    /// These are not the notes of a chunk.
+    #[error("it has no notes of a chunk")]
+    Notes,
 }
 
 impl From<AllocError> for ContentError {

@@ -3,7 +3,8 @@
 //!
 //! - Contracts see a content as its bytes. A piece of which only the length and the sum are known is a list of numbers
 //!   above 255 (`unread`).
-//! - Bytes become part of a content in a file only by a `Written`, which `write_synced` alone makes.
+//! - Bytes become part of a content in a file only by a `Written`, which `write_synced` and `read_back` alone make. The first
+//!   bytes may be in memory too: those that the content had before it moved into its file.
 //! - A read returns bytes with the length and the sum of the piece that was added.
 #![tactic(auto)]
 
@@ -14,6 +15,7 @@ mod error;
 mod home;
 mod name;
 mod note;
+mod noted_chunk;
 mod pieces;
 mod store;
 mod trace;
@@ -24,7 +26,8 @@ pub use disk_content::DiskContent;
 pub use error::ContentError;
 pub use home::Home;
 pub use name::ContentName;
-pub use note::{Note, reveal_read, sum_of};
+pub use note::{reveal_read, sum_of};
+pub use noted_chunk::{noted_len, read_chunk};
 pub use pieces::MAX_PIECE;
 pub use store::{ContentStore, NoFiles};
-pub use written::{Written, write_synced};
+pub use written::{Written, read_back, write_synced};

@@ -1,16 +1,20 @@
 //! What memory keeps of a piece.
 
-ghost use Rattle.std.specs.Prelude.{◌≡◌, ◌++◌, true, IfSome, OnOk};
-ghost use Rattle.std.specs.Int.{w64, to_le_bytes};
-ghost use Rattle.content_files.specs.Notes.{is_read, piece_sum};
+ghost use Rattle.std.specs.Prelude.{◌≡◌, ◌++◌, true, IfSome, OnOk, drop, length, take};
+ghost use Rattle.std.specs.Int.{w64, from_le_bytes, to_le_bytes};
+ghost use Rattle.content_files.specs.Notes.{is_read, note_of, piece_sum};
 ghost use Rattle.content_files.specs.Reads.{IsCountWithin, IsPlaceOf};
+ghost use Rattle.content_files.specs.Shown.{note_shown};
 
 use log_frames::{BASIS, sum_words};
 use std::alloc::AllocError;
 
+/// The number of bytes of a note.
+pub(crate) const NOTE_LEN: usize = 16;
+
 /// The length and the sum of a piece.
 #[derive(Clone, Copy, Debug, PartialEq, Eq, Drop)]
-pub struct Note {
+pub(crate) struct Note {
     /// The length in bytes.
     pub len: u64,
     /// The sum, as `log_frames` defines it, from its basis on.
@@ -18,6 +22,30 @@ pub struct Note {
 }
 
 impl Note {
+    /// Returns the note of a piece.
+    pub(crate) fn of(piece: &[u8]) -> Note
+        ensures { note_shown result ≡ note_of piece.now }
+    {
+        Note {
+            len: piece.len() as u64,
+            sum: sum_of(piece),
+        }
+    }
+
+    /// Reads a note from its bytes.
+    pub(crate) fn read(bytes: &[u8]) -> Note
+        requires { length bytes.now ≡ 16 }
+        ensures len { result.len ≡ from_le_bytes w64 (take 8 bytes.now) }
+        ensures sum { result.sum ≡ from_le_bytes w64 (drop 8 bytes.now) }
+        ensures written { to_le_bytes w64 result.len ++ to_le_bytes w64 result.sum ≡ bytes.now }
+    {
+        let (len, sum) = bytes.split_at(8);
+        Note {
+            len: word_of(len),
+            sum: word_of(sum),
+        }
+    }
+
     /// Appends the length and the sum, of eight bytes each, the lowest first.
     pub(crate) fn write(self, out: &mut Vec<u8>) -> Result<(), AllocError>
         ensures { OnOk result (out.new.items ≡ out.old.items
@@ -27,6 +55,17 @@ impl Note {
         out.extend_from_slice(&self.sum.to_le_bytes())?;
         Ok(())
     }
+}
+
+/// Returns the number in eight bytes, the low byte first.
+fn word_of(bytes: &[u8]) -> u64
+    requires { length bytes.now ≡ 8 }
+    ensures read { result ≡ from_le_bytes w64 bytes.now }
+    ensures written { to_le_bytes w64 result ≡ bytes.now }
+{
+    u64::from_le_bytes([
+        bytes[0], bytes[1], bytes[2], bytes[3], bytes[4], bytes[5], bytes[6], bytes[7],
+    ])
 }
 
 /// Returns the sum of a piece.

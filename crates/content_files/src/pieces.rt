@@ -1,16 +1,17 @@
 //! The pieces of a content in a file, and what memory keeps of them.
 
 ghost use Rattle.std.specs.Prelude.{◌≡◌, ◌++◌, ◌≤◌, ◌<◌, ◌+◌, ◌-◌, ◌∷◌, [], IfOk, OnOk, OnErr, drop, length, take, true, IfSome};
-ghost use Rattle.content_files.specs.Chunks.{chunk_notes, note_bytes};
+ghost use Rattle.content_files.specs.Chunks.{chunk_notes, note_bytes, read_notes};
+ghost use Rattle.content_files.specs.FirstNotes.{AreOfChunk};
 ghost use Rattle.content_files.specs.Notes.{note_of, unread};
 ghost use Rattle.content_files.specs.Parts.{IsAddedRead, IsCountIn, IsReadWithin};
-ghost use Rattle.content_files.specs.Pieces.{BeginsAs, HasRoomFor, IsAtEndOf, bytes_of, pieces_of, with_piece};
-ghost use Rattle.content_files.specs.Reads.{IsPieceAt};
+ghost use Rattle.content_files.specs.Pieces.{BeginsAs, HasRoomFor, IsAtEndOf, LieAs, bytes_of, pieces_of, with_piece};
 ghost use Rattle.content_files.specs.Shown.{note_shown};
 
 use crate::error::ContentError;
 use crate::name::ContentName;
 use crate::note::{Note, count_within, find, sum_of};
+use crate::noted_chunk::first_note;
 use crate::store::ContentStore;
 use crate::trace::PieceTrace;
 use crate::written::Written;
@@ -20,9 +21,9 @@ use std::marker::Model;
 /// The most bytes of a piece that is written: 1 MiB. A read takes a whole piece into memory.
 pub const MAX_PIECE: usize = 1_048_576;
 
-/// The pieces of a content: of each, its length and its sum.
+/// The pieces of a content in its file: of each, its length and its sum.
 ///
-/// Contracts see the content's name and its pieces.
+/// Contracts see the content's name, the offset in the file at which the pieces begin, and the pieces.
 #[derive(Drop)]
 pub(crate) struct Pieces {
     notes: Vec<Note>,
@@ -43,11 +44,11 @@ impl Model for Pieces {
 }
 
 impl Pieces {
-    /// Creates a list of no pieces.
-    pub(crate) fn new(alloc: Global, name: ContentName) -> Result<Pieces, AllocError>
-        ensures { IfOk result (λ p. p ≡ pieces_of name []) }
+    /// Creates a list of no pieces. They will begin at the offset `base` of the file.
+    pub(crate) fn new(alloc: Global, name: ContentName, base: u64) -> Result<Pieces, AllocError>
+        ensures { IfOk result (λ p. p ≡ pieces_of name base []) }
     {
-        let trace = PieceTrace::new(alloc, name)?;
+        let trace = PieceTrace::new(alloc, name, base)?;
         Ok(Pieces {
             notes: Vec::new(alloc),
             total: 0,
@@ -93,21 +94,51 @@ impl Pieces {
         Ok(())
     }
 
+    /// Adds bytes: writes them to the file where the pieces end, and syncs them. The notes of their pieces are appended to
+    /// `notes`. No bytes are not written, and have no notes.
+    ///
+    /// # Errors
+    ///
+    /// Some pieces may have been added.
+    ///
+    /// - `Memory`, also if the pieces would end beyond 2^64 bytes.
+    /// - The error of `ContentStore::write`.
+    pub(crate) fn write<F: ContentStore>(
+        &mut self,
+        files: &F,
+        bytes: &[u8],
+        notes: &mut Vec<u8>,
+    ) -> Result<(), ContentError>
+        ensures lies { LieAs self.old self.new }
+        ensures ok { OnOk result (bytes_of self.new ≡ bytes_of self.old ++ bytes.now) }
+        ensures noted { OnOk result (notes.new.items ≡ notes.old.items ++ chunk_notes bytes.now) }
+        ensures begin { BeginsAs self.old self.new }
+        ensures long { length (bytes_of self.old) ≤ length (bytes_of self.new) }
+    {
+        if bytes.is_empty() {
+            return Ok(());
+        }
+        let Some(offset) = self.trace.base().checked_add(self.total) else {
+            return Err(ContentError::Memory);
+        };
+        if offset.checked_add(bytes.len() as u64).is_none() {
+            return Err(ContentError::Memory);
+        }
+        let written = files.write(self.trace.name(), offset, bytes)?;
+        self.add_written(written, notes)
+    }
+
     /// Adds bytes that were written at the end of the pieces, in pieces of at most `MAX_PIECE` bytes. Their notes are appended
     /// to `notes`.
     ///
     /// # Errors
     ///
     /// `Memory`. Some pieces may have been added.
-    pub(crate) fn add_written(
-        &mut self,
-        written: Written<'_>,
-        notes: &mut Vec<u8>,
-    ) -> Result<(), ContentError>
+    fn add_written(&mut self, written: Written<'_>, notes: &mut Vec<u8>) -> Result<(), ContentError>
         requires some { 0 < length written.bytes }
         requires at { IsAtEndOf written self.old }
         requires fits { HasRoomFor self.old written.bytes }
-        ensures name { self.new.name ≡ self.old.name }
+        ensures lies { LieAs self.old self.new }
         ensures ok { OnOk result (bytes_of self.new ≡ bytes_of self.old ++ written.entry.bytes) }
         ensures noted { OnOk result (notes.new.items ≡ notes.old.items ++ chunk_notes written.entry.bytes) }
         ensures begin { BeginsAs self.old self.new }
@@ -122,12 +153,38 @@ impl Pieces {
         self.add_piece(rest, notes)
     }
 
+    /// Adds a chunk that an earlier process added, by the notes of its pieces.
+    ///
+    /// # Errors
+    ///
+    /// Some pieces may have been added.
+    ///
+    /// - `Notes`: these are not the notes of a chunk.
+    /// - `Memory`
+    pub(crate) fn add_notes(&mut self, notes: &[u8]) -> Result<(), ContentError>
+        ensures lies { LieAs self.old self.new }
+        ensures ok { OnOk result (bytes_of self.new ≡ bytes_of self.old ++ read_notes notes.now) }
+        ensures notes { OnOk result (AreOfChunk notes.now) }
+        ensures begin { BeginsAs self.old self.new }
+        ensures long { length (bytes_of self.old) ≤ length (bytes_of self.new) }
+    {
+        let mut rest = notes;
+        while !rest.is_empty() {
+            let Some((note, others)) = first_note(rest) else {
+                return Err(ContentError::Notes);
+            };
+            self.add_noted(note)?;
+            rest = others;
+        }
+        Ok(())
+    }
+
     /// Adds a piece that an earlier process added, by its note.
     ///
     /// # Errors
     ///
     /// `Memory`. Nothing changed.
-    pub(crate) fn add_noted(&mut self, note: Note) -> Result<(), ContentError>
+    fn add_noted(&mut self, note: Note) -> Result<(), ContentError>
         requires { 0 < note.len }
         ensures ok { OnOk result (self.new ≡ with_piece self.old (unread note.len note.sum)) }
         ensures err { OnErr result (self.new ≡ self.old) }
@@ -150,7 +207,7 @@ impl Pieces {
     /// `Memory`. Nothing changed.
     fn remove_behind(&mut self, len: u64) -> Result<bool, ContentError>
         requires { len ≤ length (bytes_of self.old) }
-        ensures name { self.new.name ≡ self.old.name }
+        ensures lies { LieAs self.old self.new }
         ensures same { take len (bytes_of self.new) ≡ take len (bytes_of self.old) }
         ensures long { len ≤ length (bytes_of self.new) }
     {
@@ -173,47 +230,31 @@ impl Pieces {
     ///
     /// # Errors
     ///
-    /// `Memory`. Some of them may have been removed.
+    /// Some of them may have been removed.
+    ///
+    /// - `Cut`: a piece begins before this length and ends behind it.
+    /// - `Memory`
     pub(crate) fn cut(&mut self, len: u64) -> Result<(), ContentError>
         requires { len ≤ length (bytes_of self.old) }
-        ensures name { self.new.name ≡ self.old.name }
+        ensures lies { LieAs self.old self.new }
         ensures same { take len (bytes_of self.new) ≡ take len (bytes_of self.old) }
         ensures long { len ≤ length (bytes_of self.new) }
+        ensures ok { OnOk result (length (bytes_of self.new) ≡ len) }
     {
-        if self.total == len {
-            return Ok(());
-        }
         let count = self.notes.len();
         for _ in 0..count {
-            if !self.remove_behind(len)? {
+            if self.total == len {
                 return Ok(());
             }
+            if !self.remove_behind(len)? {
+                return Err(ContentError::Cut);
+            }
         }
-        Ok(())
-    }
-
-    /// Reads the piece that has the byte at an offset, and compares its sum. Returns the piece's bytes, and where it begins.
-    ///
-    /// # Errors
-    ///
-    /// - `Fault`: there is no such byte, or the file has other bytes.
-    /// - `Memory`
-    /// - `Io`: the operating system's error.
-    pub(crate) fn read<F: ContentStore>(
-        &self,
-        files: &F,
-        alloc: Global,
-        offset: u64,
-    ) -> Result<(Vec<u8>, u64), ContentError>
-        ensures { IfOk result (λ r. IsPieceAt self.now.each offset r.1 r.0.items) }
-    {
-        let Some((index, start)) = find(self.notes.as_slice(), offset) else {
-            return Err(ContentError::Fault);
-        };
-        let note = self.notes[index];
-        let mut bytes = Vec::from_elem(alloc, 0u8, note.len as usize)?;
-        read_noted(files, self.name(), start, note, bytes.as_mut_slice())?;
-        Ok((bytes, start))
+        if self.total == len {
+            Ok(())
+        } else {
+            Err(ContentError::Cut)
+        }
     }
 
     /// Returns how many pieces a content of this length has, if it ends where one of them does.
@@ -226,13 +267,13 @@ impl Pieces {
         count_within(self.notes.as_slice(), len)
     }
 
-    /// Reads the bytes of a content of this length from `start` to before `end`, and compares the sums of the pieces that have
+    /// Reads the bytes from `start` to before `end` of the first pieces, which have this length, and compares the sums of the pieces that have
     /// them.
     ///
     /// # Errors
     ///
-    /// - `Cut`: the content ends within a piece.
-    /// - `Fault`: the content ends before `end`, or the file has other bytes, or too few.
+    /// - `Cut`: this length ends within a piece.
+    /// - `Fault`: it ends before `end`, or the file has other bytes, or too few.
     /// - `Memory`
     /// - `Io`: the operating system's error.
     pub(crate) fn read_between<F: ContentStore>(
@@ -257,7 +298,10 @@ impl Pieces {
         let mut at = begin;
         for index in first..count {
             let note = self.notes[index];
-            add_read(files, self.name(), at, note, &mut bytes)?;
+            let Some(offset) = self.trace.base().checked_add(at) else {
+                return Err(ContentError::Fault);
+            };
+            add_read(files, self.name(), offset, note, &mut bytes)?;
             let Some(next) = at.checked_add(note.len) else {
                 return Err(ContentError::Fault);
             };
@@ -291,7 +335,7 @@ pub(crate) fn part_of(
 fn add_read<F: ContentStore>(
     files: &F,
     name: ContentName,
-    start: u64,
+    offset: u64,
     note: Note,
     out: &mut Vec<u8>,
 ) -> Result<(), ContentError>
@@ -299,7 +343,7 @@ fn add_read<F: ContentStore>(
     ensures there { OnOk result (F.on_disk ≡ true) }
 {
     let mut bytes = Vec::from_elem(*out.allocator(), 0u8, note.len as usize)?;
-    read_noted(files, name, start, note, bytes.as_mut_slice())?;
+    read_noted(files, name, offset, note, bytes.as_mut_slice())?;
     out.extend_from_slice(bytes.as_slice())?;
     Ok(())
 }
@@ -308,7 +352,7 @@ fn add_read<F: ContentStore>(
 fn read_noted<F: ContentStore>(
     files: &F,
     name: ContentName,
-    start: u64,
+    offset: u64,
     note: Note,
     out: &mut [u8],
 ) -> Result<(), ContentError>
@@ -317,7 +361,7 @@ fn read_noted<F: ContentStore>(
     ensures ok { OnOk result (note_of out.new ≡ note_shown note) }
     ensures there { OnOk result (F.on_disk ≡ true) }
 {
-    files.read(name, start, out)?;
+    files.read(name, offset, out)?;
     if sum_of(out) != note.sum {
         return Err(ContentError::Fault);
     }

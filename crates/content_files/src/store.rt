@@ -9,8 +9,8 @@ use crate::written::Written;
 
 /// The files of contents.
 ///
-/// An implementation makes its result of `write` by `write_synced`, on the file of this name. If it creates the file, it
-/// syncs the folder too.
+/// An implementation makes its result of `write` by `write_synced` or `read_back`, on the file of this name. If it creates the
+/// file, it syncs the folder too.
 pub trait ContentStore {
     // Whether contents may lie in files.
     ghost on_disk: { Bool };
@@ -19,7 +19,7 @@ pub trait ContentStore {
     fn is_on_disk(&self) -> bool
         ensures { result ≡ on_disk };
 
-    /// Writes bytes at an offset, and syncs them.
+    /// Writes bytes at an offset, and syncs them. Every byte of the file behind the offset may be lost.
     ///
     /// # Errors
     ///

@@ -12,12 +12,14 @@ use std::alloc::{AllocError, Global};
 use std::marker::{Brand, Model};
 use std::snapshot::Snapshot;
 
-/// The name of a content and its pieces. At run time it is the name alone, and threads may share it.
+/// The name of a content, the offset in its file at which its pieces begin, and its pieces. At run time it is the name and
+/// the offset alone, and threads may share it.
 ///
 /// Pieces of bytes come from a `Written` at the end of the pieces, and any other piece is one that was not read.
 #[derive(Drop)]
 pub(crate) struct PieceTrace {
     name: ContentName,
+    base: u64,
     shown: Snapshot<SharedLog<Shown>>,
 }
 
@@ -27,28 +29,33 @@ impl Model for PieceTrace {
 
     ghost Value = { Pieces };
 
-    ghost view = { λ d. pieces_of d.name (pieces_shown d.shown.value.entries) };
+    ghost view = { λ d. pieces_of d.name d.base (pieces_shown d.shown.value.entries) };
 }
 
 impl PieceTrace {
     /// Returns a trace of the pieces that `P` names. A log of one event exists during the call.
-    fn named<P: PiecesName>(alloc: Global, name: ContentName) -> Result<PieceTrace, AllocError>
-        ensures { IfOk result (λ d. d ≡ pieces_of name P.pieces) }
+    fn named<P: PiecesName>(
+        alloc: Global,
+        name: ContentName,
+        base: u64,
+    ) -> Result<PieceTrace, AllocError>
+        ensures { IfOk result (λ d. d ≡ pieces_of name base P.pieces) }
     {
         let mut log = SharedLog::new(alloc)?;
         let mut writer = log.writer();
         log.append::<Shows<P>>(&mut writer);
         Ok(PieceTrace {
             name,
+            base,
             shown: Snapshot::of(&log),
         })
     }
 
     /// Returns a trace of no piece.
-    pub(crate) fn new(alloc: Global, name: ContentName) -> Result<PieceTrace, AllocError>
-        ensures { IfOk result (λ d. d ≡ pieces_of name []) }
+    pub(crate) fn new(alloc: Global, name: ContentName, base: u64) -> Result<PieceTrace, AllocError>
+        ensures { IfOk result (λ d. d ≡ pieces_of name base []) }
     {
-        PieceTrace::named::<Brand>(alloc, name)
+        PieceTrace::named::<Brand>(alloc, name, base)
     }
 
     /// Returns the content's name.
@@ -56,6 +63,13 @@ impl PieceTrace {
         ensures { result ≡ self.now.name }
     {
         self.name
+    }
+
+    /// Returns the offset in the file at which the pieces begin.
+    pub(crate) fn base(&self) -> u64
+        ensures { result ≡ self.now.base }
+    {
+        self.base
     }
 
     /// Returns a trace of the pieces and one more, whose bytes were written at their end.
@@ -77,10 +91,10 @@ impl PieceTrace {
         piece: &Written<'_>,
     ) -> Result<PieceTrace, AllocError>
         requires { P.pieces ≡ self.now.each ++ piece.now.bytes ∷ [] }
-        ensures { IfOk result (λ d. d ≡ pieces_of self.now.name P.pieces) }
+        ensures { IfOk result (λ d. d ≡ pieces_of self.now.name self.now.base P.pieces) }
     {
         let _ = piece;
-        PieceTrace::named::<P>(alloc, self.name)
+        PieceTrace::named::<P>(alloc, self.name, self.base)
     }
 
     /// Returns a trace of the pieces and one of this length and sum, which was not read.
@@ -103,10 +117,10 @@ impl PieceTrace {
         sum: u64,
     ) -> Result<PieceTrace, AllocError>
         requires { P.pieces ≡ self.now.each ++ unread len sum ∷ [] }
-        ensures { IfOk result (λ d. d ≡ pieces_of self.now.name P.pieces) }
+        ensures { IfOk result (λ d. d ≡ pieces_of self.now.name self.now.base P.pieces) }
     {
         let _ = (len, sum);
-        PieceTrace::named::<P>(alloc, self.name)
+        PieceTrace::named::<P>(alloc, self.name, self.base)
     }
 
     /// Returns a trace of the pieces without the last one.
@@ -119,8 +133,8 @@ impl PieceTrace {
     // The pieces are picked in the proof alone.
     fn without_last_as<P: PiecesName>(&self, alloc: Global) -> Result<PieceTrace, AllocError>
         requires { P.pieces ≡ take (length self.now.each - 1) self.now.each }
-        ensures { IfOk result (λ d. d ≡ pieces_of self.now.name P.pieces) }
+        ensures { IfOk result (λ d. d ≡ pieces_of self.now.name self.now.base P.pieces) }
     {
-        PieceTrace::named::<P>(alloc, self.name)
+        PieceTrace::named::<P>(alloc, self.name, self.base)
     }
 }

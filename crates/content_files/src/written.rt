@@ -1,19 +1,19 @@
 //! Bytes that were written to a file and synced.
 
-ghost use Rattle.std.specs.Prelude.{◌≡◌, ◌≤◌, ◌+◌, IfOk, length};
+ghost use Rattle.std.specs.Prelude.{◌≡◌, ◌≤◌, ◌+◌, IfOk, IfSome, length};
 ghost use Rattle.content_files.specs.Notes.{piece_sum};
 ghost use Rattle.content_files.specs.Placed.{first_part, placed, second_part};
 
 use crate::name::ContentName;
 use crate::note::sum_of;
 use std::fs::File;
-use std::io::{self, Seek, SeekFrom, Write};
+use std::io::{self, ErrorKind, Read, Seek, SeekFrom, Write};
 use std::marker::Model;
 
 /// Bytes that were written to the file of a content at an offset, and synced.
 ///
-/// Contracts see the content's name, the offset and the bytes. Only `write_synced` makes a value of this type, and
-/// `split_at` parts one. So who has one knows that a call of `write_synced` returned it.
+/// Contracts see the content's name, the offset and the bytes. Only `write_synced` and `read_back` make a value of this type,
+/// and `split_at` parts one. So the holder of one knows that one of the two calls returned it.
 #[derive(Drop)]
 pub struct Written<'b> {
     name: ContentName,
@@ -99,4 +99,56 @@ pub fn write_synced<'b>(
         offset,
         bytes,
     })
+}
+
+/// The most bytes that `read_back` reads at a time.
+const BLOCK: usize = 65_536;
+
+/// Compares the file of a content from an offset on with bytes that an earlier process wrote, and syncs the file. Returns
+/// `None` if the file has other bytes or too few.
+///
+/// No contract can state what a file holds. So this is a premise, as for `write_synced`: the file is that of the content
+/// `name`, and if the call returns the bytes, the file holds them at this offset, also after a crash, until they are written
+/// again or the file is removed.
+///
+/// # Errors
+///
+/// The operating system's error.
+///
+/// # Cost
+///
+/// One seek, a read of each 64 KiB, and one `fdatasync`. It allocates nothing, and has 64 KiB on the stack.
+pub fn read_back<'b>(
+    file: &mut File,
+    name: ContentName,
+    offset: u64,
+    bytes: &'b [u8],
+) -> Result<Option<Written<'b>>, io::Error>
+    requires { offset + length bytes.now ≤ 18446744073709551615 }
+    ensures { IfOk result (λ r. IfSome r (λ w. w ≡ placed name offset bytes.now)) }
+{
+    file.seek(SeekFrom::Start(offset))?;
+    let mut block = [0_u8; BLOCK];
+    let mut rest = bytes;
+    while !rest.is_empty() {
+        let (part, others) = rest.split_at(rest.len().min(BLOCK));
+        let found = &mut block[..part.len()];
+        match file.read_exact(found) {
+            Ok(()) => {}
+            Err(error) => match error.kind() {
+                ErrorKind::UnexpectedEof => return Ok(None),
+                _ => return Err(error),
+            },
+        }
+        if &*found != part {
+            return Ok(None);
+        }
+        rest = others;
+    }
+    file.sync_data()?;
+    Ok(Some(Written {
+        name,
+        offset,
+        bytes,
+    }))
 }

@@ -3,7 +3,7 @@
 ghost use Rattle.std.specs.Prelude.{true};
 
 use crate::listed::Listed;
-use content_files::{ContentError, ContentName, ContentStore, Written, write_synced};
+use content_files::{ContentError, ContentName, ContentStore, Written, read_back, write_synced};
 use std::fs::{self, DirBuilder, File};
 use std::io::{self, ErrorKind, Read, Seek, SeekFrom};
 use std::os::unix::fs::{DirBuilderExt, OpenOptionsExt};
@@ -16,7 +16,8 @@ const FILE_MODE: u32 = 0o600;
 
 /// A folder with a file for each content, in a folder for each tenant.
 ///
-/// A file is opened for each call, so no descriptor is kept. That a file holds what was written to it, and that nobody else
+/// A file is opened for each call, so no descriptor is kept. A write cuts the file at its offset first, and again if it fails,
+/// so that a file ends where the last chunk that was written does. That a file holds what was written to it, and that nobody else
 /// writes to the folder, are premises (`write_synced`).
 #[derive(Drop)]
 pub struct ContentFolder<'r> {
@@ -113,10 +114,23 @@ impl<'r> ContentFolder<'r> {
         Ok(file)
     }
 
-    /// Opens the file of a content for writing.
-    fn open_to_write(&self, name: ContentName) -> io::Result<File> {
+    /// Opens the file of a content for writing at an offset, and cuts it there.
+    fn open_to_write(&self, name: ContentName, offset: u64) -> io::Result<File> {
         let path = self.path_of(name)?;
-        File::options().write(true).open(self.rt, path.as_str())
+        let file = File::options().write(true).open(self.rt, path.as_str())?;
+        file.set_len(offset)?;
+        Ok(file)
+    }
+
+    /// Opens the file of a content for reading.
+    fn open_to_read(&self, name: ContentName) -> io::Result<File> {
+        let path = self.path_of(name)?;
+        File::open(self.rt, path.as_str())
+    }
+
+    /// Returns the contents' files as they are: a write succeeds if the file has these bytes already, and changes no file.
+    pub fn written_already(&self) -> WrittenFiles<'_, 'r> {
+        WrittenFiles { folder: self }
     }
 
     /// Returns the length of a content's file in bytes, or `None` if there is no file.
@@ -189,19 +203,56 @@ impl<'r> ContentStore for ContentFolder<'r> {
         let mut file = if offset == 0 {
             self.create(name)?
         } else {
-            self.open_to_write(name)?
+            self.open_to_write(name, offset)?
         };
-        let written = write_synced(&mut file, name, offset, bytes)?;
-        Ok(written)
+        match write_synced(&mut file, name, offset, bytes) {
+            Ok(written) => Ok(written),
+            Err(error) => {
+                let _ = file.set_len(offset);
+                Err(ContentError::Io(error))
+            }
+        }
     }
 
     fn read(&self, name: ContentName, offset: u64, out: &mut [u8]) -> Result<(), ContentError> {
-        let path = self.path_of(name)?;
-        let mut file = File::open(self.rt, path.as_str())?;
+        let mut file = self.open_to_read(name)?;
         file.seek(SeekFrom::Start(offset))?;
         match file.read_exact(out) {
             Ok(()) => Ok(()),
             Err(error) => Err(fault_of(error)),
         }
+    }
+}
+
+/// The files of a folder, which have the contents already, as when a log is replayed.
+///
+/// A write compares the bytes with those in the file, and syncs the file (`read_back`). No file is changed.
+#[derive(Drop)]
+pub struct WrittenFiles<'f, 'r> {
+    folder: &'f ContentFolder<'r>,
+}
+
+impl<'f, 'r> ContentStore for WrittenFiles<'f, 'r> {
+    ghost on_disk = { true };
+
+    fn is_on_disk(&self) -> bool {
+        true
+    }
+
+    fn write<'b>(
+        &self,
+        name: ContentName,
+        offset: u64,
+        bytes: &'b [u8],
+    ) -> Result<Written<'b>, ContentError> {
+        let mut file = self.folder.open_to_read(name)?;
+        match read_back(&mut file, name, offset, bytes)? {
+            Some(written) => Ok(written),
+            None => Err(ContentError::Fault),
+        }
+    }
+
+    fn read(&self, name: ContentName, offset: u64, out: &mut [u8]) -> Result<(), ContentError> {
+        self.folder.read(name, offset, out)
     }
 }

@@ -7,5 +7,5 @@
 mod content_folder;
 mod listed;
 
-pub use content_folder::ContentFolder;
+pub use content_folder::{ContentFolder, WrittenFiles};
 pub use listed::Listed;

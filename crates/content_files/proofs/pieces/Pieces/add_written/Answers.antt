@@ -1,4 +1,4 @@
-use Rattle.std.proofs.Common.{◌≡◌, ◌∙◌, ◌<◌, ◌≤◌, ◌++◌, IfOk, OnOk, Ok, Err, ap, arith, length, refl}
+use Rattle.std.proofs.Common.{◌≡◌, ◌∙◌, ◌<◌, ◌≤◌, ap, arith, length, refl}
 use Rattle.std.proofs.Math.Seq.{take-length}
 use Rattle.std.proofs.lemmas.List.{length-take-le, length-drop}
 use Rattle.content_files.specs.Notes.{joined}
@@ -22,7 +22,7 @@ loop-rest-preserved c =
     let long : 1048576 < length c.loop-rest.rest.bytes = omega arith in (
       added_one c.args.self.now c.args.written.bytes c.loop-rest.self c.loop-rest.rest c.split_at-piece.result.0 c.split_at-piece.result.1 1048576 c.add_piece.new.self (omega arith)
           c.split_at-piece.ensures.first c.split_at-piece.ensures.second c.in_ok-add_piece.ensures.ok c.loop-rest.invariant.0,
-      noted_one c.args.notes.now.items c.args.written.bytes c.loop-rest.notes.items c.loop-rest.rest.bytes c.split_at-piece.result.0 c.split_at-piece.result.1 c.add_piece.new.notes.items long
+      noted_one c.args.notes.now.items c.args.written.bytes c.loop-rest.notes.items c.loop-rest.rest.bytes c.split_at-piece.result.0.bytes c.split_at-piece.result.1.bytes c.add_piece.new.notes.items long
           (ap (λ (w : Placed). w.bytes) c.split_at-piece.ensures.first) (ap (λ (w : Placed). w.bytes) c.split_at-piece.ensures.second) c.in_ok-add_piece.ensures.noted c.loop-rest.invariant.1,
     )
 
@@ -32,7 +32,7 @@ add_piece-requires-2-clause-fits c =
 
 pub loop-rest-init : goal.loop-rest-init
 loop-rest-init c =
-    ((refl, c.requires.at, refl, take-length (joined c.args.self.now.each), omega arith), noted_none c.args.notes.now.items c.args.written.bytes c.requires.some)
+    (((refl, refl), c.requires.at, refl, take-length (joined c.args.self.now.each), omega arith), noted_none c.args.notes.now.items c.args.written.bytes c.requires.some)
 
 pub returns-clause-noted : goal.returns-clause-noted
 returns-clause-noted c =
