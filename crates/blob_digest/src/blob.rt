@@ -1,8 +1,9 @@
 //! Sealed blobs: contents whose digest was checked.
-ghost use Rattle.std.specs.Prelude.{◌≡◌, ◌↔◌, IsOk, IfOk, IfErr, IfSome, ℕ, List, length, true};
+ghost use Rattle.std.specs.Prelude.{◌≡◌, ◌↔◌, IsOk, IfOk, IfErr, IfSome, ℕ, List, false, length, true};
 ghost use Rattle.blob_digest.specs.Digests.{algorithm_of, hash_text, is_digest_of};
 ghost use Rattle.blob_digest.specs.Vouched.{has_digest};
 ghost use Rattle.blob_digest.specs.Hashing.{Hashes};
+ghost use Rattle.content_files.specs.Notes.{is_read};
 
 use crate::digest::Digest;
 use crate::running::Running;
@@ -78,6 +79,33 @@ impl Blob {
         ensures back { IfErr result (λ c. c ≡ content) }
     {
         if *digest != found {
+            return Err(content);
+        }
+        digest.reveal_grammar();
+        Ok(Blob {
+            content,
+            digest: *digest,
+        })
+    }
+
+    /// Seals a content of which a byte was not read since the start, under the digest that an earlier process has found.
+    ///
+    /// The digest is not compared. Only a start calls this, for a close that the log has.
+    ///
+    /// # Errors
+    ///
+    /// - The content, unchanged: all of it was read, so its digest can be found.
+    ///
+    /// # Memory
+    ///
+    /// The call does not allocate.
+    pub fn seal_noted(content: Content, digest: &Digest) -> Result<Blob, Content>
+        ensures unread { IfOk result (λ b. is_read b.1 ≡ false) }
+        ensures agrees { IfOk result (λ b. has_digest b.0 b.1 ≡ true) }
+        ensures blob { IfOk result (λ b. b ≡ (digest.now, content)) }
+        ensures back { IfErr result (λ c. c ≡ content) }
+    {
+        if !content.is_unread() {
             return Err(content);
         }
         digest.reveal_grammar();

@@ -1,17 +1,20 @@
 -- The session of a hand in the table, and the changes of that session.
 use Rattle.std.proofs.Common.{◌≡◌, ℕ, ◌+◌, ◌≤◌, Bool, true, false, List, [], length, Option, Some, None, Ok, Err, refl, sym, ap, ◌∙◌, arith}
-use Rattle.std.specs.Prelude.{◌==◌, ◌&&◌, is_ok, sum}
+use Rattle.std.specs.Prelude.{◌==◌, ◌&&◌, if◌then◌else◌, is_ok, sum}
 use Rattle.std.specs.Option.{option_map_or}
 use Rattle.std.specs.List.{sum_by}
 use Rattle.std.specs.FinMap.{get}
 use Rattle.std.proofs.lemmas.Bool.{and_parts, eqb-true, false≢true}
 use Rattle.blob_digest.specs.Keys.{SessionNumber}
 use Rattle.spec_lib.specs.Texts.{Text}
-use Rattle.blob_digest.specs.Digests.{is_digest_of}
+use Rattle.blob_digest.specs.Digests.{is_digest_of, is_digest_text}
+use Rattle.content_files.specs.Notes.{is_read}
+use Rattle.upload_table.specs.declared.sealing.Sealing.{Sealing}
+use Rattle.upload_table.specs.declared.sealing.Sealing.TheVariants.{ByHash, ByNote}
 use Rattle.blob_digest.specs.declared.refusal.Refusal.TheVariants.{DigestInvalid}
 use Rattle.spec_lib.proofs.Options.{some_same}
 use Rattle.store_model.specs.Sessions.{Chunks, CheckedIn, CheckedOutWith, Session, HandRecord, at_home, with_old_chunks, charged_length, chunks_in, chunks_of, after_cancel_in, hand_in, received_of, reserved_of, after_take_in, session_of_hand, hand_content, with_chunks}
-use Rattle.upload_table.specs.Uploaded.{HandRemainder, Uploaded, BeginsWith, CanReopen, checked_in_with, cut_chunks, finish_upload, put_back_upload, reopened_table, with_sessions}
+use Rattle.upload_table.specs.Uploaded.{HandRemainder, Uploaded, BeginsWith, CanReopen, checked_in_with, cut_chunks, finish_upload, is_sealed, put_back_upload, reopened_table, with_sessions}
 use Rattle.upload_table.specs.Rows.{IsConsistentBuffer}
 use Rattle.upload_table.specs.declared.upload.ChunkBuffer.{ChunkBuffer}
 use Rattle.upload_table.proofs.Cuts.{sum_by-cut_chunks}
@@ -78,8 +81,13 @@ module _ (v : Uploaded) (h : HandRecord) (x : Session) (taken : IsTaken (get v.s
   pub put_back_known : (k : ℕ) → k ≡ sum_by length (chunks_of h) → put_back_upload v h ≡ Ok (k, with_sessions v (with_chunks v.sessions h.key x (CheckedIn (chunks_of h))))
   put_back_known k is = rw taken.known (λ i. Ok (sym is i, with_sessions v (with_chunks v.sessions h.key x (CheckedIn (chunks_of h)))))
 
-  pub finish_other : (digest : Text) → is_digest_of digest (hand_content h) ≡ false → finish_upload v h digest ≡ Err DigestInvalid
-  finish_other digest other = rw (taken.known, other) refl
+  pub finish_other : (sealing : Sealing) (digest : Text) → is_sealed sealing digest (hand_content h) ≡ false → finish_upload sealing v h digest ≡ Err DigestInvalid
+  finish_other sealing digest other = rw (taken.known, other) refl
+
+-- a content that was read is sealed under its digest alone
+pub sealed_if_read : (sealing : Sealing) (digest content : Text) → is_read content ≡ true → is_sealed sealing digest content ≡ is_digest_of digest content
+sealed_if_read ByHash digest content read = refl
+sealed_if_read ByNote digest content read = ap (λ b. if b then is_digest_of digest content else is_digest_text digest) read
 
 -- ---- checking a session out
 

@@ -68,6 +68,14 @@ module _ (received reserved : ℕ) (p : ChunkBuffer) (room : ℕ) (whole : Optio
   pub hand_received : received ≡ sum_by length (cut_chunks p.lens.items p.bytes)
   hand_received = sym hand.lengths ∙ sym (sum_by-cut_chunks p.lens.items p.bytes chunks_within)
 
+  -- the bytes of a hand that is not filled are those of its chunks
+  pub unfilled_long : (t n : ℕ) → (hand_shown t n received reserved p whole).last ≡ None → length p.bytes ≡ sum_by length (cut_chunks p.lens.items p.bytes)
+  unfilled_long t n empty = at whole empty hand.filled
+    where
+      at : (v : Option ContentHash) → (hand_shown t n received reserved p v).last ≡ None → IsFilled received reserved p room v → length p.bytes ≡ sum_by length (cut_chunks p.lens.items p.bytes)
+      at None none filled = filled ∙ hand_received
+      at (Some v) none filled = absurd cc
+
   pub hand_nonempty : AllByRecursion (λ c. c ≢ []) (cut_chunks p.lens.items p.bytes)
   hand_nonempty = cut_chunks-nonempty p.lens.items p.bytes chunks_within hand.positive
 

@@ -15,7 +15,10 @@ use Rattle.blob_digest.specs.Hashing.{HashesUpload}
 use Rattle.spec_lib.specs.Texts.{Text}
 use Rattle.blob_digest.specs.Keys.{SessionNumber}
 use Rattle.blob_digest.specs.Digests.{is_digest_of}
+use Rattle.blob_digest.specs.Vouched.{has_digest}
 use Rattle.blob_digest.specs.Outcomes.{Does, OutcomeIn}
+use Rattle.upload_table.specs.declared.sealing.Sealing.{Sealing}
+use Rattle.upload_table.specs.declared.sealing.Sealing.TheVariants.{ByHash, ByNote}
 use Rattle.spec_lib.specs.Outcomes.{◌>>=◌, refuse}
 use Rattle.store_model.specs.Sessions.{CheckedIn, CheckedOutWith, Session, Sessions, HandRecord, after_cancel_in, chunk_length_check_in, coded_session, number_and_length, open_count_in, is_of_repo, put_back_outcome_in, session_in, sessions_of, after_take_in, session_of_hand, hand_content, with_chunks}
 
@@ -140,21 +143,26 @@ put_back_upload u h = do
   back ← put_back_outcome_in u.sessions h
   Ok (back.0, with_sessions u back.1)
 
--- the blob of the hand's bytes, if they have this digest; the session stays checked out
-abbrev pub finish_upload : Uploaded → HandRecord → Text → OutcomeIn Uploaded (Text × Text)
-finish_upload u h digest = do
+-- whether a content is sealed under a digest: it has the digest; by its note, as far as it was read since the start
+abbrev pub is_sealed : Sealing → Text → Text → Bool
+is_sealed ByHash digest content = is_digest_of digest content
+is_sealed ByNote digest content = has_digest digest content
+
+-- the blob of the hand's bytes, if they are sealed under this digest; the session stays checked out
+abbrev pub finish_upload : Sealing → Uploaded → HandRecord → Text → OutcomeIn Uploaded (Text × Text)
+finish_upload sealing u h digest = do
   _ ← session_of_hand (fmap.get u.sessions h.key) h
-  _ ← refuse (not (is_digest_of digest (hand_content h))) DigestInvalid
+  _ ← refuse (not (is_sealed sealing digest (hand_content h))) DigestInvalid
   Ok ((digest, hand_content h), u)
 
 -- the call has the outcome of `finish_upload`, and an error leaves the hand's session checked in without the last chunk
-abbrev pub Finishes : Result ((Text × Text) × HandRemainder) Refusal → Uploaded → Uploaded → HandRecord → Text → Type 0
-Finishes result old new h digest = Does (λ r. r.0) result (cancel_upload old h) new (finish_upload old h digest)
+abbrev pub Finishes : Sealing → Result ((Text × Text) × HandRemainder) Refusal → Uploaded → Uploaded → HandRecord → Text → Type 0
+Finishes sealing result old new h digest = Does (λ r. r.0) result (cancel_upload old h) new (finish_upload sealing old h digest)
 
--- the hand's content was read since the start, unless the call failed for another reason than its digest
-abbrev pub WasRead : {A : Type 0} → Result A Refusal → HandRecord → Type 0
-WasRead (Ok x) h = is_read (hand_content h) ≡ true
-WasRead (Err e) h = e ≡ DigestInvalid → is_read (hand_content h) ≡ true
+-- if a hand's content is sealed by its hash, it was read since the start, unless the call failed for another reason than its digest
+abbrev pub WasRead : {A : Type 0} → Sealing → Result A Refusal → HandRecord → Type 0
+WasRead sealing (Ok x) h = sealing ≡ ByHash → is_read (hand_content h) ≡ true
+WasRead sealing (Err e) h = e ≡ DigestInvalid → is_read (hand_content h) ≡ true
 
 -- an error other than `UploadUnknown` comes only for a hand whose session is checked out
 abbrev pub WasCheckedOut : Refusal → Uploaded → HandRecord → Type 0

@@ -1,18 +1,22 @@
 //! A checked-out session: its chunks, outside the table.
 
-ghost use Rattle.std.specs.Prelude.{◌≡◌, ◌≢◌, ◌+◌, ◌<◌, ◌≤◌, ◌^◌, [], Some, None, IfSome, IfOk, IfErr, true, if◌then◌else◌, is_some, length, sum_by, take};
+ghost use Rattle.std.specs.Prelude.{◌≡◌, ◌≢◌, ◌+◌, ◌++◌, ◌<◌, ◌≤◌, ◌^◌, [], Some, None, IfSome, IfOk, IfErr, OnOk, false, true, if◌then◌else◌, is_some, length, sum_by, take};
 ghost use Rattle.std.specs.List.{AllByRecursion};
-ghost use Rattle.blob_digest.specs.Digests.{hash_text, is_digest_of};
+ghost use Rattle.blob_digest.specs.Digests.{is_digest_of};
+ghost use Rattle.blob_digest.specs.Vouched.{has_digest};
+ghost use Rattle.content_files.specs.Chunks.{chunk_notes, is_in_file, read_notes};
 ghost use Rattle.content_files.specs.Notes.{is_read};
 ghost use Rattle.store_model.specs.Sessions.{chunks_of, hand_content};
-ghost use Rattle.upload_table.specs.Uploaded.{cut_chunks, total_length, BeginsWith, HashesIfAny, IsRemainderOf};
+ghost use Rattle.upload_table.specs.Uploaded.{cut_chunks, total_length, BeginsWith, IsRemainderOf, is_sealed};
 ghost use Rattle.store_model.specs.Sessions.{HasNoOpenReserve};
-ghost use Rattle.upload_table.specs.Rows.{all_lengths, cut_buffer, empty_hand, IsFilledBuffer, IsHashOf, IsConsistentBuffer, IsUnsealedFor, LosesHash};
+ghost use Rattle.upload_table.specs.Rows.{cut_buffer, empty_hand, IsConsistentBuffer, IsUnsealedFor};
 
-use crate::hashing::{Hashing, digest_after};
-use crate::upload::{ChunkBuffer, extend, sum_of};
-use blob_digest::{Algorithm, Blob, Digest, UploadHashes};
-use content_files::{Content, ContentError, ContentStore};
+use crate::hashing::Hashing;
+use crate::last_chunk::{add_last, whole_digest};
+use crate::sealing::Sealing;
+use crate::upload::{ChunkBuffer, extend, extend_noted, sum_of};
+use blob_digest::{Algorithm, Blob, Digest};
+use content_files::{Content, ContentError, ContentName, ContentStore, Home};
 use std::marker::Model;
 use std::mem;
 
@@ -141,6 +145,13 @@ impl Hand {
         self.reserved
     }
 
+    /// Returns the length of the session with the chunk, once it is filled.
+    pub fn len_after(&self) -> u64
+        ensures { result ≡ sum_by length self.now.chunks + self.now.reserved }
+    {
+        self.received + self.reserved
+    }
+
     /// Returns whether the chunk was filled.
     pub fn filled(&self) -> bool
         ensures { result ≡ is_some self.now.last }
@@ -167,7 +178,8 @@ impl Hand {
         ensures ok { IfOk result (λ h. h ≡ record self { last = Some bytes.now }) }
         ensures err { IfErr result (λ e. e.1 ≡ self) }
     {
-        self.fill_by(files, bytes, Hashing::Open)
+        let mut notes = Vec::new(*self.pieces.lens.allocator());
+        self.fill_by(files, None, bytes, Hashing::Open, &mut notes)
     }
 
     /// Fills the chunk as `fill` does, but hashes it by one algorithm only, for a close with that algorithm.
@@ -193,7 +205,8 @@ impl Hand {
         ensures ok { IfOk result (λ h. h ≡ record self { last = Some bytes.now }) }
         ensures err { IfErr result (λ e. e.1 ≡ self) }
     {
-        self.fill_by(files, bytes, Hashing::Last(algorithm))
+        let mut notes = Vec::new(*self.pieces.lens.allocator());
+        self.fill_by(files, None, bytes, Hashing::Last(algorithm), &mut notes)
     }
 
     /// Fills the chunk as `fill` does, but hashes the bytes as `hashing` says.
@@ -201,9 +214,12 @@ impl Hand {
     /// The hand can be put back or finished in any case. If its bytes were not hashed, `finish` hashes all of them. It can do
     /// so only if they are in memory.
     ///
+    /// If the session's content lies in its home's file then, the chunk was written to the file and synced, and the notes of its
+    /// pieces are appended to `notes`.
+    ///
     /// # Errors
     ///
-    /// The cause, and the unchanged hand.
+    /// The cause, and the unchanged hand. `notes` may have grown.
     ///
     /// # Cost
     ///
@@ -212,12 +228,16 @@ impl Hand {
     pub fn fill_by<F: ContentStore>(
         self,
         files: &F,
+        home: Option<Home>,
         bytes: &[u8],
         hashing: Hashing<'_>,
+        notes: &mut Vec<u8>,
     ) -> Result<Hand, (ContentError, Hand)>
         requires len { length bytes.now ≡ self.reserved }
         requires empty { self.last ≡ None }
         ensures ok { IfOk result (λ h. h ≡ record self { last = Some bytes.now }) }
+        ensures noted { OnOk result (is_in_file home (sum_by length self.chunks + self.reserved) ≡ true →
+            notes.new.items ≡ notes.old.items ++ chunk_notes bytes.now) }
         ensures err { IfErr result (λ e. e.1 ≡ self) }
     {
         let Hand {
@@ -228,7 +248,7 @@ impl Hand {
             reserved,
             mut pieces,
         } = self;
-        let filled = extend(&mut pieces, files, bytes, hashing);
+        let filled = extend(&mut pieces, files, home, bytes, hashing, notes);
         let hand = Hand {
             tenant,
             number,
@@ -240,6 +260,80 @@ impl Hand {
         match filled {
             Ok(()) => Ok(hand),
             Err(error) => Err((error, hand)),
+        }
+    }
+
+    /// Fills the chunk with one that an earlier process added, by the notes of its pieces. Nothing is written, read or hashed.
+    ///
+    /// The session's content lies in the file of its name then.
+    ///
+    /// # Errors
+    ///
+    /// The cause, and the unchanged hand. It is `Notes` if these are not the notes of a chunk.
+    pub fn fill_noted(self, notes: &[u8]) -> Result<Hand, (ContentError, Hand)>
+        requires len { length (read_notes notes.now) ≡ self.reserved }
+        requires empty { self.last ≡ None }
+        ensures ok { IfOk result (λ h. h ≡ record self { last = Some (read_notes notes.now) }) }
+        ensures noted { OnOk result (chunk_notes (read_notes notes.now) ≡ notes.now) }
+        ensures err { IfErr result (λ e. e.1 ≡ self) }
+    {
+        let name = self.content_name();
+        let Hand {
+            tenant,
+            number,
+            place,
+            received,
+            reserved,
+            mut pieces,
+        } = self;
+        let filled = extend_noted(&mut pieces, name, notes);
+        let hand = Hand {
+            tenant,
+            number,
+            place,
+            received,
+            reserved,
+            pieces,
+        };
+        match filled {
+            Ok(()) => Ok(hand),
+            Err(error) => Err((error, hand)),
+        }
+    }
+
+    /// Removes the filled chunk, if there is one. The bytes stay reserved.
+    ///
+    /// # Memory
+    ///
+    /// Allocates nothing.
+    pub fn unfill(self) -> Hand
+        ensures { result ≡ record self { last = None } }
+    {
+        let Hand {
+            tenant,
+            number,
+            place,
+            received,
+            reserved,
+            mut pieces,
+        } = self;
+        pieces.bytes.truncate(received as usize);
+        pieces.whole = None;
+        Hand {
+            tenant,
+            number,
+            place,
+            received,
+            reserved,
+            pieces,
+        }
+    }
+
+    /// Returns the name of the session's content.
+    pub fn content_name(&self) -> ContentName {
+        ContentName {
+            tenant: self.tenant,
+            number: self.number,
         }
     }
 
@@ -314,6 +408,86 @@ impl Hand {
         }
     }
 
+    /// Moves a content of which a byte was not read since the start into a blob of this digest, which is not compared.
+    ///
+    /// `place` is the session's current index.
+    ///
+    /// # Errors
+    ///
+    /// The unchanged hand: all of its content was read.
+    fn seal_noted(self, digest: &Digest, place: usize) -> Result<(Blob, PendingClose), Hand>
+        ensures blob { IfOk result (λ r. r.0 ≡ (digest.now, hand_content self)) }
+        ensures agrees { IfOk result (λ r. has_digest digest.now (hand_content self) ≡ true) }
+        ensures rest { IfOk result (λ r. IsRemainderOf self r.1 r.0.1) }
+        ensures err { IfErr result (λ h. h ≡ self) }
+    {
+        let Hand {
+            tenant,
+            number,
+            place: before,
+            received,
+            reserved,
+            mut pieces,
+        } = self;
+        let none = Content::resident(Vec::new(*pieces.lens.allocator()));
+        let bytes = mem::replace(&mut pieces.bytes, none);
+        let whole = mem::replace(&mut pieces.whole, None);
+        match Blob::seal_noted(bytes, digest) {
+            Ok(blob) => Ok((
+                blob,
+                PendingClose {
+                    tenant,
+                    number,
+                    place,
+                    pieces,
+                },
+            )),
+            Err(bytes) => {
+                pieces.bytes = bytes;
+                pieces.whole = whole;
+                Err(Hand {
+                    tenant,
+                    number,
+                    place: before,
+                    received,
+                    reserved,
+                    pieces,
+                })
+            }
+        }
+    }
+
+    /// Moves the bytes into a blob of this digest: as `seal` does or, by their note, as `seal_noted` does if it can.
+    ///
+    /// `place` is the session's current index.
+    ///
+    /// # Errors
+    ///
+    /// The cause, and the chunks without the filled one.
+    pub(crate) fn seal_by(
+        self,
+        digest: &Digest,
+        place: usize,
+        sealing: Sealing,
+    ) -> Result<(Blob, PendingClose), (Unsealed, Box<ChunkBuffer>)>
+        requires full { HasNoOpenReserve self }
+        ensures blob { IfOk result (λ r. r.0 ≡ (digest.now, hand_content self)) }
+        ensures agrees { IfOk result (λ r. is_sealed sealing digest.now (hand_content self) ≡ true) }
+        ensures read { IfOk result (λ r. sealing ≡ Sealing.ByHash → is_read (hand_content self) ≡ true) }
+        ensures rest { IfOk result (λ r. IsRemainderOf self r.1 r.0.1) }
+        ensures other { IfErr result (λ e. IsUnsealedFor e.0 self digest.now) }
+        ensures whole { IfErr result (λ e. IsConsistentBuffer e.1.value) }
+        ensures chunks { IfErr result (λ e. cut_buffer e.1.value ≡ self.chunks) }
+    {
+        match sealing {
+            Sealing::ByHash => self.seal(digest, place),
+            Sealing::ByNote => match self.seal_noted(digest, place) {
+                Ok(sealed) => Ok(sealed),
+                Err(hand) => hand.seal(digest, place),
+            },
+        }
+    }
+
     /// Drops a hand that matches no session.
     pub(crate) fn discard(self) {
         let Hand {
@@ -324,84 +498,6 @@ impl Hand {
             reserved: _,
             pieces: _,
         } = self;
-    }
-}
-
-/// Adds the filled chunk, if there is one, to the lengths and the hashes. Its bytes and the room for its length are
-/// there.
-fn add_last(pieces: &mut ChunkBuffer, received: usize, len: u64)
-    requires last { IsFilledBuffer received len pieces.old }
-    requires front { HashesIfAny pieces.old.hashes (take received pieces.old.bytes) }
-    ensures none { pieces.new.whole ≡ None }
-    ensures bytes { pieces.new.bytes ≡ pieces.old.bytes }
-    ensures lens { pieces.new.lens.items ≡ all_lengths pieces.old len }
-    ensures hash { HashesIfAny pieces.new.hashes pieces.old.bytes }
-{
-    let Some(hashed) = mem::replace(&mut pieces.whole, None) else {
-        return;
-    };
-    match pieces.bytes.bytes() {
-        Some(bytes) => hashed.move_into(&mut pieces.hashes, &bytes[received..]),
-        None => hashed.move_without_bytes(&mut pieces.hashes),
-    }
-    if len > 0 {
-        match pieces.lens.push(len) {
-            Ok(()) => {}
-            Err(_) => unreachable!(),
-        }
-    }
-}
-
-/// Returns the digest of all bytes by an algorithm, and removes the hash of all bytes.
-///
-/// `hashes` describes the first `received` bytes. Returns `None` if not all bytes were read since the start. If they are not
-/// in memory, returns `None` unless they were hashed by this algorithm.
-fn whole_digest(pieces: &mut ChunkBuffer, received: usize, algorithm: Algorithm) -> Option<Digest>
-    requires within { received ≤ length pieces.old.bytes }
-    requires front { HashesIfAny pieces.old.hashes (take received pieces.old.bytes) }
-    requires all { IfSome pieces.old.whole (λ w. IsHashOf w pieces.old.bytes) }
-    ensures value { IfSome result (λ d. d ≡ hash_text algorithm pieces.old.bytes) }
-    ensures read { IfSome result (λ d. is_read pieces.old.bytes ≡ true) }
-    ensures kept { LosesHash pieces.old pieces.new }
-    ensures same { HashesIfAny pieces.new.hashes (take received pieces.old.bytes) }
-{
-    let whole = mem::replace(&mut pieces.whole, None);
-    if !pieces.bytes.is_read() {
-        return None;
-    }
-    match pieces.bytes.bytes() {
-        Some(bytes) => match whole {
-            Some(hashed) => Some(hashed.digest(&mut pieces.hashes, bytes, received, algorithm)),
-            None => Some(digest_after(&mut pieces.hashes, bytes, received, algorithm)),
-        },
-        None => match whole {
-            Some(hashed) => hashed.digest_without_bytes(algorithm),
-            None => digest_of_front(&pieces.hashes, &pieces.bytes, received, algorithm),
-        },
-    }
-}
-
-/// Returns the digest of a content by SHA-256, if `front` describes all of it.
-///
-/// `front` describes the first `received` bytes.
-fn digest_of_front(
-    front: &Option<UploadHashes>,
-    content: &Content,
-    received: usize,
-    algorithm: Algorithm,
-) -> Option<Digest>
-    requires { HashesIfAny front.now (take received content.now) }
-    ensures { IfSome result (λ d. d ≡ hash_text algorithm content.now) }
-{
-    let Some(hashes) = front else {
-        return None;
-    };
-    if content.len() != received as u64 {
-        return None;
-    }
-    match algorithm {
-        Algorithm::Sha256 => Some(hashes.sha256()),
-        Algorithm::Sha512 => None,
     }
 }
 

@@ -18,7 +18,9 @@
 mod hand;
 mod hashed;
 mod hashing;
+mod last_chunk;
 mod repo_sessions;
+mod sealing;
 mod tenant_sessions;
 mod upload;
 mod uploads;
@@ -26,4 +28,5 @@ mod uploads;
 pub use hand::{Hand, PendingClose};
 pub use hashing::Hashing;
 pub use repo_sessions::RepoSessions;
+pub use sealing::Sealing;
 pub use uploads::Uploads;

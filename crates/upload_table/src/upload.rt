@@ -2,15 +2,15 @@
 
 ghost use Rattle.std.specs.Prelude.{◌≡◌, ◌+◌, ◌<◌, ◌^◌, ◌++◌, [], OnOk, OnErr, Some, length, sum, true};
 ghost use Rattle.std.specs.Vec.{vec_capacity};
+ghost use Rattle.content_files.specs.Chunks.{chunk_notes, is_in_file, read_notes};
 ghost use Rattle.store_model.specs.Sessions.{length_after as length_after_chunk};
 ghost use Rattle.upload_table.specs.Rows.{checked_out_row, content_charge, content_received, cut_buffer, is_at_home, is_out_with, HasHashOfAll, IsConsistentBuffer, KeepsBytes};
 ghost use Rattle.upload_table.specs.Uploaded.{HashesIfAny};
-ghost use Rattle.upload_table.specs.declared.upload.SessionContent.TheVariants.{Home};
 
 use crate::hashed::ContentHash;
 use crate::hashing::Hashing;
 use blob_digest::{ByteRange, Refusal, RepoName, UploadHashes};
-use content_files::{Content, ContentError, ContentStore};
+use content_files::{Content, ContentError, ContentName, ContentStore, Home};
 use std::alloc::Global;
 use std::mem;
 
@@ -99,7 +99,7 @@ pub(crate) fn is_in_hand(content: &SessionContent, received: u64, reserved: u64)
 /// Moves the chunks out of a checked-in session, and reserves `len` bytes.
 pub(crate) fn take_chunks(upload: &mut Upload, len: u64) -> Box<ChunkBuffer>
     requires { is_at_home upload.old.content ≡ true }
-    ensures pieces { upload.old.content ≡ Home result }
+    ensures pieces { upload.old.content ≡ SessionContent.Home result }
     ensures row { upload.new ≡ checked_out_row upload.old len }
 {
     let received = received_of(&upload.content);
@@ -145,20 +145,25 @@ pub(crate) fn length_after(
 
 /// Appends the bytes of a chunk, reserves room for its length, and sets the hash of all bytes.
 ///
-/// The hashes of the earlier chunks are kept, so removing the last chunk requires no new hashing.
+/// The hashes of the earlier chunks are kept, so removing the last chunk requires no new hashing. If the content lies in its
+/// home's file then, the notes of the chunk's pieces are appended to `notes`.
 ///
 /// # Errors
 ///
-/// The cause. The bytes are unchanged.
+/// The cause. The bytes are unchanged. `notes` may have grown.
 pub(crate) fn extend<F: ContentStore>(
     pieces: &mut ChunkBuffer,
     files: &F,
+    home: Option<Home>,
     chunk: &[u8],
     hashing: Hashing<'_>,
+    notes: &mut Vec<u8>,
 ) -> Result<(), ContentError>
     requires { HashesIfAny pieces.old.hashes pieces.old.bytes }
     ensures hash { OnOk result (HasHashOfAll pieces.new) }
     ensures bytes { OnOk result (pieces.new.bytes ≡ pieces.old.bytes ++ chunk.now) }
+    ensures noted { OnOk result (is_in_file home (length pieces.old.bytes + length chunk.now) ≡ true →
+        notes.new.items ≡ notes.old.items ++ chunk_notes chunk.now) }
     ensures room { OnOk result (length pieces.new.lens.items < vec_capacity pieces.new.lens) }
     ensures err { OnErr result (KeepsBytes pieces.old pieces.new) }
     ensures lens { pieces.new.lens.items ≡ pieces.old.lens.items }
@@ -166,8 +171,7 @@ pub(crate) fn extend<F: ContentStore>(
 {
     let received = pieces.bytes.len() as usize;
     pieces.lens.reserve(1)?;
-    let mut notes = Vec::new(*pieces.lens.allocator());
-    pieces.bytes.extend(files, None, chunk, &mut notes)?;
+    pieces.bytes.extend(files, home, chunk, notes)?;
     let whole = ContentHash::of_content(
         &mut pieces.hashes,
         &pieces.bytes,
@@ -176,6 +180,32 @@ pub(crate) fn extend<F: ContentStore>(
         hashing,
     );
     pieces.whole = Some(whole);
+    Ok(())
+}
+
+/// Appends a chunk that an earlier process added, by the notes of its pieces, and reserves room for its length. It is not
+/// hashed.
+///
+/// # Errors
+///
+/// The cause. The bytes are unchanged.
+pub(crate) fn extend_noted(
+    pieces: &mut ChunkBuffer,
+    name: ContentName,
+    notes: &[u8],
+) -> Result<(), ContentError>
+    requires { HashesIfAny pieces.old.hashes pieces.old.bytes }
+    ensures hash { OnOk result (HasHashOfAll pieces.new) }
+    ensures bytes { OnOk result (pieces.new.bytes ≡ pieces.old.bytes ++ read_notes notes.now) }
+    ensures noted { OnOk result (chunk_notes (read_notes notes.now) ≡ notes.now) }
+    ensures room { OnOk result (length pieces.new.lens.items < vec_capacity pieces.new.lens) }
+    ensures err { OnErr result (KeepsBytes pieces.old pieces.new) }
+    ensures lens { pieces.new.lens.items ≡ pieces.old.lens.items }
+    ensures front { HashesIfAny pieces.new.hashes pieces.old.bytes }
+{
+    pieces.lens.reserve(1)?;
+    pieces.bytes.extend_noted(name, notes)?;
+    pieces.whole = Some(ContentHash::Missing);
     Ok(())
 }
 

@@ -3,18 +3,18 @@
 ghost use Rattle.std.specs.Prelude.{◌≡◌, ◌+◌, ◌<◌, ◌^◌, IsSome, is_some, Some, ◌≤◌, IfOk, IfErr, IfSome, Ok, Err, is_ok, true, length, map, replicate, slice_get, slice_index};
 ghost use Rattle.std.specs.Option.{option_map};
 ghost use Rattle.std.specs.FinMap as fmap;
-ghost use Rattle.blob_digest.specs.Digests.{is_digest_of};
 ghost use Rattle.blob_digest.specs.Outcomes.{Does, DoesExactly};
 ghost use Rattle.blob_digest.specs.declared.refusal.Refusal.TheVariants.{Memory};
 ghost use Rattle.store_model.specs.Sessions.{hand_in, checked_in_length, session_charges, is_checked_in, received_in};
 ghost use Rattle.upload_table.specs.Uploaded.{ErrIs, Finishes, FirstIs, OkIs, ReopensTo, WasCheckedOut, WasRead, check, has_sessions, is_checked_out, listed_sessions, open_session, repo_session};
-ghost use Rattle.upload_table.specs.Uploaded.{checked_in_with, cancel_upload, initial_uploads, put_back_upload, repo_at, start_upload, take_upload, without_upload, CanReopen, reopened_table};
+ghost use Rattle.upload_table.specs.Uploaded.{checked_in_with, cancel_upload, is_sealed, initial_uploads, put_back_upload, repo_at, start_upload, take_upload, without_upload, CanReopen, reopened_table};
 ghost use Rattle.store_model.specs.Sessions.{HasNoOpenReserve};
 ghost use Rattle.upload_table.specs.Rows.{cut_buffer, found_session, HasConsistentBuffer, FitsCharge, IsConsistentBuffer};
 ghost use Rattle.upload_table.specs.Tenants.{no_sessions};
 
 use crate::hand::{Hand, PendingClose, Unsealed};
 use crate::repo_sessions::RepoSessions;
+use crate::sealing::Sealing;
 use crate::tenant_sessions::TenantSessions;
 use crate::upload::{ChunkBuffer, SessionContent, Upload, is_in_hand, length_after, received_of};
 use blob_digest::{Blob, ByteRange, Digest, Refusal, RepoName};
@@ -276,8 +276,8 @@ impl Uploads {
     /// - `UploadUnknown`: no session of this table is checked out with the hand's number and lengths. The hand is
     ///   dropped, and nothing changes.
     /// - `DigestInvalid`: the bytes have another digest. The session is checked in without the filled chunk.
-    /// - `Memory`: the bytes are not in memory, and not all of them were hashed by the digest's algorithm. The session is
-    ///   checked in without the filled chunk.
+    /// - `Memory`: the bytes are not in memory, and not all of them were hashed by the digest's algorithm. By their note, this is
+    ///   no error if one of them was not read since the start. The session is checked in without the filled chunk.
     ///
     /// # Cost
     ///
@@ -287,21 +287,26 @@ impl Uploads {
     /// # Memory
     ///
     /// Allocates nothing.
-    pub fn finish(&mut self, hand: Hand, digest: &Digest) -> Result<(Blob, PendingClose), Refusal>
+    pub fn finish(
+        &mut self,
+        hand: Hand,
+        digest: &Digest,
+        sealing: Sealing,
+    ) -> Result<(Blob, PendingClose), Refusal>
         requires full { HasNoOpenReserve hand }
-        ensures does { Finishes result self.old self.new hand digest.now }
-        ensures agrees { IfOk result (λ r. is_digest_of r.0.0 r.0.1 ≡ true) }
+        ensures does { Finishes sealing result self.old self.new hand digest.now }
+        ensures agrees { IfOk result (λ r. is_sealed sealing r.0.0 r.0.1 ≡ true) }
         ensures key { IfOk result (λ r. r.1.key ≡ hand.key) }
         ensures restores { IfOk result (λ r. ReopensTo self.new r (cancel_upload self.old hand)) }
         ensures taken { IfErr result (λ e. WasCheckedOut e self.old hand) }
-        ensures read { WasRead result hand }
+        ensures read { WasRead sealing result hand }
     {
         let Some(place) = self.taken_place(&hand) else {
             hand.discard();
             return Err(Refusal::UploadUnknown);
         };
         let (tenant, number) = (hand.tenant(), hand.number());
-        match hand.seal(digest, place) {
+        match hand.seal_by(digest, place, sealing) {
             Ok(sealed) => Ok(sealed),
             Err((why, pieces)) => {
                 let _ = self.bring_home(tenant, number, place, pieces);
