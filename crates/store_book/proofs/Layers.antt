@@ -7,3 +7,4 @@ pub mod LinkedSlots
 pub mod SessionCharges
 pub mod Sums
 pub mod Ties
+pub mod StoredBlobs

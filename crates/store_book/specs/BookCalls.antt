@@ -1,5 +1,5 @@
 -- The effect of each call of a book: a command changes the catalog, and the slots are unchanged or each change in a known way.
-use Rattle.std.specs.Prelude.{◌≡◌, ℕ, Option, Result, IfErr, IsOk}
+use Rattle.std.specs.Prelude.{◌≡◌, ℕ, Option, Some, Result, IfErr, IsOk}
 use Rattle.std.specs.Arc.{arc_value}
 use Rattle.std.specs.Borrow.{Bor}
 use Rattle.std.specs.FinMap.{get}
@@ -16,6 +16,7 @@ use Rattle.store_book.specs.BookState.{BookState, SlotView}
 use Rattle.store_book.specs.Pinned.{blob_bytes}
 use Rattle.store_book.specs.SlotSteps.{EachSlot, FindsNoRoom, MayPlace, Leases}
 use Rattle.store_model.specs.Commands.{start, append, close, take, put_back, finish, after_cancel, abandon, mount, delete, put_manifest, delete_manifest, remove_repo}
+use Rattle.store_model.specs.Catalog.{Catalog, Resident}
 use Rattle.store_model.specs.Sessions.{HandRecord, session_of_hand}
 use Rattle.store_model.specs.declared.mount.Mount.{Mount}
 
@@ -104,3 +105,7 @@ DeletesManifest result old new repo digest = DoesExactly (λ u. u) result old.ca
 -- the call performs `remove_repo`
 abbrev pub RemovesRepo : Result (Unit {0}) Refusal → BookState → BookState → Text → Type 0
 RemovesRepo result old new repo = DoesExactly (λ u. u) result old.catalog new.catalog (remove_repo old.catalog repo)
+
+-- the blob is stored, with this content
+abbrev pub IsStoredBlob : Catalog → Text × Text → Type 0
+IsStoredBlob C blob = (r : Resident) × (get C.residents blob.0 ≡ Some r) × (r.bytes ≡ blob.1)

@@ -1,31 +1,33 @@
-ghost use Rattle.std.specs.Prelude.{◌≡◌, ◌≢◌, ◌<◌, length, IfOk, IfErr, OnErr, OnOk};
+ghost use Rattle.std.specs.Prelude.{◌≡◌, ◌≢◌, ◌<◌, length, IfOk, IfErr, IfSome, OnErr, OnOk};
 ghost use Rattle.std.specs.Arc.{arc_value};
 ghost use Rattle.blob_digest.specs.declared.refusal.Refusal.TheVariants.{TooManyReaders, UploadUnknown};
 ghost use Rattle.store_model.specs.Commands.{status};
 ghost use Rattle.store_model.specs.Invariant.{Sound};
 ghost use Rattle.store_model.specs.Sweep.{IsSweep};
-ghost use Rattle.store_book.specs.BookCalls.{Abandons, AppendsChunk, ChangesSlots, Closes, Deletes, FailsOnlyIfFull, IsNewPin, KeepsSlots, LeasesBlob, Mounts, PlacesOnly, Starts};
+ghost use Rattle.store_book.specs.BookCalls.{Abandons, AppendsChunk, ChangesSlots, Closes, Deletes, FailsOnlyIfFull, IsNewPin, IsStoredBlob, KeepsSlots, LeasesBlob, Mounts, PlacesOnly, Starts};
 ghost use Rattle.store_book.specs.Openings.{OpensFrom, RefusesConfig};
 ghost use Rattle.store_book.specs.Pinned.{blob_digest};
 ghost use Rattle.store_book.specs.Printing.{PrintsCatalog};
 ghost use Rattle.store_book.specs.SlotSteps.{EachSlot, HasLastGeneration, HasPin, IsLending, KeepsGeneration, IsUnchanged, SweepsSlot, ReadsWord};
 
 use crate::config::{Config, copy_tenants};
+use crate::freed::Freed;
 use crate::keep::{find_linked, keep, link_slot};
 use crate::mount::find_source;
 use crate::pinned_slots::PinnedSlots;
 use crate::print::print_book;
 use crate::sweep::sweep_slots;
 use blob_digest::{Blob, ByteRange, Digest, Refusal, RepoName};
-use content_files::NoFiles;
+use content_files::{ContentName, NoFiles};
 use link_table::Links;
 use pin_table::{Pin, Pins};
 use std::alloc::Global;
 use std::io::{self, Write};
 use std::marker::Model;
+use std::mem;
 use std::sync::Arc;
 use store_model::{Mount, Swept};
-use upload_table::Uploads;
+use upload_table::{Sealing, Uploads};
 
 /// The state of a store: what each tenant's repositories contain, and the uploads in progress.
 ///
@@ -39,6 +41,8 @@ pub struct Book {
     pub(crate) slots: PinnedSlots,
     pub(crate) max_blob: u64,
     pub(crate) on_disk: bool,
+    /// The names of dropped sessions, whose contents may lie in files.
+    dropped: Vec<ContentName>,
 }
 
 impl Model for Book {
@@ -58,6 +62,14 @@ impl Model for Book {
 
 /// The largest limit on the size of a blob, in bytes.
 pub const MAX_BLOB: u64 = 1 << 40;
+
+/// Notes the name of a session that was dropped, if its content may lie in a file. If memory runs out, the file stays until the
+/// next start.
+fn note_dropped(dropped: &mut Vec<ContentName>, on_disk: bool, tenant: u16, number: u32) {
+    if on_disk {
+        let _ = dropped.push(ContentName { tenant, number });
+    }
+}
 
 impl Book {
     /// Makes the book of a new store, with the words of its slots: no repository, and every slot free.
@@ -85,6 +97,7 @@ impl Book {
             slots,
             max_blob: config.max_blob,
             on_disk: config.on_disk,
+            dropped: Vec::new(alloc),
         };
         Ok((book, pins))
     }
@@ -207,7 +220,7 @@ impl Book {
     {
         let hand = self.take(repo, number, range, bytes.len() as u64)?;
         match hand.fill_last(&NoFiles, bytes, digest.algorithm()) {
-            Ok(hand) => self.finish(pins, hand, digest),
+            Ok(hand) => self.finish(pins, hand, digest, Sealing::ByHash),
             Err((_, hand)) => {
                 let _ = self.put_back(hand);
                 Err(Refusal::Memory)
@@ -225,7 +238,7 @@ impl Book {
     /// - `Busy` if the session is checked out.
     ///
     /// # Memory
-    /// None is allocated.
+    /// None is allocated, but for the name of a content that may lie in a file.
     pub fn abandon(&mut self, repo: &RepoName, number: u32) -> Result<u64, Refusal>
         ensures does { Abandons result self.old self.new repo.now number }
         ensures slots { KeepsSlots self.old self.new }
@@ -234,7 +247,28 @@ impl Book {
         let (received, place) = self.uploads.received_home(tenant, repo, number)?;
         self.uploads.remove(tenant, number, place);
         self.links.discharge(tenant, received);
+        note_dropped(&mut self.dropped, self.on_disk, tenant, number);
         Ok(received)
+    }
+
+    /// Returns what was freed since the last call and may lie in files. Once the changes that freed it are durable, and no lease
+    /// has a share of a blob, its file can go.
+    pub fn take_freed(&mut self) -> Freed
+        ensures { self.new ≡ self.old }
+    {
+        let blobs = self.slots.take_freed(self.alloc);
+        let dropped = mem::replace(&mut self.dropped, Vec::new(self.alloc));
+        Freed { blobs, dropped }
+    }
+
+    /// Returns a share of the blob of a slot, if the slot has one. Fails only if out of memory.
+    pub fn blob_in(&self, slot: u32) -> Option<Arc<Blob, Global>>
+        ensures { IfSome result (λ b. IsStoredBlob self.now.catalog (arc_value b)) }
+    {
+        if slot >= self.slots.table().len() {
+            return None;
+        }
+        self.slots.blob(slot)
     }
 
     /// Links a blob that the tenant already has, without an upload (OCI Distribution Specification 1.1, "Mounting a

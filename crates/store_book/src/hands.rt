@@ -1,8 +1,9 @@
 //! Sessions that are checked out of the book.
 
-ghost use Rattle.std.specs.Prelude.{◌≡◌, ◌≢◌, ◌<◌, length, IfErr, OnErr, OnOk};
+ghost use Rattle.std.specs.Prelude.{◌≡◌, ◌≢◌, ◌<◌, length, true, IfErr, OnErr, OnOk};
 ghost use Rattle.blob_digest.specs.declared.refusal.Refusal.TheVariants.{UploadUnknown};
-ghost use Rattle.store_model.specs.Sessions.{HasNoOpenReserve};
+ghost use Rattle.content_files.specs.Notes.{is_read};
+ghost use Rattle.store_model.specs.Sessions.{HasNoOpenReserve, hand_content};
 ghost use Rattle.store_book.specs.BookCalls.{ChangesSlots, ChecksIn, ChecksOut, Closes, Finishes, HasCheckedOut, KeepsSlots, PlacesOnly};
 ghost use Rattle.store_book.specs.SlotSteps.{KeepsGeneration};
 
@@ -10,7 +11,7 @@ use crate::book::Book;
 use crate::keep::keep;
 use blob_digest::{ByteRange, Digest, Refusal, RepoName};
 use pin_table::Pins;
-use upload_table::Hand;
+use upload_table::{Hand, Sealing};
 
 impl Book {
     /// Checks a session out and reserves `len` bytes for one more chunk.
@@ -69,7 +70,8 @@ impl Book {
 
     /// Closes a checked-out session whose last chunk was filled or is empty, and returns the blob's size.
     ///
-    /// It is the second half of `close`.
+    /// It is the second half of `close`. With contents in files, a content that was not read since the start may be closed by its
+    /// note.
     ///
     /// # Errors
     /// - `UploadUnknown` if no checked-out session of this book has the hand's number and lengths. Nothing changes.
@@ -82,10 +84,17 @@ impl Book {
     ///
     /// # Cost
     /// No byte is copied. None is hashed, except a last chunk that `fill_last` hashed by the other algorithm.
-    pub fn finish(&mut self, pins: &Pins, hand: Hand, digest: &Digest) -> Result<u64, Refusal>
+    pub fn finish(
+        &mut self,
+        pins: &Pins,
+        hand: Hand,
+        digest: &Digest,
+        sealing: Sealing,
+    ) -> Result<u64, Refusal>
         requires table { self.old.table ≡ pins.now }
         requires full { HasNoOpenReserve hand }
         ensures does { Finishes result self.old self.new hand digest.now }
+        ensures read { OnOk result (sealing ≡ Sealing.ByHash → is_read (hand_content hand) ≡ true) }
         ensures taken { IfErr result (λ e. e ≢ UploadUnknown → HasCheckedOut self.old hand) }
         ensures slots { ChangesSlots KeepsGeneration self.old self.new }
         ensures housed { OnOk result (PlacesOnly digest.now self.old self.new) }
@@ -93,7 +102,8 @@ impl Book {
     {
         let tenant = hand.tenant();
         let reserved = hand.reserved();
-        let (blob, sealed) = match self.uploads.finish(hand, digest) {
+        let sealing = sealing.with_files(self.on_disk);
+        let (blob, sealed) = match self.uploads.finish(hand, digest, sealing) {
             Ok(both) => both,
             Err(refusal) => match refusal {
                 Refusal::UploadUnknown => return Err(refusal),

@@ -17,6 +17,7 @@
 
 mod book;
 mod config;
+mod freed;
 mod hands;
 mod keep;
 pub mod laws;
@@ -31,6 +32,7 @@ mod sweep;
 
 pub use book::{Book, MAX_BLOB};
 pub use config::Config;
+pub use freed::Freed;
 pub use lease::{Lease, PinsName};
 pub use link_table::{
     GREATEST_LIMITS, MAX_QUOTA, MAX_TENANTS, TenantLimits, TenantSettings, UNLIMITED_SHARE,

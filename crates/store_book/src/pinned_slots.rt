@@ -1,6 +1,6 @@
 //! The slots of a store with the keeper of their words.
 
-ghost use Rattle.std.specs.Prelude.{◌≡◌, ◌≢◌, ◌+◌, ◌<◌, ◌^◌, length, None, Some, IfOk, IfErr, OnErr, OnOk, IsTrue, ◌↔◌, true, false};
+ghost use Rattle.std.specs.Prelude.{◌≡◌, ◌≢◌, ◌+◌, ◌<◌, ◌^◌, length, None, Some, IfOk, IfErr, IfSome, OnErr, OnOk, IsTrue, ◌↔◌, true, false};
 ghost use Rattle.std.specs.Arc.{arc_value};
 ghost use Rattle.blob_digest.specs.declared.refusal.Refusal.TheVariants.{Memory};
 ghost use Rattle.slot_table.specs.Slots.{phase_at, links_at, slot_of, fill, on_stored_blob, link_up, link_down, mark, with_content};
@@ -12,6 +12,7 @@ use pin_table::{Keeper, Pin, Pins, Reclaim};
 use slot_table::{Phase, SlotTable};
 use std::alloc::Global;
 use std::marker::Model;
+use std::mem;
 use std::sync::Arc;
 
 /// The slots of a store, with the keeper of their words.
@@ -22,6 +23,8 @@ use std::sync::Arc;
 pub struct PinnedSlots {
     slots: SlotTable,
     keeper: Keeper,
+    /// Blobs in files whose slot was freed, or whose content was replaced.
+    freed: Vec<Arc<Blob, Global>>,
 }
 
 impl Model for PinnedSlots {
@@ -39,6 +42,30 @@ impl Model for PinnedSlots {
 
     ghost invariant = { λ a. IsPinned a.slots a.keeper.rows a.keeper.bounds
         × (length a.keeper.looks ≡ length a.slots) };
+}
+
+/// Notes that a blob was freed, if it lies in a file. If memory runs out, its file stays until the next start.
+fn note_freed(freed: &mut Vec<Arc<Blob, Global>>, blob: Arc<Blob, Global>) {
+    if blob.content().name().is_some() {
+        let _ = freed.push(blob);
+    }
+}
+
+/// Notes a blob whose slot was freed.
+fn note_reclaimed(freed: &mut Vec<Arc<Blob, Global>>, blob: Option<Arc<Blob, Global>>) {
+    if let Some(blob) = blob {
+        note_freed(freed, blob);
+    }
+}
+
+/// Returns a share of a slot's blob, if the slot has one.
+fn share_of(slots: &SlotTable, slot: u32) -> Option<Arc<Blob, Global>>
+    requires { slot < length slots.now }
+{
+    match Arc::try_clone(slots.blob(slot)?) {
+        Ok(blob) => Some(blob),
+        Err(_) => None,
+    }
 }
 
 impl PinnedSlots {
@@ -61,6 +88,7 @@ impl PinnedSlots {
             PinnedSlots {
                 slots: table,
                 keeper,
+                freed: Vec::new(alloc),
             },
             pins,
         ))
@@ -105,7 +133,10 @@ impl PinnedSlots {
         ensures err { OnErr result (self.new ≡ self.old) }
     {
         match self.slots.replace(slot, blob) {
-            Ok(_) => Ok(()),
+            Ok(old) => {
+                note_freed(&mut self.freed, old);
+                Ok(())
+            }
             Err(blob) => Err(blob),
         }
     }
@@ -158,20 +189,45 @@ impl PinnedSlots {
     /// Frees the slot of a condemned blob that no pin holds, or retires it in the last generation.
     ///
     /// If pins hold the slot, the call returns the sum of their weights. A slot whose blob was never leased is never
-    /// held.
+    /// held. A blob in a file joins the freed ones, for which memory may be allocated.
     pub fn reclaim(&mut self, pins: &Pins, slot: u32) -> Reclaim
         requires table { self.old.table ≡ pins.now }
         requires condemned { phase_at self.old.slots slot ≡ phase.Condemned }
         ensures answer { ReclaimsSlot slot self.old self.new result }
         ensures unlent { UnheldIfNeverLent slot self.old result }
     {
+        let blob = share_of(&self.slots, slot);
         let reclaimed = pins.reclaim(&mut self.keeper, slot);
         match reclaimed {
-            Reclaim::Freed => self.slots.free(slot),
-            Reclaim::Retired => self.slots.retire(slot),
+            Reclaim::Freed => {
+                self.slots.free(slot);
+                note_reclaimed(&mut self.freed, blob);
+            }
+            Reclaim::Retired => {
+                self.slots.retire(slot);
+                note_reclaimed(&mut self.freed, blob);
+            }
             Reclaim::Held { .. } => {}
         }
         reclaimed
+    }
+
+    /// Returns the blobs in files that were freed since the last call. Leases may still have shares of them.
+    pub fn take_freed(&mut self, alloc: Global) -> Vec<Arc<Blob, Global>>
+        ensures { self.new ≡ self.old }
+    {
+        mem::replace(&mut self.freed, Vec::new(alloc))
+    }
+
+    /// Returns a share of a slot's blob, if the slot has one. Fails only if out of memory.
+    pub fn blob(&self, slot: u32) -> Option<Arc<Blob, Global>>
+        requires { slot < length self.now.slots }
+        ensures { IfSome result (λ b. Some (arc_value b) ≡ blob_at self.now.slots slot) }
+    {
+        match Arc::try_clone(self.slots.blob(slot)?) {
+            Ok(blob) => Some(blob),
+            Err(_) => None,
+        }
     }
 
     /// Returns a share of a used slot's blob. Fails only if out of memory.

@@ -12,10 +12,13 @@ use Rattle.spec_lib.specs.Sets as set
 use Rattle.slot_table.specs.Slots.{Slot, StoredBlob, slot_of}
 use Rattle.link_table.specs.Linked.{Linked, known_tenant, discharge, passes_share as links_pass_share}
 use Rattle.store_model.specs.Sessions.{CheckedIn, Session, HandRecord, are_of_hand, with_old_chunks, charged_length, after_cancel_in, session_of_hand, hand_content, with_chunks, HasNoOpenReserve}
-use Rattle.upload_table.specs.Uploaded.{Uploaded, finish_upload, with_sessions}
+use Rattle.blob_digest.specs.Vouched.{has_digest}
+use Rattle.upload_table.specs.Uploaded.{Uploaded, finish_upload, is_sealed, with_sessions}
+use Rattle.upload_table.specs.declared.sealing.Sealing.{Sealing}
+use Rattle.upload_table.specs.declared.sealing.Sealing.TheVariants.{ByHash, ByNote}
 use Rattle.spec_lib.specs.Texts.{Text}
 use Rattle.store_book.proofs.Layers.LinkedSlots.{share_is}
-use Rattle.store_model.specs.Catalog.{Catalog, session_charges_of}
+use Rattle.store_model.specs.Catalog.{Catalog, ContentRules, session_charges_of}
 use Rattle.spec_lib.specs.Outcomes.{◌>>=◌, refuse}
 use Rattle.store_model.specs.Commands.{finish, after_cancel, fits_stored, is_full_for, passes_share, fits_content, is_named}
 use Rattle.store_book.specs.Layers.{Layers, lent_marks, book_catalog, IsBook}
@@ -42,8 +45,8 @@ module _ (L : Layers) (h : HandRecord) (digest : Text) where
   whole = hand_content h
 
   module _ (book : IsBook L) (proper : IsProper h) (full_h : HasNoOpenReserve h) (s : Session) (here : session_of_hand (get L.uploads.sessions h.key) h ≡ Ok s) where
-    pub finish_other_digest : is_digest_of digest whole ≡ false → is_read whole ≡ true → finish C h digest ≡ Err DigestInvalid
-    finish_other_digest other read = rw (here, named_if_read C.contents digest whole read ∙ other) refl
+    pub finish_other_digest : is_named C.contents digest whole ≡ false → finish C h digest ≡ Err DigestInvalid
+    finish_other_digest other = rw (here, other) refl
 
     pub found : get L.uploads.sessions h.key ≡ Some s
     found = (session_here L h book proper s here).0
@@ -71,10 +74,7 @@ module _ (L : Layers) (h : HandRecord) (digest : Text) where
     pub reserve_charged : h.reserved ≤ slice_index L.links.charges h.key.0
     reserve_charged = let small = here_small L h book proper s here in omega arith
 
-    module _ (agrees : is_digest_of digest whole ≡ true) (read : is_read whole ≡ true) where
-      named : is_named C.contents digest whole ≡ true
-      named = named_if_read C.contents digest whole read ∙ agrees
-
+    module _ (named : is_named C.contents digest whole ≡ true) where
       finish_other_bytes : fits_stored C.contents (get C.residents digest) whole ≡ false → finish C h digest ≡ Err DigestInvalid
       finish_other_bytes other = rw (here, named, other) refl
 
@@ -186,9 +186,14 @@ module _ (L : Layers) (h : HandRecord) (digest : Text) where
   pub after_cancel_is : (l' : Linked) (u' : Uploaded) (k : ℕ) → l' ≡ discharge L.links h.key.0 k → u' ≡ with_sessions L.uploads (after_cancel_in L.uploads.sessions h) → book_catalog (record L { links = l'; uploads = u' }) ≡ after_cancel C h
   after_cancel_is l' u' k links uploads = λ i. book_catalog (record L { links = links i; uploads = uploads i })
 
+-- a content that is sealed under a digest has it
+pub sealed_named : (sealing : Sealing) (rules : ContentRules) (digest content : Text) → (sealing ≡ ByNote → rules.on_disk ≡ true) → (sealing ≡ ByHash → is_read content ≡ true) → is_named rules digest content ≡ is_sealed sealing digest content
+sealed_named ByHash rules digest content files read = named_if_read rules digest content (read refl)
+sealed_named ByNote rules digest content files read = ap (λ b. if b then has_digest digest content else is_digest_of digest content) (files refl)
+
 -- the error of the layer
-pub layer_refused : (u : Uploaded) (h : HandRecord) (digest : Text) (e : Refusal) → finish_upload u h digest ≡ Err e → (e ≡ UploadUnknown → ⊥) → (s : Session) × (session_of_hand (get u.sessions h.key) h ≡ Ok s) × (is_digest_of digest (hand_content h) ≡ false) × (e ≡ DigestInvalid)
-layer_refused u h digest e refused other = by (session_of_hand (get u.sessions h.key) h) refl
+pub layer_refused : (sealing : Sealing) (u : Uploaded) (h : HandRecord) (digest : Text) (e : Refusal) → finish_upload sealing u h digest ≡ Err e → (e ≡ UploadUnknown → ⊥) → (s : Session) × (session_of_hand (get u.sessions h.key) h ≡ Ok s) × (is_sealed sealing digest (hand_content h) ≡ false) × (e ≡ DigestInvalid)
+layer_refused sealing u h digest e refused other = by (session_of_hand (get u.sessions h.key) h) refl
   where
     unknown : (o : Option Session) (d : Refusal) → session_of_hand o h ≡ Err d → d ≡ UploadUnknown
     unknown None d is = cc
@@ -198,30 +203,30 @@ layer_refused u h digest e refused other = by (session_of_hand (get u.sessions h
         test true is = absurd cc
         test false is = cc
 
-    by : (x : Result Session Refusal) → session_of_hand (get u.sessions h.key) h ≡ x → (s : Session) × (session_of_hand (get u.sessions h.key) h ≡ Ok s) × (is_digest_of digest (hand_content h) ≡ false) × (e ≡ DigestInvalid)
-    by (Ok s) here = digests (is_digest_of digest (hand_content h)) refl (rw here at refused)
+    by : (x : Result Session Refusal) → session_of_hand (get u.sessions h.key) h ≡ x → (s : Session) × (session_of_hand (get u.sessions h.key) h ≡ Ok s) × (is_sealed sealing digest (hand_content h) ≡ false) × (e ≡ DigestInvalid)
+    by (Ok s) here = digests (is_sealed sealing digest (hand_content h)) refl (rw here at refused)
       where
-        digests : (b : Bool) → is_digest_of digest (hand_content h) ≡ b → ◌>>=◌ {B = (Text × Text) × Uploaded} (refuse (not (is_digest_of digest (hand_content h))) DigestInvalid) (λ _. Ok ((digest, hand_content h), u)) ≡ Err e → (s : Session) × (session_of_hand (get u.sessions h.key) h ≡ Ok s) × (is_digest_of digest (hand_content h) ≡ false) × (e ≡ DigestInvalid)
+        digests : (b : Bool) → is_sealed sealing digest (hand_content h) ≡ b → ◌>>=◌ {B = (Text × Text) × Uploaded} (refuse (not (is_sealed sealing digest (hand_content h))) DigestInvalid) (λ _. Ok ((digest, hand_content h), u)) ≡ Err e → (s : Session) × (session_of_hand (get u.sessions h.key) h ≡ Ok s) × (is_sealed sealing digest (hand_content h) ≡ false) × (e ≡ DigestInvalid)
         digests true agrees h = absurd (let k = rw agrees at h in cc)
         digests false agrees h = (s, here, agrees, let k = rw agrees at h in cc)
     by (Err d) here = absurd (other (let k : ◌≡◌ {A = Result ((Text × Text) × Uploaded) Refusal} (Err d) (Err e) = rw here at refused in let same : d ≡ e = cc in sym same ∙ unknown (get u.sessions h.key) d here))
 
 -- if the layer has no such hand, nothing changes
-pub layer_unknown : (u : Uploaded) (h : HandRecord) (digest : Text) (e : Refusal) → finish_upload u h digest ≡ Err e → e ≡ UploadUnknown → with_sessions u (after_cancel_in u.sessions h) ≡ u
-layer_unknown u h digest e refused unknown = by (session_of_hand (get u.sessions h.key) h) refl
+pub layer_unknown : (sealing : Sealing) (u : Uploaded) (h : HandRecord) (digest : Text) (e : Refusal) → finish_upload sealing u h digest ≡ Err e → e ≡ UploadUnknown → with_sessions u (after_cancel_in u.sessions h) ≡ u
+layer_unknown sealing u h digest e refused unknown = by (session_of_hand (get u.sessions h.key) h) refl
   where
     by : (x : Result Session Refusal) → session_of_hand (get u.sessions h.key) h ≡ x → with_sessions u (after_cancel_in u.sessions h) ≡ u
-    by (Ok s) here = digests (is_digest_of digest (hand_content h)) refl (rw here at refused)
+    by (Ok s) here = digests (is_sealed sealing digest (hand_content h)) refl (rw here at refused)
       where
-        digests : (b : Bool) → is_digest_of digest (hand_content h) ≡ b → ◌>>=◌ {B = (Text × Text) × Uploaded} (refuse (not (is_digest_of digest (hand_content h))) DigestInvalid) (λ _. Ok ((digest, hand_content h), u)) ≡ Err e → with_sessions u (after_cancel_in u.sessions h) ≡ u
+        digests : (b : Bool) → is_sealed sealing digest (hand_content h) ≡ b → ◌>>=◌ {B = (Text × Text) × Uploaded} (refuse (not (is_sealed sealing digest (hand_content h))) DigestInvalid) (λ _. Ok ((digest, hand_content h), u)) ≡ Err e → with_sessions u (after_cancel_in u.sessions h) ≡ u
         digests true agrees h = absurd (let k = rw agrees at h in cc)
         digests false agrees h = absurd (let k = rw (agrees, unknown) at h in cc)
     by (Err d) here = ap (λ (o : Result Session Refusal). with_sessions u (with_old_chunks u.sessions h o)) here
 
 -- a hand that the layer finishes is this book's
-pub layer_finished : (u : Uploaded) (h : HandRecord) (digest : Text) (blob : Text × Text) (u' : Uploaded) → finish_upload u h digest ≡ Ok (blob, u') → (s : Session) × (session_of_hand (get u.sessions h.key) h ≡ Ok s) × (is_digest_of digest (hand_content h) ≡ true) × (blob ≡ (digest, hand_content h)) × (u' ≡ u)
-layer_finished u h digest blob u' done =
+pub layer_finished : (sealing : Sealing) (u : Uploaded) (h : HandRecord) (digest : Text) (blob : Text × Text) (u' : Uploaded) → finish_upload sealing u h digest ≡ Ok (blob, u') → (s : Session) × (session_of_hand (get u.sessions h.key) h ≡ Ok s) × (is_sealed sealing digest (hand_content h) ≡ true) × (blob ≡ (digest, hand_content h)) × (u' ≡ u)
+layer_finished sealing u h digest blob u' done =
     let a = bound_ok (session_of_hand (get u.sessions h.key) h) _ (blob, u') done in
-    let b = bound_ok (refuse (not (is_digest_of digest (hand_content h))) DigestInvalid) _ (blob, u') a.2 in
+    let b = bound_ok (refuse (not (is_sealed sealing digest (hand_content h))) DigestInvalid) _ (blob, u') a.2 in
     let p : ◌≡◌ {A = (Text × Text) × Uploaded} ((digest, hand_content h), u) (blob, u') = cc b.2 in
     (a.0, a.1, not-false _ (not_refused _ _ _ b.1), sym (λ i. (p i).0), sym (λ i. (p i).1))

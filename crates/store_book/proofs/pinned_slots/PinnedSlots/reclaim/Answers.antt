@@ -2,9 +2,14 @@ use Rattle.std.proofs.Common.{◌≡◌, ◌+◌, ◌<◌, ◌^◌, ap, ◌∙�
 use Rattle.slot_table.specs.declared.phase.Phase.TheVariants as phase
 use Rattle.slot_table.specs.Slots.{freed_slot, generation_at, phase_at, retire}
 use Rattle.store_book.specs.Pinned.{Pinned}
+use Rattle.slot_table.proofs.Finding.{condemned_within}
 use Rattle.store_book.proofs.Slots.Pinned.{one_each-looked}
 use Rattle.store_book.proofs.Slots.Reclaimed.{generation_row, IsPinned-freed, IsPinned-retired}
 use Rattle.store_book.proofs.pinned_slots.PinnedSlots.reclaim.Goals as goal
+
+pub share_of-blob-requires : goal.share_of-blob-requires
+share_of-blob-requires c =
+    condemned_within c.self.inside.slots c.args.slot (ap (λ (p : Pinned). phase_at p.slots c.args.slot) c.self.view_is ∙ c.requires.condemned)
 
 pub invariant_of-self : goal.invariant_of-self
 invariant_of-self c =
