@@ -7,7 +7,7 @@ use Rattle.log_records.specs.declared.head.Head.{Head}
 use Rattle.log_records.specs.declared.kind.Kind.{Kind}
 use Rattle.log_records.specs.declared.kind.Kind.TheVariants as kind
 use Rattle.log_records.specs.Kinds.{IsUnknown, kind_number}
-use Rattle.log_records.specs.Changes.{Change, HaveRoom, IsChange, Parts, change_of, max_body, parts_of, RepoAdded, SessionOpened, ChunkReceived, SessionSealed, SessionDropped, BlobLinked, BlobUnlinked, ManifestPut, ManifestDeleted, NumberSet, BlobStored, RepoRemoved}
+use Rattle.log_records.specs.Changes.{Change, HaveRoom, IsChange, Parts, change_of, max_body, parts_of, RepoAdded, SessionOpened, ChunkReceived, SessionSealed, SessionDropped, BlobLinked, BlobUnlinked, ManifestPut, ManifestDeleted, NumberSet, BlobStored, RepoRemoved, ChunkNoted, SealNoted, BlobNoted}
 use Rattle.log_records.specs.Records.{IsHead, head_bytes, head_for, head_of, payload_len, payload_of, record_bytes}
 use Rattle.log_records.specs.Laws.{RecordsAreApart}
 
@@ -58,7 +58,7 @@ heads_apart a b x y fa fb e =
 
 -- ---- kinds
 
-pub kind_small : (k : Kind) → kind_number k ≤ 12
+pub kind_small : (k : Kind) → kind_number k ≤ 15
 kind_small kind.RepoAdded = omega arith
 kind_small kind.SessionOpened = omega arith
 kind_small kind.ChunkReceived = omega arith
@@ -71,6 +71,9 @@ kind_small kind.ManifestDeleted = omega arith
 kind_small kind.NumberSet = omega arith
 kind_small kind.BlobStored = omega arith
 kind_small kind.RepoRemoved = omega arith
+kind_small kind.ChunkNoted = omega arith
+kind_small kind.SealNoted = omega arith
+kind_small kind.BlobNoted = omega arith
 
 kind_positive : (k : Kind) → 0 < kind_number k
 kind_positive kind.RepoAdded = omega arith
@@ -85,6 +88,9 @@ kind_positive kind.ManifestDeleted = omega arith
 kind_positive kind.NumberSet = omega arith
 kind_positive kind.BlobStored = omega arith
 kind_positive kind.RepoRemoved = omega arith
+kind_positive kind.ChunkNoted = omega arith
+kind_positive kind.SealNoted = omega arith
+kind_positive kind.BlobNoted = omega arith
 
 pub known : (k : Kind) → IsUnknown (kind_number k) → ⊥
 known k (inl zero) = omega (arith, zero, kind_positive k)
@@ -92,7 +98,7 @@ known k (inr large) = omega (arith, large, kind_small k)
 
 -- the kinds in the order of their numbers
 kinds : List Kind
-kinds = kind.RepoAdded ∷ kind.RepoAdded ∷ kind.SessionOpened ∷ kind.ChunkReceived ∷ kind.SessionSealed ∷ kind.SessionDropped ∷ kind.BlobLinked ∷ kind.BlobUnlinked ∷ kind.ManifestPut ∷ kind.ManifestDeleted ∷ kind.NumberSet ∷ kind.BlobStored ∷ kind.RepoRemoved ∷ []
+kinds = kind.RepoAdded ∷ kind.RepoAdded ∷ kind.SessionOpened ∷ kind.ChunkReceived ∷ kind.SessionSealed ∷ kind.SessionDropped ∷ kind.BlobLinked ∷ kind.BlobUnlinked ∷ kind.ManifestPut ∷ kind.ManifestDeleted ∷ kind.NumberSet ∷ kind.BlobStored ∷ kind.RepoRemoved ∷ kind.ChunkNoted ∷ kind.SealNoted ∷ kind.BlobNoted ∷ []
 
 kind_at : ℕ → Kind
 kind_at n = get_or kinds n kind.RepoAdded
@@ -111,6 +117,9 @@ again kind.ManifestDeleted = refl
 again kind.NumberSet = refl
 again kind.BlobStored = refl
 again kind.RepoRemoved = refl
+again kind.ChunkNoted = refl
+again kind.SealNoted = refl
+again kind.BlobNoted = refl
 
 pub kinds_apart : (a b : Kind) → kind_number a ≡ kind_number b → a ≡ b
 kinds_apart a b e = sym (again a) ∙ ap kind_at e ∙ again b
@@ -130,6 +139,9 @@ change_again (ManifestDeleted repo digest) = refl
 change_again (NumberSet tenant number) = refl
 change_again (BlobStored digest bytes) = refl
 change_again (RepoRemoved repo) = refl
+change_again (ChunkNoted tenant number notes) = refl
+change_again (SealNoted tenant number digest notes) = refl
+change_again (BlobNoted tenant number digest notes) = refl
 
 pub head_fits : (p : Parts) → HaveRoom p → IsHead (head_of p)
 head_fits p room = record {

@@ -4,7 +4,7 @@ use Rattle.std.proofs.lemmas.List.{drop-drop, length-append, length-replicate, n
 use Rattle.log_records.specs.declared.head.Head.{Head}
 use Rattle.log_records.specs.declared.kind.Kind.{Kind}
 use Rattle.log_records.specs.declared.kind.Kind.TheVariants as kind
-use Rattle.log_records.specs.Changes.{BlobLinked, BlobStored, BlobUnlinked, Change, ChunkReceived, HaveRoom, ManifestDeleted, ManifestPut, NumberSet, RepoAdded, RepoRemoved, SessionDropped, SessionOpened, SessionSealed, IsChange, Parts, change_of, change_with, parts, parts_of}
+use Rattle.log_records.specs.Changes.{BlobLinked, BlobNoted, BlobStored, BlobUnlinked, Change, ChunkNoted, ChunkReceived, HaveRoom, ManifestDeleted, ManifestPut, NumberSet, RepoAdded, RepoRemoved, SealNoted, SessionDropped, SessionOpened, SessionSealed, IsChange, Parts, change_of, change_with, parts, parts_of}
 use Rattle.log_records.specs.Decoding.{AnnouncesRecord, IsCutOff, IsMalformed, IsNext, IsOfUnknownKind, Record}
 use Rattle.log_records.specs.Kinds.{IsUnknown, kind_number, uses_body, uses_digest, uses_name, uses_number}
 use Rattle.log_records.specs.Records.{IsHead, IsPlain, head_bytes, head_for, head_of, parts_in, payload_len, payload_of, record_bytes}
@@ -28,6 +28,9 @@ plain_parts kind.ManifestDeleted name digest number body n d u b = rw (u refl, b
 plain_parts kind.NumberSet name digest number body n d u b = rw (d refl, b refl) refl
 plain_parts kind.BlobStored name digest number body n d u b = rw (n refl, u refl) refl
 plain_parts kind.RepoRemoved name digest number body n d u b = rw (d refl, u refl, b refl) refl
+plain_parts kind.ChunkNoted name digest number body n d u b = rw (d refl) refl
+plain_parts kind.SealNoted name digest number body n d u b = refl
+plain_parts kind.BlobNoted name digest number body n d u b = refl
 
 -- the head of a change leaves empty what its kind does not use
 
@@ -44,6 +47,9 @@ unused_name (ManifestDeleted repo digest) e = cc
 unused_name (NumberSet tenant number) e = cc
 unused_name (BlobStored digest bytes) e = refl
 unused_name (RepoRemoved repo) e = cc
+unused_name (ChunkNoted tenant number notes) e = cc
+unused_name (SealNoted tenant number digest notes) e = cc
+unused_name (BlobNoted tenant number digest notes) e = cc
 
 unused_digest : (c : Change) → uses_digest (parts_of c).kind ≡ false → (head_for c).digest_len ≡ 0
 unused_digest (RepoAdded repo) e = refl
@@ -58,6 +64,9 @@ unused_digest (ManifestDeleted repo digest) e = cc
 unused_digest (NumberSet tenant number) e = refl
 unused_digest (BlobStored digest bytes) e = cc
 unused_digest (RepoRemoved repo) e = refl
+unused_digest (ChunkNoted tenant number notes) e = refl
+unused_digest (SealNoted tenant number digest notes) e = cc
+unused_digest (BlobNoted tenant number digest notes) e = cc
 
 unused_number : (c : Change) → uses_number (parts_of c).kind ≡ false → (head_for c).number ≡ 0
 unused_number (RepoAdded repo) e = refl
@@ -72,6 +81,9 @@ unused_number (ManifestDeleted repo digest) e = refl
 unused_number (NumberSet tenant number) e = cc
 unused_number (BlobStored digest bytes) e = refl
 unused_number (RepoRemoved repo) e = refl
+unused_number (ChunkNoted tenant number notes) e = cc
+unused_number (SealNoted tenant number digest notes) e = cc
+unused_number (BlobNoted tenant number digest notes) e = cc
 
 unused_body : (c : Change) → uses_body (parts_of c).kind ≡ false → (head_for c).body_len ≡ 0
 unused_body (RepoAdded repo) e = refl
@@ -86,6 +98,9 @@ unused_body (ManifestDeleted repo digest) e = refl
 unused_body (NumberSet tenant number) e = refl
 unused_body (BlobStored digest bytes) e = cc
 unused_body (RepoRemoved repo) e = refl
+unused_body (ChunkNoted tenant number notes) e = cc
+unused_body (SealNoted tenant number digest notes) e = cc
+unused_body (BlobNoted tenant number digest notes) e = cc
 
 head_plain : (c : Change) → IsChange c → IsPlain (parts_of c).kind (head_for c)
 head_plain c is = record { name = unused_name c; digest = unused_digest c; number = unused_number c; body = unused_body c; short = is.body }

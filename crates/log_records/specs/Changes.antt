@@ -32,6 +32,12 @@ pub data Change : Type 0 where
   BlobStored : List ℕ → List ℕ → Change
   -- the repository of this name was removed
   RepoRemoved : List ℕ → Change
+  -- a tenant's session of this number received a chunk with these notes
+  ChunkNoted : List ℕ → ℕ → List ℕ → Change
+  -- a tenant's session of this number became, with last bytes of these notes, a blob of this digest
+  SealNoted : List ℕ → ℕ → List ℕ → List ℕ → Change
+  -- a blob of this digest and these notes was stored, in the file of a tenant's session of this number
+  BlobNoted : List ℕ → ℕ → List ℕ → List ℕ → Change
 
 -- a borrowed change, without its place in memory
 abbrev pub change_view : BorrowedChange → Change
@@ -47,6 +53,9 @@ change_view (borrowed.ManifestDeleted repo digest) = ManifestDeleted repo.now di
 change_view (borrowed.NumberSet tenant number) = NumberSet tenant.now number
 change_view (borrowed.BlobStored digest bytes) = BlobStored digest.now bytes.now
 change_view (borrowed.RepoRemoved repo) = RepoRemoved repo.now
+change_view (borrowed.ChunkNoted tenant number notes) = ChunkNoted tenant.now number notes.now
+change_view (borrowed.SealNoted tenant number digest notes) = SealNoted tenant.now number digest.now notes.now
+change_view (borrowed.BlobNoted tenant number digest notes) = BlobNoted tenant.now number digest.now notes.now
 
 -- the parts of a record
 pub record Parts : Type 0 where
@@ -76,6 +85,9 @@ parts_of (ManifestDeleted repo digest) = parts kind.ManifestDeleted repo digest 
 parts_of (NumberSet tenant number) = parts kind.NumberSet tenant [] number []
 parts_of (BlobStored digest bytes) = parts kind.BlobStored [] digest 0 bytes
 parts_of (RepoRemoved repo) = parts kind.RepoRemoved repo [] 0 []
+parts_of (ChunkNoted tenant number notes) = parts kind.ChunkNoted tenant [] number notes
+parts_of (SealNoted tenant number digest notes) = parts kind.SealNoted tenant digest number notes
+parts_of (BlobNoted tenant number digest notes) = parts kind.BlobNoted tenant digest number notes
 
 -- the change of a kind with these fields; a field that the kind does not use is ignored
 abbrev pub change_with : Kind → List ℕ → List ℕ → ℕ → List ℕ → Change
@@ -91,6 +103,9 @@ change_with kind.ManifestDeleted name digest number body = ManifestDeleted name 
 change_with kind.NumberSet name digest number body = NumberSet name number
 change_with kind.BlobStored name digest number body = BlobStored digest body
 change_with kind.RepoRemoved name digest number body = RepoRemoved name
+change_with kind.ChunkNoted name digest number body = ChunkNoted name number body
+change_with kind.SealNoted name digest number body = SealNoted name number digest body
+change_with kind.BlobNoted name digest number body = BlobNoted name number digest body
 
 abbrev pub change_of : Parts → Change
 change_of p = change_with p.kind p.name p.digest p.number p.body

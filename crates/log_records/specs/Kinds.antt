@@ -1,7 +1,7 @@
 -- The kinds of records.
 use Rattle.std.specs.Prelude.{◌≡◌, ◌⊎◌, ◌<◌, ℕ, Bool, true, false}
 use Rattle.log_records.specs.declared.kind.Kind.{Kind}
-use Rattle.log_records.specs.declared.kind.Kind.TheVariants.{BlobLinked, BlobStored, BlobUnlinked, ChunkReceived, ManifestDeleted, ManifestPut, NumberSet, RepoAdded, RepoRemoved, SessionDropped, SessionOpened, SessionSealed}
+use Rattle.log_records.specs.declared.kind.Kind.TheVariants.{BlobLinked, BlobNoted, BlobStored, BlobUnlinked, ChunkNoted, ChunkReceived, ManifestDeleted, ManifestPut, NumberSet, RepoAdded, RepoRemoved, SealNoted, SessionDropped, SessionOpened, SessionSealed}
 
 -- the number of a kind
 abbrev pub kind_number : Kind → ℕ
@@ -17,10 +17,13 @@ kind_number ManifestDeleted = 9
 kind_number NumberSet = 10
 kind_number BlobStored = 11
 kind_number RepoRemoved = 12
+kind_number ChunkNoted = 13
+kind_number SealNoted = 14
+kind_number BlobNoted = 15
 
 -- a number of no kind
 abbrev pub IsUnknown : ℕ → Type 0
-IsUnknown number = (number ≡ 0) ⊎ (12 < number)
+IsUnknown number = (number ≡ 0) ⊎ (15 < number)
 
 -- records of the kind have a name
 abbrev pub uses_name : Kind → Bool
@@ -34,6 +37,8 @@ uses_digest BlobLinked = true
 uses_digest BlobUnlinked = true
 uses_digest ManifestDeleted = true
 uses_digest BlobStored = true
+uses_digest SealNoted = true
+uses_digest BlobNoted = true
 uses_digest _ = false
 
 -- records of the kind have a number
@@ -43,6 +48,9 @@ uses_number ChunkReceived = true
 uses_number SessionSealed = true
 uses_number SessionDropped = true
 uses_number NumberSet = true
+uses_number ChunkNoted = true
+uses_number SealNoted = true
+uses_number BlobNoted = true
 uses_number _ = false
 
 -- records of the kind have a body
@@ -51,4 +59,7 @@ uses_body ChunkReceived = true
 uses_body SessionSealed = true
 uses_body ManifestPut = true
 uses_body BlobStored = true
+uses_body ChunkNoted = true
+uses_body SealNoted = true
+uses_body BlobNoted = true
 uses_body _ = false

@@ -89,4 +89,35 @@ pub enum Change<'a> {
         /// The name of the repository.
         repo: &'a [u8],
     },
+    /// A session whose content lies in a file received a chunk.
+    ChunkNoted {
+        /// The name of the tenant.
+        tenant: &'a [u8],
+        /// The number of the session.
+        number: u64,
+        /// The notes of the chunk's pieces: of each its length and its sum, of eight bytes each, the lowest first.
+        notes: &'a [u8],
+    },
+    /// A session whose content lies in a file received its last bytes and became a blob, which was linked.
+    SealNoted {
+        /// The name of the tenant.
+        tenant: &'a [u8],
+        /// The number of the session.
+        number: u64,
+        /// The text of the blob's digest.
+        digest: &'a [u8],
+        /// The notes of the last bytes' pieces.
+        notes: &'a [u8],
+    },
+    /// A blob was stored, whose content lies in the file of a session. Only a rewritten log has this record.
+    BlobNoted {
+        /// The name of the session's tenant.
+        tenant: &'a [u8],
+        /// The number of the session.
+        number: u64,
+        /// The text of the blob's digest.
+        digest: &'a [u8],
+        /// The notes of the blob's pieces.
+        notes: &'a [u8],
+    },
 }

@@ -29,6 +29,12 @@ pub enum Kind {
     BlobStored,
     /// A repository was removed.
     RepoRemoved,
+    /// A session whose content lies in a file received a chunk.
+    ChunkNoted,
+    /// A session whose content lies in a file became a blob.
+    SealNoted,
+    /// A blob was stored, whose content lies in the file of a session.
+    BlobNoted,
 }
 
 impl Kind {
@@ -50,6 +56,9 @@ impl Kind {
             10 => Some(Kind::NumberSet),
             11 => Some(Kind::BlobStored),
             12 => Some(Kind::RepoRemoved),
+            13 => Some(Kind::ChunkNoted),
+            14 => Some(Kind::SealNoted),
+            15 => Some(Kind::BlobNoted),
             _ => None,
         }
     }
@@ -71,6 +80,9 @@ impl Kind {
             Kind::NumberSet => 10,
             Kind::BlobStored => 11,
             Kind::RepoRemoved => 12,
+            Kind::ChunkNoted => 13,
+            Kind::SealNoted => 14,
+            Kind::BlobNoted => 15,
         }
     }
 
@@ -93,7 +105,9 @@ impl Kind {
             | Kind::BlobLinked
             | Kind::BlobUnlinked
             | Kind::ManifestDeleted
-            | Kind::BlobStored => true,
+            | Kind::BlobStored
+            | Kind::SealNoted
+            | Kind::BlobNoted => true,
             _ => false,
         }
     }
@@ -107,7 +121,10 @@ impl Kind {
             | Kind::ChunkReceived
             | Kind::SessionSealed
             | Kind::SessionDropped
-            | Kind::NumberSet => true,
+            | Kind::NumberSet
+            | Kind::ChunkNoted
+            | Kind::SealNoted
+            | Kind::BlobNoted => true,
             _ => false,
         }
     }
@@ -117,8 +134,13 @@ impl Kind {
         ensures { result ≡ uses_body self }
     {
         match self {
-            Kind::ChunkReceived | Kind::SessionSealed | Kind::ManifestPut | Kind::BlobStored =>
-                true,
+            Kind::ChunkReceived
+            | Kind::SessionSealed
+            | Kind::ManifestPut
+            | Kind::BlobStored
+            | Kind::ChunkNoted
+            | Kind::SealNoted
+            | Kind::BlobNoted => true,
             _ => false,
         }
     }

@@ -18,7 +18,7 @@ pub struct Parts<'a> {
     pub digest: &'a [u8],
     /// The number of a session.
     pub number: u64,
-    /// The bytes of a chunk, a manifest or a blob.
+    /// The bytes of a chunk, a manifest or a blob, or the notes of pieces.
     pub body: &'a [u8],
 }
 
@@ -53,6 +53,23 @@ pub fn parts_of<'a>(change: &Change<'a>) -> Parts<'a>
             Change::NumberSet { tenant, number } => (Kind::NumberSet, tenant, b"", number, b""),
             Change::BlobStored { digest, bytes } => (Kind::BlobStored, b"", digest, 0, bytes),
             Change::RepoRemoved { repo } => (Kind::RepoRemoved, repo, b"", 0, b""),
+            Change::ChunkNoted {
+                tenant,
+                number,
+                notes,
+            } => (Kind::ChunkNoted, tenant, b"", number, notes),
+            Change::SealNoted {
+                tenant,
+                number,
+                digest,
+                notes,
+            } => (Kind::SealNoted, tenant, digest, number, notes),
+            Change::BlobNoted {
+                tenant,
+                number,
+                digest,
+                notes,
+            } => (Kind::BlobNoted, tenant, digest, number, notes),
         };
     Parts {
         kind,
@@ -108,6 +125,23 @@ pub fn change_of<'a>(parts: &Parts<'a>) -> Change<'a>
             bytes: body,
         },
         Kind::RepoRemoved => Change::RepoRemoved { repo: name },
+        Kind::ChunkNoted => Change::ChunkNoted {
+            tenant: name,
+            number,
+            notes: body,
+        },
+        Kind::SealNoted => Change::SealNoted {
+            tenant: name,
+            number,
+            digest,
+            notes: body,
+        },
+        Kind::BlobNoted => Change::BlobNoted {
+            tenant: name,
+            number,
+            digest,
+            notes: body,
+        },
     }
 }
 

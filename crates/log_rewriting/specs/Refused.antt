@@ -1,13 +1,16 @@
 -- Changes that a store does not write.
 use Rattle.std.specs.Prelude.{◌≡◌, false}
 use Rattle.blob_digest.specs.Digests.{is_digest_text}
-use Rattle.log_records.specs.Changes.{BlobLinked, BlobStored, BlobUnlinked, Change, ManifestDeleted, NumberSet, RepoAdded, SessionSealed}
+use Rattle.log_records.specs.Changes.{BlobLinked, BlobNoted, BlobStored, BlobUnlinked, Change, ChunkNoted, ManifestDeleted, NumberSet, RepoAdded, SealNoted, SessionSealed}
 
 -- the change is of a kind that a store does not write
 abbrev pub IsForeign : Change → Type 0
 IsForeign (RepoAdded repo) = Unit {0}
 IsForeign (NumberSet tenant number) = Unit {0}
 IsForeign (BlobStored digest bytes) = Unit {0}
+IsForeign (ChunkNoted tenant number notes) = Unit {0}
+IsForeign (SealNoted tenant number digest notes) = Unit {0}
+IsForeign (BlobNoted tenant number digest notes) = Unit {0}
 IsForeign change = ⊥
 
 -- the change names a text that is no digest

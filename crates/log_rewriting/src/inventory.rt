@@ -113,9 +113,12 @@ impl Inventory {
             Change::ManifestPut { repo, bytes } => self.note_put(repo, bytes, offset, len),
             Change::ManifestDeleted { repo, digest } => self.note_deleted(repo, digest),
             Change::RepoRemoved { repo } => self.note_removed(repo),
-            Change::RepoAdded { .. } | Change::NumberSet { .. } | Change::BlobStored { .. } => {
-                Err(InventoryError::KindUnexpected)
-            }
+            Change::RepoAdded { .. }
+            | Change::NumberSet { .. }
+            | Change::BlobStored { .. }
+            | Change::ChunkNoted { .. }
+            | Change::SealNoted { .. }
+            | Change::BlobNoted { .. } => Err(InventoryError::KindUnexpected),
         }
     }
 

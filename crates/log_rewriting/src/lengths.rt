@@ -34,6 +34,19 @@ pub fn change_len(change: &Change<'_>) -> u64 {
         Change::NumberSet { tenant, .. } => record_len(tenant.len(), 0, 0),
         Change::BlobStored { digest, bytes } => record_len(0, digest.len(), bytes.len()),
         Change::RepoRemoved { repo } => record_len(repo.len(), 0, 0),
+        Change::ChunkNoted { tenant, notes, .. } => record_len(tenant.len(), 0, notes.len()),
+        Change::SealNoted {
+            tenant,
+            digest,
+            notes,
+            ..
+        }
+        | Change::BlobNoted {
+            tenant,
+            digest,
+            notes,
+            ..
+        } => record_len(tenant.len(), digest.len(), notes.len()),
     }
 }
 

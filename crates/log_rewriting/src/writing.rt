@@ -59,6 +59,23 @@ fn fits(change: &Change<'_>) -> bool
         Change::NumberSet { tenant, number } => fit(tenant.len(), 0, number, 0),
         Change::BlobStored { digest, bytes } => fit(0, digest.len(), 0, bytes.len()),
         Change::RepoRemoved { repo } => fit(repo.len(), 0, 0, 0),
+        Change::ChunkNoted {
+            tenant,
+            number,
+            notes,
+        } => fit(tenant.len(), 0, number, notes.len()),
+        Change::SealNoted {
+            tenant,
+            number,
+            digest,
+            notes,
+        }
+        | Change::BlobNoted {
+            tenant,
+            number,
+            digest,
+            notes,
+        } => fit(tenant.len(), digest.len(), number, notes.len()),
     }
 }
 

@@ -101,7 +101,12 @@ impl<W: Write + Drop> Maker<W> {
             Change::ManifestPut { repo, bytes } => self.put(change, repo, bytes),
             Change::ManifestDeleted { repo, digest } => self.delete(repo, digest),
             Change::RepoRemoved { repo } => self.remove(repo),
-            Change::RepoAdded { .. } | Change::NumberSet { .. } | Change::BlobStored { .. } => {
+            Change::RepoAdded { .. }
+            | Change::NumberSet { .. }
+            | Change::BlobStored { .. }
+            | Change::ChunkNoted { .. }
+            | Change::SealNoted { .. }
+            | Change::BlobNoted { .. } => {
                 Ok(()) // No store writes such a record.
             }
         }

@@ -1,5 +1,5 @@
 -- The notes of a durable state: its contents with each chunk replaced by what a process knows of it that has not read it.
-use Rattle.std.specs.Prelude.{◌≡◌, ℕ, ◌^◌, ◌<◌, List, Option, Some, None, length, map}
+use Rattle.std.specs.Prelude.{◌≡◌, ℕ, ◌^◌, ◌<◌, Bool, true, false, List, Option, Some, None, length, map}
 use Rattle.std.specs.Option.{option_map}
 use Rattle.std.specs.List.{concat}
 use Rattle.std.specs.FinMap as fmap
@@ -8,12 +8,21 @@ use Rattle.content_files.specs.Chunks.{chunk_notes, noted, read_notes}
 use Rattle.store_model.specs.Catalog.{CheckedIn, CheckedOutWith, Chunks, Session, SessionNumber, Tenant}
 use Rattle.store_model.specs.Durable.{BlobStored, Change, ChunkReceived, DurableState, SessionSealed, after_change, after_changes, initial_durable}
 
--- a change as a log of notes describes it
+-- a chunk as a log keeps it: itself or, if contents may lie in files, what is known of it by its notes
+abbrev pub as_kept : Bool → Text → Text
+as_kept false bytes = bytes
+as_kept true bytes = noted bytes
+
+-- a change as a log keeps it, if contents are in memory or may lie in files
+abbrev pub kept_change : Bool → Change → Change
+kept_change files (ChunkReceived key bytes) = ChunkReceived key (as_kept files bytes)
+kept_change files (SessionSealed key digest last) = SessionSealed key digest (as_kept files last)
+kept_change files (BlobStored digest bytes) = BlobStored digest (as_kept files bytes)
+kept_change files c = c
+
+-- a change as a log of notes keeps it
 abbrev pub noted_change : Change → Change
-noted_change (ChunkReceived key bytes) = ChunkReceived key (noted bytes)
-noted_change (SessionSealed key digest last) = SessionSealed key digest (noted last)
-noted_change (BlobStored digest bytes) = BlobStored digest (noted bytes)
-noted_change c = c
+noted_change c = kept_change true c
 
 -- the chunks of a session, noted
 abbrev pub noted_chunks : Chunks → Chunks
@@ -45,6 +54,10 @@ pub record IsNoted (D N : DurableState) : Type 0 where
   pub sessions : (key : SessionNumber) → fmap.get N.sessions key ≡ option_map noted_session (fmap.get D.sessions key)
   pub contents : (digest : Text) → AreNotedContents (fmap.get D.contents digest) (fmap.get N.contents digest)
 
+-- two durable states have the same notes
+abbrev pub HaveSameNotes : DurableState → DurableState → Type 0
+HaveSameNotes D E = (N : DurableState) × IsNoted D N × IsNoted E N
+
 -- a change leaves a state whose notes are those that the noted change leaves
 abbrev pub NotesStep : Type 0
 NotesStep = (D N : DurableState) (c : Change) → IsNoted D N → IsNoted (after_change D c) (after_change N (noted_change c))
@@ -52,7 +65,7 @@ NotesStep = (D N : DurableState) (c : Change) → IsNoted D N → IsNoted (after
 -- two lists of changes with the same notes leave a new store in states with the same notes
 abbrev pub NotesDetermine : Type 0
 NotesDetermine = (tenants : List Tenant) (cs ds : List Change) → map noted_change cs ≡ map noted_change ds →
-    (N : DurableState) × IsNoted (after_changes (initial_durable tenants) cs) N × IsNoted (after_changes (initial_durable tenants) ds) N
+    HaveSameNotes (after_changes (initial_durable tenants) cs) (after_changes (initial_durable tenants) ds)
 
 -- the notes of a chunk are read as what a process knows of it that has not read it
 abbrev pub NotesAreReadBack : Type 0
