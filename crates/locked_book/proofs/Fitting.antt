@@ -1,11 +1,11 @@
 -- Each change of a legal history fits into a record, and is the change that its description describes.
 use Rattle.std.proofs.Common.{◌≡◌, ◌≤◌, ◌<◌, ◌+◌, ◌∙◌, ℕ, Bool, true, false, not, List, [], ◌∷◌, ◌++◌, Option, Some, None, Ok, Err, IfSome, ap, arith, length, length-append, refl, subst, sym, inl, inr}
 use Rattle.std.proofs.lemmas.List.{take-append-drop}
-use Rattle.std.specs.Prelude.{◌^◌, ◌==◌, drop, map, position, take, nat_le, nat_lt, if◌then◌else◌, sum_by}
+use Rattle.std.specs.Prelude.{◌^◌, ◌==◌, drop, is_some, map, position, take, nat_le, nat_lt, if◌then◌else◌, sum_by}
 use Rattle.std.specs.FinMap.{get}
 use Rattle.std.specs.FinMap as fmap
 use Rattle.std.specs.List.{AllByRecursion, before_first, cons_option, prefix_len}
-use Rattle.std.specs.Option.{option_map_or}
+use Rattle.std.specs.Option.{option_map, option_map_or}
 use Rattle.std.proofs.lemmas.Bool.{and_parts, leb-false, not-false, or_parts}
 use Rattle.std.proofs.Common.{codes}
 use Rattle.std.proofs.lemmas.Bool.{ltb-false}
@@ -18,6 +18,10 @@ use Rattle.sha2.proofs.Facts256.{length-sha256}
 use Rattle.sha2.proofs.Facts512.{length-sha512}
 use Rattle.ghost_log.specs.declared.view.Entry.{Entry}
 use Rattle.content_files.specs.Notes.{is_read}
+use Rattle.content_files.specs.Chunks.{chunk_notes, read_notes}
+use Rattle.locked_book.proofs.NoteLengths.{notes_small}
+use Rattle.noted_logs.specs.Noted.{as_kept, kept_change}
+use Rattle.noted_logs.proofs.ReadBack.{notes_are_read_back}
 use Rattle.blob_digest.specs.Digests.{algorithm_of, hash_text, is_digest_of, is_digest_text, sha256_text, sha512_text}
 use Rattle.blob_digest.specs.Vouched.{has_digest}
 use Rattle.blob_digest.proofs.Grammar.{passes_grammar}
@@ -54,10 +58,10 @@ use Rattle.store_model.proofs.Durable.Crashes.{step_sound}
 use Rattle.store_model.proofs.Durable.Histories.{after_record_tenants, step_agrees}
 use Rattle.store_model.proofs.Invariant.SessionTenants.{session_owner}
 use Rattle.locked_book.specs.CutLogs.{changes_in}
-use Rattle.locked_book.specs.Logging.{logged_change, name_at}
+use Rattle.locked_book.specs.Logging.{is_beyond, is_noted, length_after, logged_change, name_at}
 use Rattle.locked_book.specs.History.{steps_of}
 use Rattle.locked_book.specs.Names.{StoreNames}
-use Rattle.locked_book.specs.Restoring.{IsRestorable, opening_state}
+use Rattle.locked_book.specs.Restoring.{IsRestorable, logged_changes, opening_state}
 use Rattle.locked_book.proofs.TenantNames.{known_name}
 
 -- ---- lengths
@@ -119,76 +123,108 @@ digest_short rules digest content = by rules.on_disk
     by true is = vouched_short digest content is
     by false is = hashed_short digest content is
 
+-- ---- notes
+
 -- ---- descriptions
 
 -- the key is of the tenant of some repository
 abbrev pub IsOwned : List Tenant → SessionNumber → Type 0
 IsOwned tenants key = (repo : Text) × (tenant_of tenants repo ≡ Some key.0)
 
--- the key of the change is the one that its description names
+-- the key of the change is the one that its description names, and its chunk is short
 abbrev pub IsKeyed : List Tenant → Change → Type 0
 IsKeyed tenants (SessionOpened repo key) = key ≡ session_key tenants repo key.1
-IsKeyed tenants (ChunkReceived key bytes) = IsOwned tenants key
-IsKeyed tenants (SessionSealed key digest last) = IsOwned tenants key
+IsKeyed tenants (ChunkReceived key bytes) = IsOwned tenants key × (length bytes ≤ 2 ^ 40)
+IsKeyed tenants (SessionSealed key digest last) = IsOwned tenants key × (length last ≤ 2 ^ 40)
 IsKeyed tenants (SessionDropped key) = IsOwned tenants key
 IsKeyed tenants (NumberSet t n) = IsOwned tenants (t, n)
 IsKeyed tenants change = Unit {0}
 
--- the description of the change fits into a record, and names its key
+-- the description of the change fits into a record, with bytes and with notes, and names its key
 abbrev pub Describes : List Tenant → Change → Type 0
-Describes tenants c = IsChange (logged_change tenants c) × IsKeyed tenants c
+Describes tenants c = IsChange (logged_change tenants false c) × IsChange (logged_change tenants true c) × IsKeyed tenants c
+
+-- the same of a change without a chunk, whose description has no notes
+plain : {A K : Type 0} → A → K → A × A × K
+plain fits keyed = (fits, fits, keyed)
 
 -- the place of the tenant with this name
 abbrev place : List Tenant → Text → ℕ
 place tenants name = option_map_or (λ t. t) (position (λ x. same_text x.name name) tenants) 0
 
 -- the change that is described
-abbrev described : List Tenant → logged.Change → Change
-described tenants (logged.SessionOpened repo n) = SessionOpened repo (session_key tenants repo n)
-described tenants (logged.ChunkReceived tenant n bytes) = ChunkReceived (place tenants tenant, n) bytes
-described tenants (logged.SessionSealed tenant n digest last) = SessionSealed (place tenants tenant, n) digest last
-described tenants (logged.SessionDropped tenant n) = SessionDropped (place tenants tenant, n)
-described tenants (logged.BlobLinked repo digest) = BlobLinked repo digest
-described tenants (logged.BlobUnlinked repo digest) = BlobUnlinked repo digest
-described tenants (logged.ManifestPut repo bytes) = ManifestPut repo bytes
-described tenants (logged.ManifestDeleted repo digest) = ManifestDeleted repo digest
-described tenants (logged.RepoAdded repo) = RepoAdded repo
-described tenants (logged.RepoRemoved repo) = RepoRemoved repo
-described tenants (logged.NumberSet tenant n) = NumberSet (place tenants tenant) n
-described tenants (logged.BlobStored digest bytes) = BlobStored digest bytes
+abbrev pub described : List Tenant → Bool → logged.Change → Change
+described tenants files (logged.SessionOpened repo n) = SessionOpened repo (session_key tenants repo n)
+described tenants files (logged.ChunkReceived tenant n bytes) = ChunkReceived (place tenants tenant, n) (as_kept files bytes)
+described tenants files (logged.SessionSealed tenant n digest last) = SessionSealed (place tenants tenant, n) digest (as_kept files last)
+described tenants files (logged.SessionDropped tenant n) = SessionDropped (place tenants tenant, n)
+described tenants files (logged.BlobLinked repo digest) = BlobLinked repo digest
+described tenants files (logged.BlobUnlinked repo digest) = BlobUnlinked repo digest
+described tenants files (logged.ManifestPut repo bytes) = ManifestPut repo bytes
+described tenants files (logged.ManifestDeleted repo digest) = ManifestDeleted repo digest
+described tenants files (logged.RepoAdded repo) = RepoAdded repo
+described tenants files (logged.RepoRemoved repo) = RepoRemoved repo
+described tenants files (logged.NumberSet tenant n) = NumberSet (place tenants tenant) n
+described tenants files (logged.BlobStored digest bytes) = BlobStored digest (as_kept files bytes)
+described tenants files (logged.ChunkNoted tenant n notes) = ChunkReceived (place tenants tenant, n) (read_notes notes)
+described tenants files (logged.SealNoted tenant n digest notes) = SessionSealed (place tenants tenant, n) digest (read_notes notes)
+described tenants files (logged.BlobNoted tenant n digest notes) = BlobStored digest (read_notes notes)
 
 place_owned : (tenants : List Tenant) (key : SessionNumber) → IsOwned tenants key → place tenants (name_at tenants key.0) ≡ key.0
 place_owned tenants key owned = ap (place tenants) (known_name tenants owned.0 key.0 owned.1) ∙ ap (λ o. option_map_or (λ t. t) o 0) owned.1
 
-described_is : (tenants : List Tenant) (c : Change) → IsKeyed tenants c → described tenants (logged_change tenants c) ≡ c
-described_is tenants (SessionOpened repo key) keyed = ap (SessionOpened repo) (sym keyed)
-described_is tenants (ChunkReceived key bytes) keyed = ap (λ t. ChunkReceived (t, key.1) bytes) (place_owned tenants key keyed)
-described_is tenants (SessionSealed key digest last) keyed = ap (λ t. SessionSealed (t, key.1) digest last) (place_owned tenants key keyed)
-described_is tenants (SessionDropped key) keyed = ap (λ t. SessionDropped (t, key.1)) (place_owned tenants key keyed)
-described_is tenants (BlobLinked repo digest) keyed = refl
-described_is tenants (BlobUnlinked repo digest) keyed = refl
-described_is tenants (ManifestPut repo bytes) keyed = refl
-described_is tenants (ManifestDeleted repo digest) keyed = refl
-described_is tenants (RepoAdded repo) keyed = refl
-described_is tenants (RepoRemoved repo) keyed = refl
-described_is tenants (NumberSet t n) keyed = ap (λ m. NumberSet m n) (place_owned tenants (t, n) keyed)
-described_is tenants (BlobStored digest bytes) keyed = refl
+-- the notes of a short chunk are read as the chunk is kept, if contents may lie in files
+read_kept : (files : Bool) (bytes : Text) → length bytes ≤ 2 ^ 40 → files ≡ true → read_notes (chunk_notes bytes) ≡ as_kept files bytes
+read_kept files bytes short so = notes_are_read_back bytes (omega (arith, short)) ∙ ap (λ f. as_kept f bytes) (sym so)
 
-all_described : (tenants : List Tenant) (cs : List Change) → AllByRecursion (Describes tenants) cs → map (described tenants) (map (logged_change tenants) cs) ≡ cs
-all_described tenants [] all = refl
-all_described tenants (c ∷ cs) all = λ i. described_is tenants c all.0.1 i ∷ all_described tenants cs all.1 i
+described_is : (tenants : List Tenant) (files noted : Bool) (c : Change) → IsKeyed tenants c → (noted ≡ true → files ≡ true) → described tenants files (logged_change tenants noted c) ≡ kept_change files c
+described_is tenants files noted (SessionOpened repo key) keyed so = ap (SessionOpened repo) (sym keyed)
+described_is tenants files false (ChunkReceived key bytes) keyed so = ap (λ t. ChunkReceived (t, key.1) (as_kept files bytes)) (place_owned tenants key keyed.0)
+described_is tenants files true (ChunkReceived key bytes) keyed so = λ i. ChunkReceived (place_owned tenants key keyed.0 i, key.1) (read_kept files bytes keyed.1 (so refl) i)
+described_is tenants files false (SessionSealed key digest last) keyed so = ap (λ t. SessionSealed (t, key.1) digest (as_kept files last)) (place_owned tenants key keyed.0)
+described_is tenants files true (SessionSealed key digest last) keyed so = λ i. SessionSealed (place_owned tenants key keyed.0 i, key.1) digest (read_kept files last keyed.1 (so refl) i)
+described_is tenants files noted (SessionDropped key) keyed so = ap (λ t. SessionDropped (t, key.1)) (place_owned tenants key keyed)
+described_is tenants files noted (BlobLinked repo digest) keyed so = refl
+described_is tenants files noted (BlobUnlinked repo digest) keyed so = refl
+described_is tenants files noted (ManifestPut repo bytes) keyed so = refl
+described_is tenants files noted (ManifestDeleted repo digest) keyed so = refl
+described_is tenants files noted (RepoAdded repo) keyed so = refl
+described_is tenants files noted (RepoRemoved repo) keyed so = refl
+described_is tenants files noted (NumberSet t n) keyed so = ap (λ m. NumberSet m n) (place_owned tenants (t, n) keyed)
+described_is tenants files noted (BlobStored digest bytes) keyed so = refl
 
--- changes with the same descriptions are the same
-pub same_changes : (tenants : List Tenant) (some others : List Change) → AllByRecursion (Describes tenants) some → AllByRecursion (Describes tenants) others → map (logged_change tenants) some ≡ map (logged_change tenants) others → some ≡ others
-same_changes tenants some others a b same = sym (all_described tenants some a) ∙ ap (map (described tenants)) same ∙ all_described tenants others b
+-- only a store whose contents may lie in files notes chunks
+noted_in_files : (longest : Option ℕ) (n : ℕ) → is_beyond longest n ≡ true → is_some longest ≡ true
+noted_in_files None n noted = absurd cc
+noted_in_files (Some l) n noted = refl
 
-pub all_fit : (tenants : List Tenant) (cs : List Change) → AllByRecursion (Describes tenants) cs → AllByRecursion IsChange (map (logged_change tenants) cs)
-all_fit tenants [] all = tt
-all_fit tenants (c ∷ cs) all = (all.0.0, all_fit tenants cs all.1)
+-- the descriptions of steps describe their changes as they are kept
+pub all_described : (tenants : List Tenant) (longest : Option ℕ) (steps : List Step) → AllByRecursion (Describes tenants) (changes_of tenants steps) →
+    map (described tenants (is_some longest)) (logged_changes longest tenants steps) ≡ map (kept_change (is_some longest)) (changes_of tenants steps)
+all_described tenants longest [] all = refl
+all_described tenants longest (step ∷ steps) all = by (all_described tenants longest steps) (change_of tenants step) all
+  where
+    by : (AllByRecursion (Describes tenants) (changes_of tenants steps) →
+        map (described tenants (is_some longest)) (logged_changes longest tenants steps) ≡ map (kept_change (is_some longest)) (changes_of tenants steps)) →
+        (o : Option Change) → AllByRecursion (Describes tenants) (cons_option o (changes_of tenants steps)) →
+        map (described tenants (is_some longest)) (cons_option (option_map (logged_change tenants (is_noted longest step)) o) (logged_changes longest tenants steps)) ≡ map (kept_change (is_some longest)) (cons_option o (changes_of tenants steps))
+    by again None all = again all
+    by again (Some c) all = λ i. described_is tenants (is_some longest) (is_noted longest step) c all.0.2 (noted_in_files longest (length_after step)) i ∷ again all.1 i
 
-pub first_described : (tenants : List Tenant) (first rest : List Change) → AllByRecursion (Describes tenants) (first ++ rest) → AllByRecursion (Describes tenants) first
-first_described tenants [] rest all = tt
-first_described tenants (c ∷ first) rest all = (all.0, first_described tenants first rest all.1)
+-- a description fits into a record, whatever it has of a chunk
+fits : (tenants : List Tenant) (noted : Bool) (c : Change) → Describes tenants c → IsChange (logged_change tenants noted c)
+fits tenants false c d = d.0
+fits tenants true c d = d.1
+
+pub all_fit : (longest : Option ℕ) (tenants : List Tenant) (steps : List Step) → AllByRecursion (Describes tenants) (changes_of tenants steps) → AllByRecursion IsChange (logged_changes longest tenants steps)
+all_fit longest tenants [] all = tt
+all_fit longest tenants (step ∷ steps) all = by (all_fit longest tenants steps) (change_of tenants step) all
+  where
+    by : (AllByRecursion (Describes tenants) (changes_of tenants steps) → AllByRecursion IsChange (logged_changes longest tenants steps)) →
+        (o : Option Change) → AllByRecursion (Describes tenants) (cons_option o (changes_of tenants steps)) →
+        AllByRecursion IsChange (cons_option (option_map (logged_change tenants (is_noted longest step)) o) (logged_changes longest tenants steps))
+    by again None all = again all
+    by again (Some c) all = (fits tenants (is_noted longest step) c all.0, again all.1)
 
 -- ---- what a catalog has
 
@@ -222,17 +258,23 @@ module _ (C : Catalog) (lawful : WellFormed C) where
   chunk_fits : (key : SessionNumber) (s : Session) → get C.sessions key ≡ Some s → (bytes : Text) → length bytes ≤ 2 ^ 40 → IfSome (chunk_change key bytes) Fits
   chunk_fits key s found [] small = tt
   chunk_fits key s found (x ∷ bytes) small =
-      let f = session_fits key s found in
-      (room kind.ChunkReceived (name_at C.tenants key.0) [] key.1 (x ∷ bytes) f.0 (omega arith) f.1 small, f.2)
+      let f = session_fits key s found in (
+        room kind.ChunkReceived (name_at C.tenants key.0) [] key.1 (x ∷ bytes) f.0 (omega arith) f.1 small,
+        room kind.ChunkNoted (name_at C.tenants key.0) [] key.1 (chunk_notes (x ∷ bytes)) f.0 (omega arith) f.1 (notes_small (x ∷ bytes) small),
+        (f.2, small),
+      )
 
   seal_fits : (key : SessionNumber) (s : Session) → get C.sessions key ≡ Some s → (digest whole last : Text) → commands.is_digest_accepted C digest whole ≡ true → length last ≤ 2 ^ 40 → Fits (SessionSealed key digest last)
   seal_fits key s found digest whole last accepted small =
       let f = session_fits key s found in
-      let is = and_parts (commands.is_named C.contents digest whole) (commands.fits_stored C.contents (get C.residents digest) whole) accepted in
-      (room kind.SessionSealed (name_at C.tenants key.0) digest key.1 last f.0 (digest_short C.contents digest whole is.0) f.1 small, f.2)
+      let is = and_parts (commands.is_named C.contents digest whole) (commands.fits_stored C.contents (get C.residents digest) whole) accepted in (
+        room kind.SessionSealed (name_at C.tenants key.0) digest key.1 last f.0 (digest_short C.contents digest whole is.0) f.1 small,
+        room kind.SealNoted (name_at C.tenants key.0) digest key.1 (chunk_notes last) f.0 (digest_short C.contents digest whole is.0) f.1 (notes_small last small),
+        (f.2, small),
+      )
 
   drop_fits : (key : SessionNumber) (s : Session) → get C.sessions key ≡ Some s → Fits (SessionDropped key)
-  drop_fits key s found = let f = session_fits key s found in (room kind.SessionDropped (name_at C.tenants key.0) [] key.1 [] f.0 (omega arith) f.1 (omega arith), f.2)
+  drop_fits key s found = let f = session_fits key s found in (plain (room kind.SessionDropped (name_at C.tenants key.0) [] key.1 [] f.0 (omega arith) f.1 (omega arith)) f.2)
 
   open_fits : (r : Text) (n : ℕ) (X : Catalog) → commands.start C r ≡ Ok (n, X) → length r ≤ 255 → Fits (SessionOpened r (session_key C.tenants r n))
   open_fits r n X is short =
@@ -242,7 +284,7 @@ module _ (C : Catalog) (lawful : WellFormed C) where
       let number : next_number_of C b.0 ≡ n = answer_by d.2 in
       let room_left = or_parts (nat_le (limits_of C b.0).sessions (open_sessions C b.0)) (nat_le (2 ^ 32) (next_number_of C b.0)) (not_refused (commands.cannot_open C b.0) LimitReached d.0 d.1) in
       let small = leb-false (2 ^ 32) (next_number_of C b.0) room_left.1 in
-      (room kind.SessionOpened r [] n [] short (omega arith) (omega (arith, number, small)) (omega arith), refl)
+      (plain (room kind.SessionOpened r [] n [] short (omega arith) (omega (arith, number, small)) (omega arith)) refl)
 
   mount_fits : (r d : Text) (from : Option Text) (m : Mount) (X : Catalog) → commands.mount C r d from ≡ Ok (m, X) → length r ≤ 255 → Fits (mount_change C.tenants r d m)
   mount_fits r d from m X is short =
@@ -252,7 +294,7 @@ module _ (C : Catalog) (lawful : WellFormed C) where
             let c = bound_ok (refuse (commands.lacks_room_for C b.0 r) LimitReached) _ (m, X) h in
             let source = source_of C b.0 d from has in
             let answer : mounting.Mounted ≡ m = answer_by c.2 in
-            subst (λ (y : Mount). Fits (mount_change C.tenants r d y)) answer (room kind.BlobLinked r d 0 [] short (link_short source.0 d source.2) (omega arith) (omega arith), tt)
+            subst (λ (y : Mount). Fits (mount_change C.tenants r d y)) answer (plain (room kind.BlobLinked r d 0 [] short (link_short source.0 d source.2) (omega arith) (omega arith)) tt)
         | false ↦ λ has h.
             let c = bound_ok (commands.start C r) _ (m, X) h in
             let answer : mounting.Session c.0.0 ≡ m = answer_by c.2 in
@@ -297,20 +339,20 @@ module _ (C : Catalog) (lawful : WellFormed C) where
       let h = answered_ok (λ _. runs.Done) (commands.delete C r d) x X is in
       let t = bound_ok (commands.tenant C r) _ (h.0, X) h.1 in
       let l = bound_ok (commands.check_link C r d) _ (h.0, X) t.2 in
-      (room kind.BlobUnlinked r d 0 [] short (link_short r d (not-false (holds C r d) (not_refused (not (holds C r d)) BlobUnknown l.0 l.1))) (omega arith) (omega arith), tt)
+      (plain (room kind.BlobUnlinked r d 0 [] short (link_short r d (not-false (holds C r d) (not_refused (not (holds C r d)) BlobUnknown l.0 l.1))) (omega arith) (omega arith)) tt)
   command_fits (runs.PutManifest r b) x X is short =
       let h = answered_ok runs.Bytes (commands.put_manifest C r b) x X is in
       let t = bound_ok (commands.tenant C r) _ (h.0, X) h.1 in
       let size = bound_ok (refuse (nat_lt max_manifest (length b)) SizeInvalid) _ (h.0, X) t.2 in
       let small = ltb-false max_manifest (length b) (not_refused (nat_lt max_manifest (length b)) SizeInvalid size.0 size.1) in
-      (room kind.ManifestPut r [] 0 b short (omega arith) (omega arith) (omega (arith, small)), tt)
+      (plain (room kind.ManifestPut r [] 0 b short (omega arith) (omega arith) (omega (arith, small))) tt)
   command_fits (runs.GetManifest r m) x X is short = tt
   command_fits (runs.DeleteManifest r m) x X is short =
       let h = answered_ok (λ _. runs.Done) (commands.delete_manifest C r m) x X is in
       let t = bound_ok (commands.tenant C r) _ (h.0, X) h.1 in
       let there = bound_ok (commands.manifest C r m) _ (h.0, X) t.2 in
-      (room kind.ManifestDeleted r m 0 [] short (manifest_short r m there.0 (some_of_ok (get C.manifests (r, m)) ManifestUnknown there.0 there.1)) (omega arith) (omega arith), tt)
-  command_fits (runs.RemoveRepo r) x X is short = (room kind.RepoRemoved r [] 0 [] short (omega arith) (omega arith) (omega arith), tt)
+      (plain (room kind.ManifestDeleted r m 0 [] short (manifest_short r m there.0 (some_of_ok (get C.manifests (r, m)) ManifestUnknown there.0 there.1)) (omega arith) (omega arith)) tt)
+  command_fits (runs.RemoveRepo r) x X is short = (plain (room kind.RepoRemoved r [] 0 [] short (omega arith) (omega arith) (omega arith)) tt)
   command_fits (runs.Lease r d) x X is short = tt
 
   -- ---- checked-out sessions

@@ -14,6 +14,8 @@ pub mod Restoring
 pub mod CutLogs
 pub mod Fitting
 pub mod Logging
+pub mod NoteLengths
+pub mod NotedRecords
 pub mod TenantNames
 pub mod SeenHistories
 pub mod Sending

@@ -13,7 +13,7 @@ use Rattle.store_model.specs.Durable.{chunk_change}
 use Rattle.store_model.specs.Histories.{CommandCall, FinishCall, PutBackCall, Step, SweepCall, TakeCall}
 use Rattle.store_model.specs.Runs.{Answer, Bytes, Command, GetManifest, Lease, Number, PutManifest, Status}
 use Rattle.locked_book.specs.Calls.{reply, step_of}
-use Rattle.locked_book.specs.Logging.{IsSmall, IsUnrecorded, bytes_if_ok, check_in_bytes, change_bytes, finish_bytes, is_change, is_changing, is_chunk, logged_by, manifest_bytes, promises, promises_changes, promises_chunks, recorded_bytes, step_bytes}
+use Rattle.locked_book.specs.Logging.{IsSmall, IsUnrecorded, bytes_if_ok, check_in_bytes, change_bytes, finish_bytes, is_noted, is_change, is_changing, is_chunk, logged_by, manifest_bytes, promises, promises_changes, promises_chunks, recorded_bytes, step_bytes}
 use Rattle.locked_book.specs.Returns.{MayReturn}
 use Rattle.locked_book.specs.declared.call.Call.{Call}
 use Rattle.locked_book.specs.declared.call.Call.TheVariants as call
@@ -45,42 +45,42 @@ promised_change policy.Each step b = ap (λ x. is_change step || x) b ∙ or-fal
 -- ---- calls
 
 -- nothing is recorded of a step, and it is not promised
-abbrev pub RecordsNothing : LogPolicy → List Tenant → Step → Type 0
-RecordsNothing p tenants step = (recorded_bytes p tenants step ≡ []) × (promises p step ≡ false)
+abbrev pub RecordsNothing : LogPolicy → Option ℕ → List Tenant → Step → Type 0
+RecordsNothing p longest tenants step = (recorded_bytes p longest tenants step ≡ []) × (promises p step ≡ false)
 
-nothing : (p : LogPolicy) (tenants : List Tenant) (step : Step) → step_bytes tenants step ≡ [] → is_change step ≡ false → is_chunk step ≡ false → RecordsNothing p tenants step
-nothing p tenants step bytes change chunk = (ap (logged_by p) bytes ∙ logged_by-nil p, unpromised p step change chunk)
+nothing : (p : LogPolicy) (longest : Option ℕ) (tenants : List Tenant) (step : Step) → step_bytes longest tenants step ≡ [] → is_change step ≡ false → is_chunk step ≡ false → RecordsNothing p longest tenants step
+nothing p longest tenants step bytes change chunk = (ap (logged_by p) bytes ∙ logged_by-nil p, unpromised p step change chunk)
 
 -- a command that only reads
-reads : {A : Type 0} (p : LogPolicy) (tenants : List Tenant) (command : Command) (f : A → Answer) (result : Result A Refusal) →
-    ((a : A) → step_bytes tenants (CommandCall command (Ok (f a))) ≡ []) → is_changing command ≡ false → RecordsNothing p tenants (CommandCall command (reply f result))
-reads p tenants command f (Ok a) bytes changing = nothing p tenants (CommandCall command (Ok (f a))) (bytes a) changing refl
-reads p tenants command f (Err e) bytes changing = nothing p tenants (CommandCall command (Err e)) refl refl refl
+reads : {A : Type 0} (p : LogPolicy) (longest : Option ℕ) (tenants : List Tenant) (command : Command) (f : A → Answer) (result : Result A Refusal) →
+    ((a : A) → step_bytes longest tenants (CommandCall command (Ok (f a))) ≡ []) → is_changing command ≡ false → RecordsNothing p longest tenants (CommandCall command (reply f result))
+reads p longest tenants command f (Ok a) bytes changing = nothing p longest tenants (CommandCall command (Ok (f a))) (bytes a) changing refl
+reads p longest tenants command f (Err e) bytes changing = nothing p longest tenants (CommandCall command (Err e)) refl refl refl
 
-taken : (p : LogPolicy) (tenants : List Tenant) (repo : Text) (number : ℕ) (range : Option ByteRange) (len : ℕ) (result : Result HandRecord Refusal) → RecordsNothing p tenants (TakeCall repo number range len result)
-taken p tenants repo number range len result = nothing p tenants (TakeCall repo number range len result) refl refl refl
+taken : (p : LogPolicy) (longest : Option ℕ) (tenants : List Tenant) (repo : Text) (number : ℕ) (range : Option ByteRange) (len : ℕ) (result : Result HandRecord Refusal) → RecordsNothing p longest tenants (TakeCall repo number range len result)
+taken p longest tenants repo number range len result = nothing p longest tenants (TakeCall repo number range len result) refl refl refl
 
-unfilled : (p : LogPolicy) (tenants : List Tenant) (hand : HandRecord) (result : Result ℕ Refusal) → hand.last ≡ None → RecordsNothing p tenants (PutBackCall hand result)
-unfilled p tenants hand (Ok n) none = nothing p tenants (PutBackCall hand (Ok n))
-    (ap (λ (last : Option Text). change_bytes tenants (chunk_change hand.key (option_map_or (λ b. b) last []))) none) refl (ap (λ (last : Option Text). is_some last) none)
-unfilled p tenants hand (Err e) none = nothing p tenants (PutBackCall hand (Err e)) refl refl refl
+unfilled : (p : LogPolicy) (longest : Option ℕ) (tenants : List Tenant) (hand : HandRecord) (result : Result ℕ Refusal) → hand.last ≡ None → RecordsNothing p longest tenants (PutBackCall hand result)
+unfilled p longest tenants hand (Ok n) none = nothing p longest tenants (PutBackCall hand (Ok n))
+    (ap (λ (last : Option Text). change_bytes tenants (is_noted longest (PutBackCall hand (Ok n))) (chunk_change hand.key (option_map_or (λ b. b) last []))) none) refl (ap (λ (last : Option Text). is_some last) none)
+unfilled p longest tenants hand (Err e) none = nothing p longest tenants (PutBackCall hand (Err e)) refl refl refl
 
-pub unrecorded : (p : LogPolicy) (tenants : List Tenant) (c : Call) → IsUnrecorded c → RecordsNothing p tenants (step_of c)
-unrecorded p tenants (call.Start repo result) u = absurd u
-unrecorded p tenants (call.Status repo number result) u = reads p tenants (Status repo.now number) Number result.now (λ a. refl) refl
-unrecorded p tenants (call.Take repo number range len result) u = taken p tenants repo.now number range len result.now
-unrecorded p tenants (call.PutBack hand result) u = unfilled p tenants hand.now.value result.now u
-unrecorded p tenants (call.Finish hand digest result) u = absurd u
-unrecorded p tenants (call.Abandon repo number result) u = absurd u
-unrecorded p tenants (call.Mount repo digest from result) u = absurd u
-unrecorded p tenants (call.Delete repo digest result) u = absurd u
-unrecorded p tenants (call.PutManifest repo manifest result) u = absurd u
-unrecorded p tenants (call.RefuseManifest repo bytes e) u = nothing p tenants (CommandCall (PutManifest repo.now bytes.now) (Err e.now)) refl refl refl
-unrecorded p tenants (call.GetManifest repo digest result) u = reads p tenants (GetManifest repo.now digest.now) (λ m. Bytes (arc_value m)) result.now (λ a. refl) refl
-unrecorded p tenants (call.DeleteManifest repo digest result) u = absurd u
-unrecorded p tenants (call.RemoveRepo repo result) u = absurd u
-unrecorded p tenants (call.Lease repo digest result) u = reads p tenants (Lease repo.now digest.now) (λ r. Bytes (blob_bytes (arc_value r.1))) result.now (λ a. refl) refl
-unrecorded p tenants (call.Sweep swept) u = nothing p tenants (SweepCall swept.now) refl refl refl
+pub unrecorded : (p : LogPolicy) (longest : Option ℕ) (tenants : List Tenant) (c : Call) → IsUnrecorded c → RecordsNothing p longest tenants (step_of c)
+unrecorded p longest tenants (call.Start repo result) u = absurd u
+unrecorded p longest tenants (call.Status repo number result) u = reads p longest tenants (Status repo.now number) Number result.now (λ a. refl) refl
+unrecorded p longest tenants (call.Take repo number range len result) u = taken p longest tenants repo.now number range len result.now
+unrecorded p longest tenants (call.PutBack hand result) u = unfilled p longest tenants hand.now.value result.now u
+unrecorded p longest tenants (call.Finish hand digest result) u = absurd u
+unrecorded p longest tenants (call.Abandon repo number result) u = absurd u
+unrecorded p longest tenants (call.Mount repo digest from result) u = absurd u
+unrecorded p longest tenants (call.Delete repo digest result) u = absurd u
+unrecorded p longest tenants (call.PutManifest repo manifest result) u = absurd u
+unrecorded p longest tenants (call.RefuseManifest repo bytes e) u = nothing p longest tenants (CommandCall (PutManifest repo.now bytes.now) (Err e.now)) refl refl refl
+unrecorded p longest tenants (call.GetManifest repo digest result) u = reads p longest tenants (GetManifest repo.now digest.now) (λ m. Bytes (arc_value m)) result.now (λ a. refl) refl
+unrecorded p longest tenants (call.DeleteManifest repo digest result) u = absurd u
+unrecorded p longest tenants (call.RemoveRepo repo result) u = absurd u
+unrecorded p longest tenants (call.Lease repo digest result) u = reads p longest tenants (Lease repo.now digest.now) (λ r. Bytes (blob_bytes (arc_value r.1))) result.now (λ a. refl) refl
+unrecorded p longest tenants (call.Sweep swept) u = nothing p longest tenants (SweepCall swept.now) refl refl refl
 
 -- a call without a body returns no hand, and adds no chunk
 pub small : (c : Call) → IsSmall c → (own : List Step) → MayReturn own (step_of c) × (is_chunk (step_of c) ≡ false)
@@ -102,9 +102,9 @@ small (call.Sweep swept) s own = (tt, refl)
 
 -- ---- records that are made before their steps
 
-pub check_in_record : (p : LogPolicy) (tenants : List Tenant) (hand : HandRecord) (result : Result ℕ Refusal) → bytes_if_ok result (check_in_bytes p tenants hand) ≡ recorded_bytes p tenants (PutBackCall hand result)
-check_in_record p tenants hand (Ok n) = refl
-check_in_record p tenants hand (Err e) = sym (logged_by-nil p)
+pub check_in_record : (p : LogPolicy) (longest : Option ℕ) (tenants : List Tenant) (hand : HandRecord) (result : Result ℕ Refusal) → bytes_if_ok result (check_in_bytes p longest tenants hand) ≡ recorded_bytes p longest tenants (PutBackCall hand result)
+check_in_record p longest tenants hand (Ok n) = refl
+check_in_record p longest tenants hand (Err e) = sym (logged_by-nil p)
 
 pub check_in_promise : (p : LogPolicy) (hand : HandRecord) (result : Result ℕ Refusal) → hand.last ≢ None → (promises_chunks p && is_ok result) ≡ promises p (PutBackCall hand result)
 check_in_promise p hand result filled = promised p hand.last result filled
@@ -120,18 +120,18 @@ check_in_promise p hand result filled = promised p hand.last result filled
     promised policy.Closes (Some b) (Err e) filled = refl
     promised policy.Each (Some b) (Err e) filled = refl
 
-pub finish_record : (p : LogPolicy) (tenants : List Tenant) (hand : HandRecord) (digest : Text) (result : Result ℕ Refusal) → bytes_if_ok result (finish_bytes p tenants hand digest) ≡ recorded_bytes p tenants (FinishCall hand digest result)
-finish_record p tenants hand digest (Ok n) = refl
-finish_record p tenants hand digest (Err e) = sym (logged_by-nil p)
+pub finish_record : (p : LogPolicy) (longest : Option ℕ) (tenants : List Tenant) (hand : HandRecord) (digest : Text) (result : Result ℕ Refusal) → bytes_if_ok result (finish_bytes p longest tenants hand digest) ≡ recorded_bytes p longest tenants (FinishCall hand digest result)
+finish_record p longest tenants hand digest (Ok n) = refl
+finish_record p longest tenants hand digest (Err e) = sym (logged_by-nil p)
 
 pub finish_promise : (p : LogPolicy) (hand : HandRecord) (digest : Text) (result : Result ℕ Refusal) → (promises_changes p && is_ok result) ≡ promises p (FinishCall hand digest result)
 finish_promise p hand digest (Ok n) = sym (promised_change p (FinishCall hand digest (Ok n)) refl)
 finish_promise p hand digest (Err e) = sym (promised_change p (FinishCall hand digest (Err e)) refl)
 
-pub manifest_record : {A : Type 0} (p : LogPolicy) (tenants : List Tenant) (repo bytes : Text) (f : A → Answer) (result : Result A Refusal) →
-    bytes_if_ok result (manifest_bytes p repo bytes) ≡ recorded_bytes p tenants (CommandCall (PutManifest repo bytes) (reply f result))
-manifest_record p tenants repo bytes f (Ok a) = refl
-manifest_record p tenants repo bytes f (Err e) = sym (logged_by-nil p)
+pub manifest_record : {A : Type 0} (p : LogPolicy) (longest : Option ℕ) (tenants : List Tenant) (repo bytes : Text) (f : A → Answer) (result : Result A Refusal) →
+    bytes_if_ok result (manifest_bytes p repo bytes) ≡ recorded_bytes p longest tenants (CommandCall (PutManifest repo bytes) (reply f result))
+manifest_record p longest tenants repo bytes f (Ok a) = refl
+manifest_record p longest tenants repo bytes f (Err e) = sym (logged_by-nil p)
 
 pub manifest_promise : {A : Type 0} (p : LogPolicy) (repo bytes : Text) (f : A → Answer) (result : Result A Refusal) → (promises_changes p && is_ok result) ≡ promises p (CommandCall (PutManifest repo bytes) (reply f result))
 manifest_promise p repo bytes f (Ok a) = sym (promised_change p (CommandCall (PutManifest repo bytes) (Ok (f a))) refl)

@@ -1,13 +1,14 @@
 -- What the log records of a step, and which steps it promises to be durable.
-use Rattle.std.specs.Prelude.{◌≡◌, ℕ, ◌||◌, ◌&&◌, Bool, true, false, List, [], ◌∷◌, Option, None, Result, Ok, Err, is_some, get_or}
-use Rattle.std.specs.Option.{option_map_or}
+use Rattle.std.specs.Prelude.{◌≡◌, ℕ, ◌+◌, ◌||◌, ◌&&◌, nat_lt, Bool, true, false, List, [], ◌∷◌, Option, None, Some, Result, Ok, Err, is_some, get_or, length, sum_by}
+use Rattle.std.specs.Option.{option_map, option_map_or}
+use Rattle.content_files.specs.Chunks.{chunk_notes}
 use Rattle.blob_digest.specs.Names.{tenant_name}
 use Rattle.blob_digest.specs.declared.refusal.Refusal.{Refusal}
 use Rattle.log_records.specs.Changes as logged
 use Rattle.log_records.specs.Records.{record_bytes}
 use Rattle.spec_lib.specs.Texts.{Text}
 use Rattle.store_model.specs.Catalog.{HandRecord, Tenant}
-use Rattle.store_model.specs.Durable.{BlobLinked, BlobStored, BlobUnlinked, Change, ChunkReceived, ManifestDeleted, ManifestPut, NumberSet, RepoAdded, RepoRemoved, SessionDropped, SessionOpened, SessionSealed, change_of, session_key}
+use Rattle.store_model.specs.Durable.{BlobLinked, BlobStored, BlobUnlinked, Change, ChunkReceived, ManifestDeleted, ManifestPut, NumberSet, RepoAdded, RepoRemoved, SessionDropped, SessionOpened, SessionSealed, change_of, filled_chunk, session_key}
 use Rattle.store_model.specs.Histories.{CommandCall, FinishCall, PutBackCall, Step}
 use Rattle.store_model.specs.Runs.{Abandon, Append, Close, Command, Delete, DeleteManifest, Mount as MountCommand, PutManifest, RemoveRepo, Start}
 use Rattle.store_model.specs.declared.mount.Mount.{Mount}
@@ -28,28 +29,61 @@ tenant_at tenants t = get_or tenants t (no_tenant)
 abbrev pub name_at : List Tenant → ℕ → Text
 name_at tenants t = (tenant_at tenants t).name
 
--- a change as the log describes it: with the tenant's name in place of its position
-abbrev pub logged_change : List Tenant → Change → logged.Change
-logged_change tenants (SessionOpened repo key) = logged.SessionOpened repo key.1
-logged_change tenants (ChunkReceived key bytes) = logged.ChunkReceived (name_at tenants key.0) key.1 bytes
-logged_change tenants (SessionSealed key digest last) = logged.SessionSealed (name_at tenants key.0) key.1 digest last
-logged_change tenants (SessionDropped key) = logged.SessionDropped (name_at tenants key.0) key.1
-logged_change tenants (BlobLinked repo digest) = logged.BlobLinked repo digest
-logged_change tenants (BlobUnlinked repo digest) = logged.BlobUnlinked repo digest
-logged_change tenants (ManifestPut repo bytes) = logged.ManifestPut repo bytes
-logged_change tenants (ManifestDeleted repo digest) = logged.ManifestDeleted repo digest
-logged_change tenants (RepoRemoved repo) = logged.RepoRemoved repo
-logged_change tenants (RepoAdded repo) = logged.RepoAdded repo
-logged_change tenants (NumberSet t n) = logged.NumberSet (name_at tenants t) n
-logged_change tenants (BlobStored digest bytes) = logged.BlobStored digest bytes
+-- a chunk as the log describes it: with its bytes or, if it is noted, with the notes of its pieces
+abbrev pub logged_chunk : Bool → Text → ℕ → Text → logged.Change
+logged_chunk false tenant number bytes = logged.ChunkReceived tenant number bytes
+logged_chunk true tenant number bytes = logged.ChunkNoted tenant number (chunk_notes bytes)
+
+-- a close as the log describes it: with the bytes of the last chunk or, if it is noted, with the notes of its pieces
+abbrev pub logged_seal : Bool → Text → ℕ → Text → Text → logged.Change
+logged_seal false tenant number digest last = logged.SessionSealed tenant number digest last
+logged_seal true tenant number digest last = logged.SealNoted tenant number digest (chunk_notes last)
+
+-- a change as the log describes it: with the tenant's name in place of its position, and with bytes or notes
+abbrev pub logged_change : List Tenant → Bool → Change → logged.Change
+logged_change tenants noted (SessionOpened repo key) = logged.SessionOpened repo key.1
+logged_change tenants noted (ChunkReceived key bytes) = logged_chunk noted (name_at tenants key.0) key.1 bytes
+logged_change tenants noted (SessionSealed key digest last) = logged_seal noted (name_at tenants key.0) key.1 digest last
+logged_change tenants noted (SessionDropped key) = logged.SessionDropped (name_at tenants key.0) key.1
+logged_change tenants noted (BlobLinked repo digest) = logged.BlobLinked repo digest
+logged_change tenants noted (BlobUnlinked repo digest) = logged.BlobUnlinked repo digest
+logged_change tenants noted (ManifestPut repo bytes) = logged.ManifestPut repo bytes
+logged_change tenants noted (ManifestDeleted repo digest) = logged.ManifestDeleted repo digest
+logged_change tenants noted (RepoRemoved repo) = logged.RepoRemoved repo
+logged_change tenants noted (RepoAdded repo) = logged.RepoAdded repo
+logged_change tenants noted (NumberSet t n) = logged.NumberSet (name_at tenants t) n
+logged_change tenants noted (BlobStored digest bytes) = logged.BlobStored digest bytes
+
+-- the length of a hand's session with its new chunk
+abbrev pub hand_length : HandRecord → ℕ
+hand_length h = sum_by length h.chunks + length (filled_chunk h)
+
+-- the length of the session that a step gives a chunk or closes
+abbrev pub length_after : Step → ℕ
+length_after (PutBackCall h result) = hand_length h
+length_after (FinishCall h digest result) = hand_length h
+length_after step = 0
+
+-- whether a content of this length lies in a file; without a longest one, all contents are in memory
+abbrev pub is_beyond : Option ℕ → ℕ → Bool
+is_beyond None len = false
+is_beyond (Some longest) len = nat_lt longest len
+
+-- whether the log has the notes of a step's chunk in place of its bytes
+abbrev pub is_noted : Option ℕ → Step → Bool
+is_noted longest step = is_beyond longest (length_after step)
+
+-- a step's change as the log describes it, or none if the step changes nothing durable
+abbrev pub logged_step : Option ℕ → List Tenant → Step → Option logged.Change
+logged_step longest tenants step = option_map (logged_change tenants (is_noted longest step)) (change_of tenants step)
 
 -- the record of a change, or nothing if there is no change
-abbrev pub change_bytes : List Tenant → Option Change → List ℕ
-change_bytes tenants change = option_map_or (λ c. record_bytes (logged_change tenants c)) change []
+abbrev pub change_bytes : List Tenant → Bool → Option Change → List ℕ
+change_bytes tenants noted change = option_map_or (λ c. record_bytes (logged_change tenants noted c)) change []
 
 -- the record of a step's change, or nothing if the step changes nothing durable
-abbrev pub step_bytes : List Tenant → Step → List ℕ
-step_bytes tenants step = change_bytes tenants (change_of tenants step)
+abbrev pub step_bytes : Option ℕ → List Tenant → Step → List ℕ
+step_bytes longest tenants step = change_bytes tenants (is_noted longest step) (change_of tenants step)
 
 -- what the log of a store with this policy gets of these bytes: a store without a log has no records
 abbrev pub logged_by : LogPolicy → List ℕ → List ℕ
@@ -57,8 +91,8 @@ logged_by policy.NoLog bytes = []
 logged_by p bytes = bytes
 
 -- what the log of a store with this policy records of a step
-abbrev pub recorded_bytes : LogPolicy → List Tenant → Step → List ℕ
-recorded_bytes p tenants step = logged_by p (step_bytes tenants step)
+abbrev pub recorded_bytes : LogPolicy → Option ℕ → List Tenant → Step → List ℕ
+recorded_bytes p longest tenants step = logged_by p (step_bytes longest tenants step)
 
 -- ---- promises
 
@@ -109,17 +143,17 @@ promises p step = (promises_changes p && is_change step) || (promises_chunks p &
 -- ---- the records that are made before their steps
 
 -- the record of a chunk, or nothing if the chunk is empty
-abbrev pub chunk_record_bytes : Text → ℕ → Text → List ℕ
-chunk_record_bytes tenant number [] = []
-chunk_record_bytes tenant number (b ∷ bytes) = record_bytes (logged.ChunkReceived tenant number (b ∷ bytes))
+abbrev pub chunk_record_bytes : Bool → Text → ℕ → Text → List ℕ
+chunk_record_bytes noted tenant number [] = []
+chunk_record_bytes noted tenant number (b ∷ bytes) = record_bytes (logged_chunk noted tenant number (b ∷ bytes))
 
 -- what the log records of a chunk of a tenant's session
-abbrev pub chunk_bytes : LogPolicy → Text → ℕ → Text → List ℕ
-chunk_bytes p tenant number bytes = logged_by p (chunk_record_bytes tenant number bytes)
+abbrev pub chunk_bytes : LogPolicy → Bool → Text → ℕ → Text → List ℕ
+chunk_bytes p noted tenant number bytes = logged_by p (chunk_record_bytes noted tenant number bytes)
 
 -- what the log records of the close of a tenant's session with a last chunk
-abbrev pub seal_bytes : LogPolicy → Text → ℕ → Text → Text → List ℕ
-seal_bytes p tenant number digest last = logged_by p (record_bytes (logged.SessionSealed tenant number digest last))
+abbrev pub seal_bytes : LogPolicy → Bool → Text → ℕ → Text → Text → List ℕ
+seal_bytes p noted tenant number digest last = logged_by p (record_bytes (logged_seal noted tenant number digest last))
 
 -- the record of a mount: of the link, or of the session that it opened
 abbrev pub mount_bytes : Text → Text → Mount → List ℕ
@@ -131,12 +165,12 @@ abbrev pub manifest_bytes : LogPolicy → Text → Text → List ℕ
 manifest_bytes p repo bytes = logged_by p (record_bytes (logged.ManifestPut repo bytes))
 
 -- what the log records of a check-in that succeeds
-abbrev pub check_in_bytes : LogPolicy → List Tenant → HandRecord → List ℕ
-check_in_bytes p tenants hand = recorded_bytes p tenants (PutBackCall hand (Ok 0))
+abbrev pub check_in_bytes : LogPolicy → Option ℕ → List Tenant → HandRecord → List ℕ
+check_in_bytes p longest tenants hand = recorded_bytes p longest tenants (PutBackCall hand (Ok 0))
 
 -- what the log records of a finish that succeeds
-abbrev pub finish_bytes : LogPolicy → List Tenant → HandRecord → Text → List ℕ
-finish_bytes p tenants hand digest = recorded_bytes p tenants (FinishCall hand digest (Ok 0))
+abbrev pub finish_bytes : LogPolicy → Option ℕ → List Tenant → HandRecord → Text → List ℕ
+finish_bytes p longest tenants hand digest = recorded_bytes p longest tenants (FinishCall hand digest (Ok 0))
 
 -- these bytes if a call succeeded, or none
 abbrev pub bytes_if_ok : {A : Type 0} → Result A Refusal → List ℕ → List ℕ

@@ -1,5 +1,5 @@
 -- The names of a store, which its type parameter carries.
-use Rattle.std.specs.Prelude.{◌≡◌, ℕ, List, [], length}
+use Rattle.std.specs.Prelude.{◌≡◌, ℕ, List, [], Option, None, length}
 use Rattle.atomic_table.specs.Seated.{TableId}
 use Rattle.durable_log.specs.Names as durable
 use Rattle.locked_book.specs.Totals.{ledger_parts}
@@ -32,7 +32,8 @@ pub record LedgerName : Type 0 where
   pub name : ℕ
   pub parts : ℕ
 
--- a store: the table of its pins, its number of slots, its setting, its ledgers, its log with the policy of it, and its opening catalog
+-- a store: the table of its pins, its number of slots, its setting, its ledgers, its log with the policy of it and the length of the longest content
+-- whose bytes the log has (without one, it has all), and its opening catalog
 pub record StoreNames : Type 0 where
   pub table : TableId
   pub slots : ℕ
@@ -43,6 +44,7 @@ pub record StoreNames : Type 0 where
   pub abandoned : LedgerName
   pub log : durable.Names
   pub policy : LogPolicy
+  pub longest : Option ℕ
   pub opening : Catalog
 
 -- the book has the table, the slots and the setting of the store
@@ -74,5 +76,6 @@ no_names = record {
   abandoned = record { name = 0; parts = 0 };
   log = durable.no_names;
   policy = policy.NoLog;
+  longest = None;
   opening = opening [] 0 (in_memory 0);
 }

@@ -1,5 +1,5 @@
 -- What the log of a store restores.
-use Rattle.std.specs.Prelude.{◌≡◌, ◌++◌, ℕ, true, List, map}
+use Rattle.std.specs.Prelude.{◌≡◌, ◌++◌, ℕ, true, List, Option, filter_map}
 use Rattle.std.specs.FinMap as fmap
 use Rattle.ghost_log.specs.declared.view.Entry.{Entry}
 use Rattle.ghost_log.specs.Entries.{IsPrefix}
@@ -8,20 +8,20 @@ use Rattle.durable_log.specs.Views.{DeviceView}
 use Rattle.log_records.specs.Changes as logged
 use Rattle.log_records.specs.Records.{records_bytes}
 use Rattle.store_model.specs.Catalog.{Tenant}
-use Rattle.store_model.specs.Durable.{Agrees, AgreesAfter, AreReturnedAsTaken, DurableState, changes_of, initial_durable}
+use Rattle.store_model.specs.Durable.{Agrees, AgreesAfter, AreReturnedAsTaken, DurableState, initial_durable}
 use Rattle.store_model.specs.Histories.{IsLegal, State, Step}
 use Rattle.locked_book.specs.History.{DeskView, LogLeadsTo, SeesAll, steps_of}
-use Rattle.locked_book.specs.Logging.{has_log, logged_change, recorded_bytes}
+use Rattle.locked_book.specs.Logging.{has_log, logged_step, recorded_bytes}
 use Rattle.locked_book.specs.Names.{OpensNew, StoreNames}
 use Rattle.locked_book.specs.Returns.{AreWellFormed}
 
 -- the records of a history, in order
 abbrev pub records_of : StoreNames → List (Entry Step) → List ℕ
-records_of names history = encode (recorded_bytes names.policy names.setting.tenants) history
+records_of names history = encode (recorded_bytes names.policy names.longest names.setting.tenants) history
 
 -- the changes of steps, as the log describes them
-abbrev pub logged_changes : List Tenant → List Step → List logged.Change
-logged_changes tenants steps = map (logged_change tenants) (changes_of tenants steps)
+abbrev pub logged_changes : Option ℕ → List Tenant → List Step → List logged.Change
+logged_changes longest tenants steps = filter_map (logged_step longest tenants) steps
 
 -- the durable state of a store before its first step
 abbrev pub opening_state : StoreNames → DurableState
@@ -32,7 +32,7 @@ opening_state names = initial_durable names.setting.tenants
 -- store survives crashes (`StoresSurviveCrashes`).
 pub record IsRestorable (names : StoreNames) (history : List (Entry Step)) (s : State) : Type 0 where
   pub leads : LogLeadsTo names.opening history s
-  pub records : has_log names.policy ≡ true → records_of names history ≡ records_bytes (logged_changes names.setting.tenants (steps_of history))
+  pub records : has_log names.policy ≡ true → records_of names history ≡ records_bytes (logged_changes names.longest names.setting.tenants (steps_of history))
   pub agrees : AgreesAfter fmap.empty (opening_state names) (steps_of history) s.catalog
   pub opens : OpensNew names
   pub opening : Agrees fmap.empty (opening_state names) names.opening

@@ -1,13 +1,14 @@
 //! The number of checked-out sessions, and the bytes reserved for them.
 
-ghost use Rattle.std.specs.Prelude.{◌≡◌, ◌≢◌, ◌+◌, None, IfOk, length, sum_by, not};
+ghost use Rattle.std.specs.Prelude.{◌≡◌, ◌≢◌, ◌+◌, None, IfOk, OnOk, length, sum_by, not, true};
 ghost use Rattle.spec_lib.specs.Outcomes.{refuse};
 ghost use Rattle.blob_digest.specs.declared.refusal.Refusal.TheVariants.{LimitReached};
 ghost use Rattle.store_model.specs.Amounts.{add_amounts};
 ghost use Rattle.store_model.specs.Hands.{filled_length};
 ghost use Rattle.store_model.specs.Histories.{FinishCall, PutBackCall, step_amounts};
 ghost use Rattle.store_model.specs.Invariant.{Sound};
-ghost use Rattle.store_model.specs.Sessions.{HasNoOpenReserve};
+ghost use Rattle.content_files.specs.Notes.{is_read};
+ghost use Rattle.store_model.specs.Sessions.{HasNoOpenReserve, hand_content};
 ghost use Rattle.locked_book.specs.Counting.{IsKeptState, has_room};
 ghost use Rattle.locked_book.specs.Performing.{ChecksIn, ChecksInUnchanged, ChecksOut, Finishes};
 ghost use Rattle.locked_book.specs.Results.{EndsWithRange};
@@ -18,7 +19,7 @@ use crate::tally::Tally;
 use blob_digest::{ByteRange, Digest, Refusal, RepoName};
 use pin_table::Pins;
 use store_book::Book;
-use upload_table::Hand;
+use upload_table::{Hand, Sealing};
 
 /// The number of checked-out sessions, and the bytes reserved for them.
 ///
@@ -124,6 +125,7 @@ pub fn close<S: Naming>(
     desk: &mut Tally<S>,
     hand: Hand,
     digest: &Digest,
+    sealing: Sealing,
 ) -> Result<u64, Refusal>
     requires kept { IsKeptState S.names book.old counters.old out.old.hands out.old.reserve }
     requires table { pins.now ≡ S.names.table }
@@ -131,11 +133,12 @@ pub fn close<S: Naming>(
     ensures kept { IsKeptState S.names book.new counters.new out.new.hands out.new.reserve }
     ensures does { Finishes hand digest.now result
         (record { book = book.old; counts = counters.old }) (record { book = book.new; counts = counters.new }) }
+    ensures read { OnOk result (sealing ≡ Sealing.ByHash → is_read (hand_content hand) ≡ true) }
     ensures amounts { desk.new ≡ add_amounts desk.old (step_amounts (FinishCall hand digest.now result)) }
     ensures length { IfOk result (λ n. n ≡ sum_by length hand.chunks + filled_length hand) }
 {
     let reserved = hand.reserved();
-    match book.finish(pins, hand, digest) {
+    match book.finish(pins, hand, digest, sealing) {
         Ok(size) => {
             out.hands -= 1;
             out.reserve -= reserved;

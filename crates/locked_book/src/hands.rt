@@ -1,10 +1,11 @@
 //! Sessions that are checked out of the book.
 
-ghost use Rattle.std.specs.Prelude.{◌≡◌, ◌≢◌, ◌+◌, None, IfOk, length, sum_by};
+ghost use Rattle.std.specs.Prelude.{◌≡◌, ◌≢◌, ◌+◌, None, IfOk, OnOk, length, sum_by, true};
 ghost use Rattle.store_model.specs.Hands.{filled_length};
 ghost use Rattle.store_model.specs.Histories.{PutBackCall, FinishCall};
 ghost use Rattle.store_model.specs.Lanes.{IsHeld};
-ghost use Rattle.store_model.specs.Sessions.{HasNoOpenReserve};
+ghost use Rattle.content_files.specs.Notes.{is_read};
+ghost use Rattle.store_model.specs.Sessions.{HasNoOpenReserve, hand_content};
 ghost use Rattle.locked_book.specs.History.{Makes, MakesCheckOut};
 ghost use Rattle.locked_book.specs.Logging.{IsHandOf, check_in_bytes, finish_bytes};
 ghost use Rattle.locked_book.specs.Performing.{ChecksIn, ChecksInUnchanged, ChecksOut, Finishes};
@@ -19,7 +20,7 @@ use crate::names::Naming;
 use blob_digest::{ByteRange, Digest, Refusal, RepoName};
 use pin_table::Pins;
 use std::snapshot::Snapshot;
-use upload_table::Hand;
+use upload_table::{Hand, Sealing};
 
 impl<S: Naming> Kept<S> {
     /// Checks a session out with `Book::take`, and reserves `len` bytes. The command is counted at check-in.
@@ -64,7 +65,7 @@ impl<S: Naming> Kept<S> {
         hand: Hand,
         bytes: Vec<u8>,
     ) -> Result<u64, Refusal>
-        requires bytes { bytes.items ≡ check_in_bytes S.names.policy S.names.setting.tenants hand }
+        requires bytes { bytes.items ≡ check_in_bytes S.names.policy S.names.longest S.names.setting.tenants hand }
         requires filled { hand.last ≢ None }
         requires held { IsHeld hand desk.old.trace.own }
         ensures does { ChecksIn hand result self.old self.new }
@@ -107,7 +108,8 @@ impl<S: Naming> Kept<S> {
 
     /// Closes a checked-out session with `Book::finish`, and counts the command.
     ///
-    /// The bytes of the last chunk are counted as received, and all bytes of the session as closed.
+    /// The bytes of the last chunk are counted as received, and all bytes of the session as closed. With contents in files, a
+    /// content that was not read since the start may be closed by its note.
     ///
     /// # Errors
     ///
@@ -118,13 +120,15 @@ impl<S: Naming> Kept<S> {
         desk: &mut Desk<S>,
         hand: Hand,
         digest: &Digest,
+        sealing: Sealing,
         bytes: Vec<u8>,
     ) -> Result<u64, Refusal>
-        requires bytes { bytes.items ≡ finish_bytes S.names.policy S.names.setting.tenants hand digest.now }
+        requires bytes { bytes.items ≡ finish_bytes S.names.policy S.names.longest S.names.setting.tenants hand digest.now }
         requires table { pins.now ≡ S.names.table }
         requires full { HasNoOpenReserve hand }
         requires held { IsHeld hand desk.old.trace.own }
         ensures does { Finishes hand digest.now result self.old self.new }
+        ensures read { OnOk result (sealing ≡ Sealing.ByHash → is_read (hand_content hand) ≡ true) }
         ensures length { IfOk result (λ n. n ≡ sum_by length hand.chunks + filled_length hand) }
         ensures makes { Makes S.names.opening (FinishCall hand digest.now result)
             desk.old desk.new }
@@ -139,6 +143,7 @@ impl<S: Naming> Kept<S> {
             &mut desk.tally,
             hand,
             digest,
+            sealing,
         );
         let promised = self.history.policy().promises_changes() && result.is_ok();
         let bytes = kept_if_ok(bytes, &result);

@@ -350,7 +350,7 @@ impl<S: Naming> History<S> {
         writer: &mut HistoryWriter<S>,
     )
         requires legal { IsLegal S.names.opening (steps_of self.old) }
-        requires synced { IsSynced (recorded_bytes S.names.policy S.names.setting.tenants) S.names.log.base device.old }
+        requires synced { IsSynced (recorded_bytes S.names.policy S.names.longest S.names.setting.tenants) S.names.log.base device.old }
         requires seen { writer.old.seen ≡ device.old.taken }
         ensures same { self.new ≡ self.old }
         ensures device { device.new ≡ device.old }

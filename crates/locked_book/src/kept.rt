@@ -23,7 +23,7 @@ use durable_log::Backlog;
 use std::alloc::Global;
 use std::io::{self, Write};
 use std::marker::Model;
-use store_book::Book;
+use store_book::{Book, Freed};
 
 /// The book of a store with the totals of its commands and its history.
 ///
@@ -114,6 +114,13 @@ impl<S: Naming> Kept<S> {
     {
         self.reveal_invariant();
         &self.book
+    }
+
+    /// Returns what was freed since the last call and may lie in files, with `Book::take_freed`. No step is made.
+    pub fn take_freed(&mut self) -> Freed
+        ensures { self.new ≡ self.old }
+    {
+        self.book.take_freed()
     }
 
     /// Fails with `LimitReached` if one more command with these bytes can't be counted.

@@ -45,7 +45,9 @@ pub use history::{History, HistoryWriter};
 pub use kept::Kept;
 pub use names::{Naming, StoreLog, StorePins};
 pub use policy::LogPolicy;
-pub use record::{chunk_record, manifest_record, seal_record};
+pub use record::{
+    chunk_record, manifest_record, noted_chunk_record, noted_seal_record, seal_record,
+};
 pub use step::Step;
 pub use tally::Tally;
 pub use totals::Totals;

@@ -1,6 +1,7 @@
 //! The records of calls.
 
-ghost use Rattle.std.specs.Prelude.{◌≡◌, ◌++◌, ◌≤◌, ◌^◌, IfErr, IfOk, OnOk, [], length, string_bytes};
+ghost use Rattle.std.specs.Prelude.{◌≡◌, ◌++◌, ◌≤◌, ◌^◌, IfErr, IfOk, IfSome, OnOk, [], is_some, length, string_bytes};
+ghost use Rattle.content_files.specs.Chunks.{chunk_notes};
 ghost use Rattle.blob_digest.specs.Digests.{IsDigestText};
 ghost use Rattle.blob_digest.specs.Names.{tenant_name};
 ghost use Rattle.blob_digest.specs.declared.refusal.Refusal.TheVariants.{Memory};
@@ -8,8 +9,8 @@ ghost use Rattle.log_records.specs.Changes as logged;
 ghost use Rattle.log_records.specs.Changes.{IsChange, change_view, max_body};
 ghost use Rattle.log_records.specs.Records.{record_bytes};
 ghost use Rattle.locked_book.specs.Calls.{step_of};
-ghost use Rattle.locked_book.specs.Logging.{IsSmall, NamesTenant, chunk_bytes, manifest_bytes, mount_bytes, seal_bytes, step_bytes};
-ghost use Rattle.locked_book.specs.Recording.{IsRecordOf};
+ghost use Rattle.locked_book.specs.Logging.{IsSmall, NamesTenant, chunk_bytes, logged_chunk, logged_seal, manifest_bytes, mount_bytes, seal_bytes, step_bytes};
+ghost use Rattle.locked_book.specs.Recording.{IsRecordOf, RecordsNotedChunk, RecordsNotedSeal};
 
 use crate::call::Call;
 use crate::names::{Naming, StoreLog};
@@ -159,7 +160,7 @@ pub fn append_call<S: Naming>(
 ) -> Result<(), Refusal>
     requires small { IsSmall call.now }
     requires tenant { NamesTenant S.names.setting.tenants (step_of call.now) }
-    ensures ok { OnOk result (out.new.items ≡ out.old.items ++ step_bytes S.names.setting.tenants (step_of call.now)) }
+    ensures ok { OnOk result (out.new.items ≡ out.old.items ++ step_bytes S.names.longest S.names.setting.tenants (step_of call.now)) }
 {
     match call {
         Call::Start(repo, Ok(number)) => append_opened(out, repo, *number),
@@ -195,31 +196,136 @@ pub fn record_call<S: Naming>(
     }
 }
 
+/// Appends the record of a chunk in a file, with the notes of its pieces.
+fn append_noted(
+    out: &mut Vec<u8>,
+    repo: &RepoName,
+    number: u32,
+    notes: &[u8],
+) -> Result<(), Refusal>
+    requires short { length notes.now ≤ max_body }
+    ensures ok { OnOk result (out.new.items ≡ out.old.items
+        ++ record_bytes (logged.ChunkNoted (tenant_name repo.now) number notes.now)) }
+    ensures refused { IfErr result (λ e. e ≡ Memory) }
+{
+    let change = Change::ChunkNoted {
+        tenant: repo.tenant().as_bytes(),
+        number: u64::from(number),
+        notes,
+    };
+    append(out, &change)
+}
+
+/// Appends the record of a session that was closed and lies in a file, with the notes of its last chunk's pieces.
+fn append_noted_seal(
+    out: &mut Vec<u8>,
+    repo: &RepoName,
+    number: u32,
+    digest: &str,
+    notes: &[u8],
+) -> Result<(), Refusal>
+    requires digest { IsDigestText digest.now }
+    requires short { length notes.now ≤ max_body }
+    ensures ok { OnOk result (out.new.items ≡ out.old.items
+        ++ record_bytes (logged.SealNoted (tenant_name repo.now) number digest.now notes.now)) }
+    ensures refused { IfErr result (λ e. e ≡ Memory) }
+{
+    let change = Change::SealNoted {
+        tenant: repo.tenant().as_bytes(),
+        number: u64::from(number),
+        digest: digest.as_bytes(),
+        notes,
+    };
+    append(out, &change)
+}
+
+/// Appends the record of a chunk: of its notes if there are some, and otherwise of its bytes.
+#[tactic(auto, using(crate::proofs::NoteLengths::notes_short))]
+fn append_chunk(
+    out: &mut Vec<u8>,
+    repo: &RepoName,
+    number: u32,
+    bytes: &[u8],
+    notes: Option<&[u8]>,
+) -> Result<(), Refusal>
+    requires notes { IfSome notes (λ n. n.now ≡ chunk_notes bytes.now) }
+    requires short { length bytes.now ≤ max_body }
+    ensures ok { OnOk result (out.new.items ≡ out.old.items
+        ++ record_bytes (logged_chunk (is_some notes.entry) (tenant_name repo.now) number bytes.now)) }
+    ensures refused { IfErr result (λ e. e ≡ Memory) }
+{
+    match notes {
+        None => append(
+            out,
+            &Change::ChunkReceived {
+                tenant: repo.tenant().as_bytes(),
+                number: u64::from(number),
+                bytes,
+            },
+        ),
+        Some(notes) => append_noted(out, repo, number, notes),
+    }
+}
+
+/// Appends the record of a session that was closed: with the notes of its last chunk if there are some, and otherwise with the bytes.
+#[tactic(auto, using(crate::proofs::NoteLengths::notes_short))]
+fn append_sealed(
+    alloc: Global,
+    out: &mut Vec<u8>,
+    repo: &RepoName,
+    number: u32,
+    digest: &Digest,
+    last: &[u8],
+    notes: Option<&[u8]>,
+) -> Result<(), Refusal>
+    requires notes { IfSome notes (λ n. n.now ≡ chunk_notes last.now) }
+    requires short { length last.now ≤ max_body }
+    ensures ok { OnOk result (out.new.items ≡ out.old.items
+        ++ record_bytes (logged_seal (is_some notes.entry) (tenant_name repo.now) number digest.now last.now)) }
+    ensures refused { IfErr result (λ e. e ≡ Memory) }
+{
+    let text = digest_text(alloc, digest)?;
+    match notes {
+        None => append(
+            out,
+            &Change::SessionSealed {
+                tenant: repo.tenant().as_bytes(),
+                number: u64::from(number),
+                digest: text.as_str().as_bytes(),
+                last,
+            },
+        ),
+        Some(notes) => append_noted_seal(out, repo, number, text.as_str(), notes),
+    }
+}
+
 /// Returns the record of a chunk that a session received. It is empty if the store has no log, or the chunk no bytes.
+///
+/// With notes, the content of the session lies in a file, and the record has the notes in place of the bytes.
 pub fn chunk_record(
     alloc: Global,
     policy: LogPolicy,
     repo: &RepoName,
     number: u32,
     bytes: &[u8],
+    notes: Option<&[u8]>,
 ) -> Result<Vec<u8>, Refusal>
-    ensures made { IfOk result (λ r. r.items ≡ chunk_bytes policy (tenant_name repo.now) number bytes.now) }
+    requires notes { IfSome notes (λ n. n.now ≡ chunk_notes bytes.now) }
+    ensures made { IfOk result (λ r.
+        r.items ≡ chunk_bytes policy (is_some notes.entry) (tenant_name repo.now) number bytes.now) }
     ensures refused { IfErr result (λ e. e ≡ Memory) }
 {
     let mut record = Vec::new(alloc);
     if policy.has_log() && !bytes.is_empty() {
         check_body(bytes)?;
-        let change = Change::ChunkReceived {
-            tenant: repo.tenant().as_bytes(),
-            number: u64::from(number),
-            bytes,
-        };
-        append(&mut record, &change)?;
+        append_chunk(&mut record, repo, number, bytes, notes)?;
     }
     Ok(record)
 }
 
 /// Returns the record of a session that was closed with a last chunk. It is empty if the store has no log.
+///
+/// With notes, the content of the session lies in a file, and the record has the notes in place of the last bytes.
 pub fn seal_record(
     alloc: Global,
     policy: LogPolicy,
@@ -227,21 +333,65 @@ pub fn seal_record(
     number: u32,
     digest: &Digest,
     last: &[u8],
+    notes: Option<&[u8]>,
 ) -> Result<Vec<u8>, Refusal>
-    ensures made { IfOk result (λ r. r.items ≡ seal_bytes policy (tenant_name repo.now) number digest.now last.now) }
+    requires notes { IfSome notes (λ n. n.now ≡ chunk_notes last.now) }
+    ensures made { IfOk result (λ r.
+        r.items ≡ seal_bytes policy (is_some notes.entry) (tenant_name repo.now) number digest.now last.now) }
     ensures refused { IfErr result (λ e. e ≡ Memory) }
 {
     let mut record = Vec::new(alloc);
     if policy.has_log() {
         check_body(last)?;
+        append_sealed(alloc, &mut record, repo, number, digest, last, notes)?;
+    }
+    Ok(record)
+}
+
+/// Returns the record of a chunk that a session received and whose content lies in a file, from the notes of its pieces. It is
+/// empty if the store has no log, or there are no notes.
+pub fn noted_chunk_record(
+    alloc: Global,
+    policy: LogPolicy,
+    repo: &RepoName,
+    number: u32,
+    notes: &[u8],
+) -> Result<Vec<u8>, Refusal>
+    ensures made { IfOk result (λ r.
+        RecordsNotedChunk policy (tenant_name repo.now) number notes.now r.items) }
+    ensures refused { IfErr result (λ e. e ≡ Memory) }
+{
+    let mut record = Vec::new(alloc);
+    if !policy.has_log() {
+        return Ok(record);
+    }
+    if notes.is_empty() {
+        return Ok(record);
+    }
+    check_body(notes)?;
+    append_noted(&mut record, repo, number, notes)?;
+    Ok(record)
+}
+
+/// Returns the record of a session that was closed and whose content lies in a file, from the notes of its last chunk's pieces. It
+/// is empty if the store has no log.
+pub fn noted_seal_record(
+    alloc: Global,
+    policy: LogPolicy,
+    repo: &RepoName,
+    number: u32,
+    digest: &Digest,
+    notes: &[u8],
+) -> Result<Vec<u8>, Refusal>
+    ensures made { IfOk result (λ r.
+        RecordsNotedSeal policy (tenant_name repo.now) number digest.now notes.now r.items) }
+    ensures refused { IfErr result (λ e. e ≡ Memory) }
+{
+    let mut record = Vec::new(alloc);
+    if policy.has_log() {
+        check_body(notes)?;
         let text = digest_text(alloc, digest)?;
-        let change = Change::SessionSealed {
-            tenant: repo.tenant().as_bytes(),
-            number: u64::from(number),
-            digest: text.as_str().as_bytes(),
-            last,
-        };
-        append(&mut record, &change)?;
+        append_noted_seal(&mut record, repo, number, text.as_str(), notes)?;
     }
     Ok(record)
 }
