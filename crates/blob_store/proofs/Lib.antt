@@ -1,5 +1,6 @@
 pub mod BackendSteps
 pub mod Commits
+pub mod FilledRecords
 pub mod Interleavings
 pub mod OneText
 pub mod Places

@@ -1,7 +1,7 @@
 -- A store's parts as contracts see them, and the names of the store that is made of them.
-use Rattle.std.specs.Prelude.{◌≡◌, ℕ, List, [], length}
+use Rattle.std.specs.Prelude.{◌≡◌, ℕ, List, [], Option, length}
 use Rattle.std.proofs.Common.{refl, suc, zero}
-use Rattle.std.specs.Coded.{Coded, code_by, coded×, coded_ℕ}
+use Rattle.std.specs.Coded.{Coded, code_by, coded×, coded_ℕ, coded_option}
 use Rattle.atomic_table.specs.Seated.{TableId, table_id_coded}
 use Rattle.durable_log.specs.Names as durable
 use Rattle.ghost_log.specs.Calls as calls
@@ -19,7 +19,7 @@ use Rattle.locked_book.specs.Names.{BelongsTo, IsNewCatalog, LedgerName, StoreNa
 use Rattle.locked_book.specs.declared.policy.LogPolicy.{LogPolicy}
 use Rattle.locked_book.specs.declared.policy.LogPolicy.TheVariants as policy
 
--- a new book, four new ledgers, an empty history with its log, and the policy of the log
+-- a new book, four new ledgers, an empty history with its log, the policy of the log, and the length of the longest content whose bytes it has
 pub record PartsView : Type 0 where
   pub book : BookState
   pub commands : LedgerName
@@ -28,6 +28,7 @@ pub record PartsView : Type 0 where
   pub abandoned : LedgerName
   pub log : durable.Names
   pub policy : LogPolicy
+  pub longest : Option ℕ
 
 -- a ledger's name as two numbers
 abbrev pub coded_ledger : Coded LedgerName
@@ -69,9 +70,9 @@ IsNewMarks l = (l.entries ≡ []) × (l.writers ≡ 0)
 -- the parts as a tuple of coded values
 abbrev pub coded_parts : Coded PartsView
 coded_parts =
-    code_by ((BookState × (durable.Names × LogPolicy)) × ((LedgerName × LedgerName) × (LedgerName × LedgerName))) (coded× (coded× coded_state (coded× coded_log coded_policy)) (coded× (coded× coded_ledger coded_ledger) (coded× coded_ledger coded_ledger)))
-    (λ p. ((p.book, (p.log, p.policy)), ((p.commands, p.received), (p.closed, p.abandoned))))
-    (λ q. record { book = q.0.0; log = q.0.1.0; policy = q.0.1.1; commands = q.1.0.0; received = q.1.0.1; closed = q.1.1.0; abandoned = q.1.1.1 })
+    code_by ((BookState × (durable.Names × (LogPolicy × Option ℕ))) × ((LedgerName × LedgerName) × (LedgerName × LedgerName))) (coded× (coded× coded_state (coded× coded_log (coded× coded_policy (coded_option coded_ℕ)))) (coded× (coded× coded_ledger coded_ledger) (coded× coded_ledger coded_ledger)))
+    (λ p. ((p.book, (p.log, (p.policy, p.longest))), ((p.commands, p.received), (p.closed, p.abandoned))))
+    (λ q. record { book = q.0.0; log = q.0.1.0; policy = q.0.1.1.0; longest = q.0.1.1.1; commands = q.1.0.0; received = q.1.0.1; closed = q.1.1.0; abandoned = q.1.1.1 })
     (λ _. refl)
 
 -- the names of the store that is made of these parts
@@ -86,12 +87,13 @@ names_of p = record {
   abandoned = p.abandoned;
   log = p.log;
   policy = p.policy;
+  longest = p.longest;
   opening = p.book.catalog;
 }
 
--- parts that have the names of a store: its pins, its new book, counters of nothing, an empty history, and the policy of its log
-abbrev pub AreOfNewStore : StoreNames → TableId → BookState → Counts → BacklogView Step → LogPolicy → Type 0
-AreOfNewStore names pins book counts backlog p =
+-- parts that have the names of a store: its pins, its new book, counters of nothing, an empty history, the policy of its log, and what it has notes of
+abbrev pub AreOfNewStore : StoreNames → TableId → BookState → Counts → BacklogView Step → LogPolicy → Option ℕ → Type 0
+AreOfNewStore names pins book counts backlog p longest =
     (pins ≡ names.table)
     × IsNewCatalog book.catalog
     × BelongsTo book names
@@ -100,6 +102,7 @@ AreOfNewStore names pins book counts backlog p =
     × (backlog.history ≡ [])
     × (backlog.writers ≡ 0)
     × (p ≡ names.policy)
+    × (longest ≡ names.longest)
 
 -- the parts have the new book of this configuration
 abbrev pub OpensParts : Config → PartsView → Type 0

@@ -1,6 +1,6 @@
 //! The parts that a store is made of.
 
-ghost use Rattle.std.specs.Prelude.{◌≡◌, IfOk, IfErr};
+ghost use Rattle.std.specs.Prelude.{◌≡◌, None, Some, IfOk, IfErr};
 ghost use Rattle.blob_store.specs.Parts.{AreOfNewStore, OpensParts, RefusesParts, names_of};
 
 use blob_digest::Refusal;
@@ -28,6 +28,9 @@ pub struct Parts {
     pub(crate) durable_marks: SharedLog<HistoryMark<Step>>,
     pub(crate) taken_marks: SharedLog<HistoryMark<Step>>,
     pub(crate) policy: LogPolicy,
+    /// The length of the longest content whose bytes the log has. Longer ones lie in files, and the log has notes of them. Without
+    /// one, all contents are in memory and in the log.
+    pub(crate) longest: Option<u64>,
 }
 
 impl Model for Parts {
@@ -48,6 +51,7 @@ impl Model for Parts {
       abandoned = record { name = p.abandoned.name; parts = p.abandoned.parts };
       log = record { history = p.log.name; durable_marks = p.durable_marks.name; taken_marks = p.taken_marks.name; base = [] };
       policy = p.policy;
+      longest = p.longest;
     } };
 
     ghost invariant = { λ p. (p.book.table ≡ p.pins) × IsNewCatalog p.book.catalog × (p.commands.parts ≡ ledger_parts) × (p.received.parts ≡ ledger_parts) × (p.closed.parts ≡ ledger_parts) × (p.abandoned.parts ≡ ledger_parts) × (p.log.entries ≡ []) × (p.log.writers ≡ 0) × IsNewMarks p.durable_marks × IsNewMarks p.taken_marks };
@@ -64,6 +68,7 @@ impl Parts {
     pub fn new(alloc: Global, config: &Config) -> Result<Parts, Refusal>
         ensures opened { IfOk result (λ p. OpensParts config.now p) }
         ensures policy { IfOk result (λ p. p.policy ≡ LogPolicy.NoLog) }
+        ensures longest { IfOk result (λ p. p.longest ≡ None) }
         ensures refused { IfErr result (λ e. RefusesParts config.now e) }
     {
         Parts::with_policy(alloc, config, LogPolicy::NoLog)
@@ -73,6 +78,7 @@ impl Parts {
     pub fn with_policy(alloc: Global, config: &Config, policy: LogPolicy) -> Result<Parts, Refusal>
         ensures opened { IfOk result (λ p. OpensParts config.now p) }
         ensures policy { IfOk result (λ p. p.policy ≡ policy) }
+        ensures longest { IfOk result (λ p. p.longest ≡ None) }
         ensures refused { IfErr result (λ e. RefusesParts config.now e) }
     {
         let (book, pins) = Book::new(alloc, config)?;
@@ -91,13 +97,25 @@ impl Parts {
             durable_marks,
             taken_marks,
             policy,
+            longest: None,
         })
+    }
+
+    /// Lets contents of more bytes than `longest` lie in files, of which the log has notes. The store is opened with a
+    /// configuration whose contents may lie in files.
+    pub fn with_files(self, longest: u64) -> Parts
+        ensures { result ≡ record self { longest = Some longest } }
+    {
+        let mut parts = self;
+        parts.longest = Some(longest);
+        parts
     }
 
     /// Gives the parts the names of a store. Also returns the right to open the device of its log.
     pub(crate) fn named<S: Naming>(self) -> (NamedParts<S>, UnopenedDevice<Step, StoreLog<S>>)
         requires named { names_of self ≡ S.names }
-        ensures { AreOfNewStore S.names (result.0).pins (result.0).book (result.0).counters (result.0).backlog (result.0).policy }
+        ensures { AreOfNewStore S.names (result.0).pins (result.0).book (result.0).counters (result.0).backlog (result.0).policy
+            (result.0).longest }
     {
         let Parts {
             alloc,
@@ -111,6 +129,7 @@ impl Parts {
             durable_marks,
             taken_marks,
             policy,
+            longest,
         } = self;
         let counters = Counters::new(commands, received, closed, abandoned);
         let (backlog, unopened) = Backlog::new(alloc, log, durable_marks, taken_marks);
@@ -121,6 +140,7 @@ impl Parts {
             counters,
             backlog,
             policy,
+            longest,
         };
         (parts, unopened)
     }
@@ -135,4 +155,5 @@ pub(crate) struct NamedParts<S: Naming> {
     pub(crate) counters: Counters<S>,
     pub(crate) backlog: Backlog<Step, StoreLog<S>>,
     pub(crate) policy: LogPolicy,
+    pub(crate) longest: Option<u64>,
 }

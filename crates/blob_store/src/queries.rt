@@ -1,13 +1,16 @@
 //! Queries of a store that are not commands.
 
-ghost use Rattle.std.specs.Prelude.{◌≡◌};
+ghost use Rattle.std.specs.Prelude.{◌≡◌, IfSome};
+ghost use Rattle.std.specs.Arc.{arc_value};
+ghost use Rattle.store_book.specs.BookCalls.{IsStoredBlob};
 ghost use Rattle.store_model.specs.Queries.{stat, stat_manifest, usage, slot_use, repo_count, free_slots};
 ghost use Rattle.blob_store.specs.StoreCalls.{InSomeCatalog};
 
 use crate::store::Store;
-use blob_digest::{Digest, Refusal, RepoName};
+use blob_digest::{Blob, Digest, Refusal, RepoName};
 use locked_book::Naming;
-use std::sync::Wait;
+use std::alloc::Global;
+use std::sync::{Arc, Wait};
 use store_book::{SlotUse, Usage};
 
 /// Queries: they use no desk, are no steps of the history and are counted nowhere. Each takes the lock for one look-up,
@@ -24,6 +27,13 @@ impl<S: Naming> Store<S> {
         ensures { InSomeCatalog S.names (λ c. result ≡ stat c repo.now digest.now) }
     {
         self.locked(rt).book().stat(repo, digest)
+    }
+
+    /// Returns a share of the blob of a slot, if the slot has one. Fails only if out of memory. No lease is taken.
+    pub fn blob_in(&self, rt: &impl Wait, slot: u32) -> Option<Arc<Blob, Global>>
+        ensures { InSomeCatalog S.names (λ c. IfSome result (λ b. IsStoredBlob c (arc_value b))) }
+    {
+        self.locked(rt).book().blob_in(slot)
     }
 
     /// Returns the size in bytes of the manifest that a repository has under a digest (OCI Distribution Specification

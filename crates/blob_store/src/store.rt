@@ -2,6 +2,7 @@
 
 ghost use Rattle.std.specs.Prelude.{◌≡◌, ◌⊎◌, ◌<◌, Err, IfErr, IfOk, IsSome, OnOk, length, true, vec_len};
 ghost use Rattle.std.specs.Arc.{arc_value};
+ghost use Rattle.std.specs.Option.{option_map};
 ghost use Rattle.blob_digest.specs.Digests.{sha256_text};
 ghost use Rattle.blob_digest.specs.Vouched.{has_digest};
 ghost use Rattle.oci_manifest.specs.Manifests.{max_manifest, refs_of};
@@ -22,6 +23,7 @@ ghost use Rattle.blob_digest.specs.declared.refusal.Refusal.TheVariants.{LimitRe
 use crate::lease::Lease;
 use crate::parts::{NamedParts, Parts};
 use blob_digest::{Digest, Refusal, RepoName};
+use content_files::Home;
 use durable_log::IdleDevice;
 use locked_book::{
     Desk, Kept, LogPolicy, Naming, Settled, Step, StoreLog, Totals, manifest_record,
@@ -36,7 +38,8 @@ use std::marker::Model;
 use std::sync::atomic::AtomicU64;
 use std::sync::{Arc, Mutex, MutexGuard, Wait};
 use std::time::Duration;
-use store_book::{Mount, Swept};
+use store_book::{Freed, Mount, Swept};
+use upload_table::Hand;
 
 /// A store that threads share: the pins, and one lock around the book with the totals.
 ///
@@ -56,6 +59,8 @@ pub struct Store<S: Naming> {
     pub(crate) pins: Pins,
     book: Mutex<Kept<S>>,
     pub(crate) policy: LogPolicy,
+    /// The length of the longest content whose bytes the log has, if longer ones lie in files.
+    longest: Option<u64>,
     /// Stays 0: a thread that waits for the lock sleeps on it until its pause is over.
     rest: AtomicU64,
     pub(crate) alloc: Global,
@@ -69,7 +74,7 @@ impl<S: Naming> Model for Store<S> {
 
     ghost view = { λ s. s.pins };
 
-    ghost invariant = { λ s. (s.pins ≡ S.names.table) × (s.policy ≡ S.names.policy) };
+    ghost invariant = { λ s. (s.pins ≡ S.names.table) × (s.policy ≡ S.names.policy) × (s.longest ≡ S.names.longest) };
 }
 
 /// Rounds that a thread waits for the lock before it sleeps until it is woken. In a round it tries the lock, spins,
@@ -119,7 +124,7 @@ impl<S: Naming> Store<S> {
 
     /// Makes the store of parts that have its names.
     fn of_parts(parts: NamedParts<S>) -> Store<S>
-        requires { AreOfNewStore S.names parts.pins parts.book parts.counters parts.backlog parts.policy }
+        requires { AreOfNewStore S.names parts.pins parts.book parts.counters parts.backlog parts.policy parts.longest }
     {
         let NamedParts {
             alloc,
@@ -128,12 +133,14 @@ impl<S: Naming> Store<S> {
             counters,
             backlog,
             policy,
+            longest,
         } = parts;
         let book = Kept::new(alloc, book, counters, policy, backlog);
         Store {
             pins,
             book: Mutex::new(book),
             policy,
+            longest,
             rest: AtomicU64::new(0),
             alloc,
         }
@@ -145,6 +152,7 @@ impl<S: Naming> Store<S> {
             pins: _,
             book,
             policy: _,
+            longest: _,
             rest: _,
             alloc: _,
         } = self;
@@ -175,6 +183,25 @@ impl<S: Naming> Store<S> {
         ensures { result ≡ S.names.policy }
     {
         self.policy
+    }
+
+    /// Returns the file of a session's content, and the length up to which the content stays in memory. `None` if all contents stay
+    /// there.
+    pub(crate) fn home_of(&self, hand: &Hand) -> Option<Home>
+        ensures { option_map (λ h. h.longest) result ≡ S.names.longest }
+    {
+        match self.longest {
+            Some(longest) => Some(Home {
+                name: hand.content_name(),
+                longest,
+            }),
+            None => None,
+        }
+    }
+
+    /// Returns what was freed since the last call and may lie in files (`store_book::Book::take_freed`).
+    pub fn take_freed(&self, rt: &impl Wait) -> Freed {
+        self.locked(rt).take_freed()
     }
 
     /// Makes `count` desks with empty shares.
@@ -376,7 +403,7 @@ impl<S: Naming> Store<S> {
     ///
     /// # Memory
     ///
-    /// Allocates nothing.
+    /// Allocates nothing, except an entry for each freed blob that lies in a file.
     pub fn sweep(&self, rt: &impl Wait) -> Swept
         ensures { IsSweepOfSome S.names result }
     {
@@ -387,7 +414,7 @@ impl<S: Naming> Store<S> {
     ///
     /// # Memory
     ///
-    /// Allocates nothing.
+    /// Allocates nothing, except an entry for each freed blob that lies in a file.
     pub fn sweep_at(&self, rt: &impl Wait, desk: &mut Desk<S>) -> Swept
         ensures { Makes S.names.opening (SweepCall result) desk.old desk.new }
     {

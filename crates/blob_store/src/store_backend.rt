@@ -4,25 +4,29 @@ ghost use Rattle.std.specs.Prelude.{◌≡◌};
 use crate::lease::Lease;
 use crate::store::Store;
 use blob_digest::{ByteRange, Digest, Refusal, RepoName};
+use content_files::ContentStore;
 use locked_book::{Desk, Naming};
 use oci_manifest::Manifest;
 use std::alloc::Global;
 use std::sync::{Arc, Wait};
 use store_api::{Backend, Extent, Queries};
 use store_book::{Mount, SlotUse, Swept, Usage};
+use upload_table::Hashing;
 
 /// A store with a worker's desk, on which rows are played. Each request is the store's call of its name. Contracts see
 /// how the desk's amounts grow, and the steps that the desk makes.
-pub struct StoreBackend<'s, W: Wait, S: Naming> {
+pub struct StoreBackend<'s, W: Wait, S: Naming, F: ContentStore> {
     /// The runtime by which the calls wait.
     pub rt: &'s W,
     /// The store, which other workers use too.
     pub store: &'s Store<S>,
+    /// The files that contents are written to.
+    pub files: &'s F,
     /// The worker's desk.
     pub desk: Desk<S>,
 }
 
-impl<'s, W: Wait, S: Naming> Backend for StoreBackend<'s, W, S> {
+impl<'s, W: Wait, S: Naming, F: ContentStore> Backend for StoreBackend<'s, W, S, F> {
     type Lease = Lease<'s, S>;
 
     ghost use Rattle.blob_store.specs.StoreBackends.{DeskActs};
@@ -47,8 +51,17 @@ impl<'s, W: Wait, S: Naming> Backend for StoreBackend<'s, W, S> {
         range: Option<ByteRange>,
         bytes: &[u8],
     ) -> Result<u64, Refusal> {
-        self.store
-            .append(self.rt, &mut self.desk, repo, number, range, bytes)
+        let (files, hashing) = (self.files, Hashing::Open);
+        self.store.append_by(
+            self.rt,
+            files,
+            &mut self.desk,
+            repo,
+            number,
+            range,
+            bytes,
+            hashing,
+        )
     }
 
     fn close(
@@ -59,7 +72,18 @@ impl<'s, W: Wait, S: Naming> Backend for StoreBackend<'s, W, S> {
         range: Option<ByteRange>,
         bytes: &[u8],
     ) -> Result<u64, Refusal> {
-        self.store.close(self.rt, &mut self.desk, repo, number, digest, range, bytes)
+        let hashing = Hashing::Last(digest.algorithm());
+        self.store.close_by(
+            self.rt,
+            self.files,
+            &mut self.desk,
+            repo,
+            number,
+            digest,
+            range,
+            bytes,
+            hashing,
+        )
     }
 
     fn abandon(&mut self, repo: &RepoName, number: u32) -> Result<u64, Refusal> {
@@ -134,7 +158,7 @@ impl<'s, W: Wait, S: Naming> Backend for StoreBackend<'s, W, S> {
     }
 }
 
-impl<'s, W: Wait, S: Naming> Queries for StoreBackend<'s, W, S> {
+impl<'s, W: Wait, S: Naming, F: ContentStore> Queries for StoreBackend<'s, W, S, F> {
     ghost use Rattle.blob_store.specs.StoreBackends.{IsFound};
 
     ghost finds = { λ _ catalog. IsFound S.names catalog };

@@ -1,16 +1,28 @@
 //! The commands of a store on sessions.
 
-ghost use Rattle.std.specs.Prelude.{◌≡◌, ◌+◌, ◌<◌, Err, IfOk, IfSome, OnErr, OnOk, length};
+ghost use Rattle.std.specs.Prelude.{◌≡◌, ◌+◌, ◌<◌, Err, None, IfOk, IfSome, OnErr, OnOk, is_some, length};
+ghost use Rattle.content_files.specs.Chunks.{is_in_file, read_notes};
 ghost use Rattle.blob_store.specs.StoreCalls.{AbandonsSession, AppendsTo, ClosesSession, ReadsStatus, StartsSession};
 ghost use Rattle.blob_store.specs.StoreCalls.{CountsCommand, KeepsAmounts};
 ghost use Rattle.blob_digest.specs.declared.refusal.Refusal.TheVariants.{Memory};
 
 use crate::store::Store;
 use blob_digest::{ByteRange, Digest, Refusal, RepoName};
-use content_files::NoFiles;
-use locked_book::{Desk, Naming, chunk_record, seal_record};
+use content_files::{ContentStore, Home, NoFiles};
+use locked_book::{Desk, Naming, chunk_record, noted_chunk_record, noted_seal_record, seal_record};
 use std::sync::Wait;
-use upload_table::Hashing;
+use upload_table::{Hashing, Sealing};
+
+/// Returns the notes of a session's last chunk, if a content of this length lies in its file.
+fn notes_if(home: Option<Home>, len: u64, notes: &[u8]) -> Option<&[u8]>
+    ensures there { is_some result ≡ is_in_file home len }
+    ensures same { IfSome result (λ n. n.now ≡ notes.now) }
+{
+    match home {
+        Some(home) if home.has_content_of(len) => Some(notes),
+        _ => None,
+    }
+}
 
 impl<S: Naming> Store<S> {
     /// Opens a session in a repository, and returns its number (OCI Distribution Specification 1.1, "Pushing a blob in
@@ -60,13 +72,24 @@ impl<S: Naming> Store<S> {
         ensures ends { IfOk result (λ n. IfSome range (λ r. n ≡ r.end + 1)) }
         ensures steps { AppendsTo S.names repo.now number range bytes.now result desk.old desk.new }
     {
-        self.append_by(rt, desk, repo, number, range, bytes, Hashing::Open)
+        self.append_by(
+            rt,
+            &NoFiles,
+            desk,
+            repo,
+            number,
+            range,
+            bytes,
+            Hashing::Open,
+        )
     }
 
-    /// Adds a chunk to a session as `append` does, but hashes it as `hashing` says.
-    pub fn append_by(
+    /// Adds a chunk to a session as `append` does, but hashes it as `hashing` says. If the content becomes longer than those that stay
+    /// in memory, its bytes are written to its file and synced, and the log gets the notes of the chunk's pieces.
+    pub fn append_by<F: ContentStore>(
         &self,
         rt: &impl Wait,
+        files: &F,
         desk: &mut Desk<S>,
         repo: &RepoName,
         number: u32,
@@ -81,18 +104,61 @@ impl<S: Naming> Store<S> {
     {
         let len = bytes.len() as u64;
         let hand = self.locked(rt).take(desk, repo, number, range, len)?;
-        let record = match chunk_record(self.alloc, self.policy, repo, number, bytes) {
-            Ok(record) => record,
-            Err(refusal) => {
-                let _ = self.locked(rt).cancel(desk, hand);
-                return Err(refusal);
-            }
-        };
-        match hand.fill_by(&NoFiles, bytes, hashing) {
-            Ok(hand) => self.locked(rt).put_back(desk, hand, record),
+        let home = self.home_of(&hand);
+        let mut notes = Vec::new(self.alloc);
+        let hand = match hand.fill_by(files, home, bytes, hashing, &mut notes) {
+            Ok(hand) => hand,
             Err((_, hand)) => {
                 let _ = self.locked(rt).cancel(desk, hand);
-                Err(Refusal::Memory)
+                return Err(Refusal::Memory);
+            }
+        };
+        let notes = notes_if(home, hand.len_after(), notes.as_slice());
+        match chunk_record(self.alloc, self.policy, repo, number, bytes, notes) {
+            Ok(record) => self.locked(rt).put_back(desk, hand, record),
+            Err(refusal) => {
+                let _ = self.locked(rt).cancel(desk, hand.unfill());
+                Err(refusal)
+            }
+        }
+    }
+
+    /// Adds a chunk that an earlier process added to a session, by the notes of its pieces, whose length is `len`. Nothing is
+    /// written, read or hashed. A start calls this, for a chunk that its log has by its notes.
+    ///
+    /// # Errors
+    ///
+    /// Those of `append`, and `Memory` also if these are not the notes of a chunk, or a content of the new length has no file.
+    pub fn append_noted(
+        &self,
+        rt: &impl Wait,
+        desk: &mut Desk<S>,
+        repo: &RepoName,
+        number: u32,
+        notes: &[u8],
+        len: u64,
+    ) -> Result<u64, Refusal>
+        requires { length (read_notes notes.now) ≡ len }
+        ensures steps { AppendsTo S.names repo.now number None (read_notes notes.now) result desk.old desk.new }
+    {
+        let hand = self.locked(rt).take(desk, repo, number, None, len)?;
+        let home = self.home_of(&hand);
+        let hand = match hand.fill_noted(notes) {
+            Ok(hand) => hand,
+            Err((_, hand)) => {
+                let _ = self.locked(rt).cancel(desk, hand);
+                return Err(Refusal::Memory);
+            }
+        };
+        let Some(notes) = notes_if(home, hand.len_after(), notes) else {
+            let _ = self.locked(rt).cancel(desk, hand.unfill());
+            return Err(Refusal::Memory);
+        };
+        match noted_chunk_record(self.alloc, self.policy, repo, number, notes) {
+            Ok(record) => self.locked(rt).put_back(desk, hand, record),
+            Err(refusal) => {
+                let _ = self.locked(rt).cancel(desk, hand.unfill());
+                Err(refusal)
             }
         }
     }
@@ -123,14 +189,17 @@ impl<S: Naming> Store<S> {
             result desk.old desk.new }
     {
         let hashing = Hashing::Last(digest.algorithm());
-        self.close_by(rt, desk, repo, number, digest, range, bytes, hashing)
+        self.close_by(
+            rt, &NoFiles, desk, repo, number, digest, range, bytes, hashing,
+        )
     }
 
     /// Closes a session as `close` does, but hashes its bytes as `hashing` says. If they were not hashed by the algorithm
-    /// of the digest before the lock is taken again, they are hashed under the lock.
-    pub fn close_by(
+    /// of the digest before the lock is taken again, they are hashed under the lock. The last chunk is written as by `append_by`.
+    pub fn close_by<F: ContentStore>(
         &self,
         rt: &impl Wait,
+        files: &F,
         desk: &mut Desk<S>,
         repo: &RepoName,
         number: u32,
@@ -147,21 +216,73 @@ impl<S: Naming> Store<S> {
     {
         let len = bytes.len() as u64;
         let hand = self.locked(rt).take(desk, repo, number, range, len)?;
-        let record = match seal_record(self.alloc, self.policy, repo, number, digest, bytes) {
-            Ok(record) => record,
-            Err(refusal) => {
-                let _ = self.locked(rt).cancel(desk, hand);
-                return Err(refusal);
-            }
-        };
-        let filled = hand.fill_by(&NoFiles, bytes, hashing);
-        match filled {
-            Ok(hand) => self
-                .locked(rt)
-                .finish(&self.pins, desk, hand, digest, record),
+        let home = self.home_of(&hand);
+        let mut notes = Vec::new(self.alloc);
+        let filled = hand.fill_by(files, home, bytes, hashing, &mut notes);
+        let hand = match filled {
+            Ok(hand) => hand,
             Err((_, hand)) => {
                 let _ = self.locked(rt).cancel(desk, hand);
-                Err(Refusal::Memory)
+                return Err(Refusal::Memory);
+            }
+        };
+        let notes = notes_if(home, hand.len_after(), notes.as_slice());
+        match seal_record(self.alloc, self.policy, repo, number, digest, bytes, notes) {
+            Ok(record) => {
+                let sealing = Sealing::ByHash;
+                self.locked(rt)
+                    .finish(&self.pins, desk, hand, digest, sealing, record)
+            }
+            Err(refusal) => {
+                let _ = self.locked(rt).cancel(desk, hand.unfill());
+                Err(refusal)
+            }
+        }
+    }
+
+    /// Closes a session as an earlier process closed it, with a last chunk by the notes of its pieces, whose length is `len`. Nothing
+    /// is written, read or hashed: the digest is taken as that of the content if not all of it was read since the start. A start
+    /// calls this, for a close that its log has by notes.
+    ///
+    /// # Errors
+    ///
+    /// Those of `close`, and `Memory` also if these are not the notes of a chunk, or a content of the new length has no file.
+    pub fn close_noted(
+        &self,
+        rt: &impl Wait,
+        desk: &mut Desk<S>,
+        repo: &RepoName,
+        number: u32,
+        digest: &Digest,
+        notes: &[u8],
+        len: u64,
+    ) -> Result<u64, Refusal>
+        requires { length (read_notes notes.now) ≡ len }
+        ensures steps { ClosesSession S.names repo.now number digest.now None (read_notes notes.now)
+            result desk.old desk.new }
+    {
+        let hand = self.locked(rt).take(desk, repo, number, None, len)?;
+        let home = self.home_of(&hand);
+        let hand = match hand.fill_noted(notes) {
+            Ok(hand) => hand,
+            Err((_, hand)) => {
+                let _ = self.locked(rt).cancel(desk, hand);
+                return Err(Refusal::Memory);
+            }
+        };
+        let Some(notes) = notes_if(home, hand.len_after(), notes) else {
+            let _ = self.locked(rt).cancel(desk, hand.unfill());
+            return Err(Refusal::Memory);
+        };
+        match noted_seal_record(self.alloc, self.policy, repo, number, digest, notes) {
+            Ok(record) => {
+                let sealing = Sealing::ByNote;
+                self.locked(rt)
+                    .finish(&self.pins, desk, hand, digest, sealing, record)
+            }
+            Err(refusal) => {
+                let _ = self.locked(rt).cancel(desk, hand.unfill());
+                Err(refusal)
             }
         }
     }
@@ -170,7 +291,7 @@ impl<S: Naming> Store<S> {
     ///
     /// # Memory
     ///
-    /// Allocates nothing.
+    /// Allocates nothing, except the name of a content that may lie in a file.
     pub fn abandon(
         &self,
         rt: &impl Wait,

@@ -6,6 +6,7 @@ ghost use Rattle.blob_store.specs.Workers.{AllAt};
 
 use crate::store::Store;
 use crate::store_backend::StoreBackend;
+use content_files::NoFiles;
 use locked_book::{DroppableDesk, Naming};
 use script_player::{Gate, RowList, Worker, run_rows};
 use std::alloc::Global;
@@ -92,9 +93,11 @@ fn work<W: Wait, G: Gate, S: Naming, L: RowList>(
     if shared.halt.load(Ordering::SeqCst) {
         return WorkerResult::incomplete(desk, replies);
     }
+    let files = NoFiles;
     let mut backend = StoreBackend {
         rt: shared.rt,
         store: shared.store,
+        files: &files,
         desk: desk.into_desk(),
     };
     let played = run_rows(
@@ -108,6 +111,7 @@ fn work<W: Wait, G: Gate, S: Naming, L: RowList>(
     let StoreBackend {
         rt: _,
         store: _,
+        files: _,
         desk,
     } = backend;
     match played {

@@ -38,10 +38,11 @@ fn make_folder(rt: &HostRuntime, parent: &str, folder: &str) -> io::Result<()> {
     File::open(rt, parent)?.sync_all()
 }
 
-/// Returns the error of a read: a file that ends too soon has lost a part of its content.
+/// Returns the error of a call: a file that ends too soon has lost a part of its content.
 fn fault_of(error: io::Error) -> ContentError {
     match error.kind() {
         ErrorKind::UnexpectedEof => ContentError::Fault,
+        ErrorKind::OutOfMemory => ContentError::Memory,
         _ => ContentError::Io(error),
     }
 }
@@ -200,10 +201,14 @@ impl<'r> ContentStore for ContentFolder<'r> {
         offset: u64,
         bytes: &'b [u8],
     ) -> Result<Written<'b>, ContentError> {
-        let mut file = if offset == 0 {
-            self.create(name)?
+        let opened = if offset == 0 {
+            self.create(name)
         } else {
-            self.open_to_write(name, offset)?
+            self.open_to_write(name, offset)
+        };
+        let mut file = match opened {
+            Ok(file) => file,
+            Err(error) => return Err(fault_of(error)),
         };
         match write_synced(&mut file, name, offset, bytes) {
             Ok(written) => Ok(written),
@@ -215,7 +220,10 @@ impl<'r> ContentStore for ContentFolder<'r> {
     }
 
     fn read(&self, name: ContentName, offset: u64, out: &mut [u8]) -> Result<(), ContentError> {
-        let mut file = self.open_to_read(name)?;
+        let mut file = match self.open_to_read(name) {
+            Ok(file) => file,
+            Err(error) => return Err(fault_of(error)),
+        };
         file.seek(SeekFrom::Start(offset))?;
         match file.read_exact(out) {
             Ok(()) => Ok(()),
@@ -245,7 +253,10 @@ impl<'f, 'r> ContentStore for WrittenFiles<'f, 'r> {
         offset: u64,
         bytes: &'b [u8],
     ) -> Result<Written<'b>, ContentError> {
-        let mut file = self.folder.open_to_read(name)?;
+        let mut file = match self.folder.open_to_read(name) {
+            Ok(file) => file,
+            Err(error) => return Err(fault_of(error)),
+        };
         match read_back(&mut file, name, offset, bytes)? {
             Some(written) => Ok(written),
             None => Err(ContentError::Fault),

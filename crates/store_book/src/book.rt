@@ -391,7 +391,7 @@ impl Book {
     /// One step for each blob without links, and one test for every 64 slots.
     ///
     /// # Memory
-    /// None is allocated.
+    /// None is allocated, but for an entry for each freed blob that lies in a file.
     pub fn sweep(&mut self, pins: &Pins) -> Swept
         requires { self.old.table ≡ pins.now }
         ensures sweeps { IsSweep self.old.catalog result self.new.catalog }

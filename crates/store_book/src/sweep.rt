@@ -26,8 +26,8 @@ fn count(swept: &mut Swept, was_live: bool, became: Reclaim)
 
 /// Goes once over the blobs without links, in the order of their slots.
 ///
-/// It condemns a live one. It frees or retires the slot of each condemned one that no pin holds. No memory is
-/// allocated.
+/// It condemns a live one. It frees or retires the slot of each condemned one that no pin holds. Memory is allocated only for
+/// the entries of freed blobs in files.
 pub(crate) fn sweep_slots(slots: &mut PinnedSlots, pins: &Pins) -> Swept
     requires table { slots.old.table ≡ pins.now }
     requires few { length slots.old.slots ≤ greatest_slots }
