@@ -115,10 +115,13 @@ impl<'r> ContentFolder<'r> {
         Ok(file)
     }
 
-    /// Opens the file of a content for writing at an offset, and cuts it there.
+    /// Opens the file of a content for writing at an offset, and cuts it there. A file that ends before has lost bytes.
     fn open_to_write(&self, name: ContentName, offset: u64) -> io::Result<File> {
         let path = self.path_of(name)?;
-        let file = File::options().write(true).open(self.rt, path.as_str())?;
+        let mut file = File::options().write(true).open(self.rt, path.as_str())?;
+        if file.seek(SeekFrom::End(0))? < offset {
+            return Err(io::Error::from(ErrorKind::UnexpectedEof));
+        }
         file.set_len(offset)?;
         Ok(file)
     }

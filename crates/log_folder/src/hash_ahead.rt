@@ -5,6 +5,7 @@ use crate::gathering::Gathering;
 use crate::opening::frames_of;
 use crate::segment::Segment;
 use blob_digest::{Blob, Digest};
+use content_files::{ContentName, NoFiles};
 use log_frames::{Ending, read_frames, start_of};
 use log_records::Change;
 use std::alloc::{AllocError, Global};
@@ -200,6 +201,18 @@ impl HashAhead {
 }
 
 impl ChangeSink for HashedAhead {
+    type Files = NoFiles;
+
+    fn files(&self) -> &NoFiles {
+        &NoFiles
+    }
+
+    fn left_open(&self, tenant: &[u8], number: u32) -> Option<ContentName> {
+        let _ = tenant;
+        let _ = number;
+        None
+    }
+
     fn note(&mut self, change: &Change<'_>, offset: u64) -> Result<(), AllocError> {
         let _ = change;
         let _ = offset;

@@ -39,6 +39,6 @@ restarts_as names other was now left again d logs sees survives start read =
       legal = start.restores.legal;
       each = λ t leads.
           let again_restored = start.restores.restores t leads in
-          let restart = same_logs_restart names now.trace.seen s other again.seen t restored again_restored logs.logs logs.other_logs logs.tenants begins in
+          let restart = same_logs_restart names now.trace.seen s other again.seen t restored again_restored logs.logs logs.other_logs logs.tenants logs.longest begins in
           record { restart = restart; known = restart.restores.complete now.trace.durable survives.known durable };
     }

@@ -10,11 +10,12 @@ use Rattle.locked_book.specs.Restoring.{records_of}
 use Rattle.store_model.specs.Durable.{taken_after_steps}
 use Rattle.store_model.specs.Histories.{IsLegal, State}
 
--- two stores of the same tenants record their changes, with nothing in front of the records
+-- two stores of the same tenants record their changes in the same form, with nothing in front of the records
 pub record HaveLogs (names other : StoreNames) : Type 0 where
   pub logs : has_log names.policy ≡ true
   pub other_logs : has_log other.policy ≡ true
   pub tenants : other.setting.tenants ≡ names.setting.tenants
+  pub longest : other.longest ≡ names.longest
   pub base : names.log.base ≡ []
   pub other_base : other.log.base ≡ []
 

@@ -1,6 +1,7 @@
 //! The reasons why a log cannot be replayed.
 
 use blob_digest::Refusal;
+use content_files::ContentError;
 use std::alloc::{AllocError, Global};
 use thiserror::Error;
 
@@ -23,6 +24,16 @@ pub enum Cause {
         name: String,
         /// The store's reason.
         refusal: Refusal,
+    },
+    /// A chunk of a session that is still open cannot be read from the file of its content.
+    #[error("the content of session {number} of {tenant}: {error}")]
+    Content {
+        /// The name of the tenant.
+        tenant: String,
+        /// The number of the session.
+        number: u32,
+        /// The reason.
+        error: ContentError,
     },
     /// The store made another change than the log describes. The record is the first one of its frame.
     #[error("the store made another change")]
@@ -59,6 +70,24 @@ impl Cause {
         match String::from_str(alloc, name) {
             Ok(name) => Cause::Refused { name, refusal },
             Err(_) => Cause::Memory,
+        }
+    }
+}
+
+impl Cause {
+    /// Returns the cause for a chunk of a session that cannot be read.
+    pub(crate) fn unread(alloc: Global, tenant: &str, number: u32, error: ContentError) -> Cause {
+        match error {
+            ContentError::Memory => Cause::Memory,
+            ContentError::Notes => Cause::Malformed,
+            _ => match String::from_str(alloc, tenant) {
+                Ok(tenant) => Cause::Content {
+                    tenant,
+                    number,
+                    error,
+                },
+                Err(_) => Cause::Memory,
+            },
         }
     }
 }

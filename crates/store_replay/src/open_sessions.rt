@@ -4,7 +4,16 @@ use blob_digest::RepoName;
 use std::alloc::{AllocError, Global};
 use std::collections::BTreeMap;
 
-/// The repository of each open session. A record of a session names only its tenant and its number.
+/// An open session of a store that replays a log.
+#[derive(Drop)]
+pub(crate) struct OpenSession {
+    /// Its repository. A record of a session names only its tenant and its number.
+    pub repo: RepoName,
+    /// The number of bytes that it has received.
+    pub received: u64,
+}
+
+/// The open sessions, by their tenants and numbers.
 ///
 /// # Cost
 ///
@@ -12,8 +21,8 @@ use std::collections::BTreeMap;
 #[derive(Drop)]
 pub(crate) struct OpenSessions {
     alloc: Global,
-    /// The repository of each session by its number, by the name of the tenant.
-    tenants: BTreeMap<String, BTreeMap<u32, RepoName>>,
+    /// Each session by its number, by the name of the tenant.
+    tenants: BTreeMap<String, BTreeMap<u32, OpenSession>>,
 }
 
 impl OpenSessions {
@@ -32,16 +41,25 @@ impl OpenSessions {
             self.tenants.insert(tenant, BTreeMap::new(self.alloc))?;
         }
         if let Some(sessions) = self.tenants.get_mut(repo.tenant()) {
-            sessions.insert(number, repo)?;
+            sessions.insert(number, OpenSession { repo, received: 0 })?;
         }
         Ok(())
     }
 
-    /// Returns the repository of a session.
-    pub fn get(&self, tenant: &str, number: u32) -> Option<&RepoName> {
+    /// Returns a session.
+    pub fn get(&self, tenant: &str, number: u32) -> Option<&OpenSession> {
         match self.tenants.get(tenant) {
             Some(sessions) => sessions.get(&number),
             None => None,
+        }
+    }
+
+    /// Notes how many bytes a session has received.
+    pub fn set_received(&mut self, tenant: &str, number: u32, received: u64) {
+        if let Some(sessions) = self.tenants.get_mut(tenant) {
+            if let Some(session) = sessions.get_mut(&number) {
+                session.received = received;
+            }
         }
     }
 

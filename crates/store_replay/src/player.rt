@@ -1,9 +1,11 @@
 //! Plays the changes of records at a desk.
 
 use crate::fault::Cause;
-use crate::open_sessions::OpenSessions;
+use crate::observer::ChangeSink;
+use crate::open_sessions::{OpenSession, OpenSessions};
 use blob_digest::{Blob, Digest, Refusal, RepoName};
 use blob_store::{Desk, Naming, Store};
+use content_files::{ContentName, NoFiles, noted_len, read_chunk};
 use log_records::Change;
 use std::alloc::Global;
 use std::str;
@@ -50,6 +52,15 @@ fn digest_of(text: &[u8]) -> Result<Digest, Cause> {
     }
 }
 
+/// The last chunk of a session that is closed.
+#[derive(Clone, Copy)]
+enum LastChunk<'b> {
+    /// Its bytes, and how the session is hashed.
+    Bytes(&'b [u8], Hashing<'b>),
+    /// The notes of its pieces, and its length.
+    Noted(&'b [u8], u64),
+}
+
 impl<'s, W: Wait, S: Naming> Player<'s, W, S> {
     /// Creates a player of a store's log, from its first change on.
     pub fn new(rt: &'s W, store: &'s Store<S>, alloc: Global) -> Player<'s, W, S> {
@@ -70,10 +81,10 @@ impl<'s, W: Wait, S: Naming> Player<'s, W, S> {
         }
     }
 
-    /// Returns the repository of an open session.
-    fn repo_of_session(&self, tenant: &str, number: u32) -> Result<&RepoName, Cause> {
+    /// Returns an open session.
+    fn session(&self, tenant: &str, number: u32) -> Result<&OpenSession, Cause> {
         match self.sessions.get(tenant, number) {
-            Some(repo) => Ok(repo),
+            Some(session) => Ok(session),
             None => Err(self.refused(tenant, Refusal::UploadUnknown)),
         }
     }
@@ -95,46 +106,149 @@ impl<'s, W: Wait, S: Naming> Player<'s, W, S> {
         }
     }
 
-    /// Adds a chunk to a session. Its bytes are hashed when the session is closed.
-    fn append(
-        &self,
+    /// Adds a chunk to a session. Unless the session is left open, its bytes are hashed when it is closed.
+    fn append<O: ChangeSink>(
+        &mut self,
         desk: &mut Desk<S>,
+        observer: &O,
         tenant: &[u8],
         number: u64,
         bytes: &[u8],
     ) -> Result<(), Cause> {
-        let tenant = tenant_name(tenant)?;
         let number = session_number(number)?;
-        let repo = self.repo_of_session(tenant, number)?;
-        let later = Hashing::Later;
-        match self
-            .store
-            .append_by(self.rt, desk, repo, number, None, bytes, later)
-        {
-            Ok(_) => Ok(()),
+        let hashing = match observer.left_open(tenant, number) {
+            Some(_) => Hashing::Open,
+            None => Hashing::Later,
+        };
+        let tenant = tenant_name(tenant)?;
+        let repo = &self.session(tenant, number)?.repo;
+        match self.store.append_by(
+            self.rt,
+            observer.files(),
+            desk,
+            repo,
+            number,
+            None,
+            bytes,
+            hashing,
+        ) {
+            Ok(received) => {
+                self.sessions.set_received(tenant, number, received);
+                Ok(())
+            }
             Err(refusal) => Err(self.refused(tenant, refusal)),
         }
     }
 
-    /// Closes a session with its last chunk. If the store is full, sweeps and tries again.
-    fn close_or_sweep(
+    /// Reads a chunk of a session that is left open from the file of its content, and adds it.
+    fn append_read<O: ChangeSink>(
+        &self,
+        desk: &mut Desk<S>,
+        observer: &O,
+        session: &OpenSession,
+        name: ContentName,
+        notes: &[u8],
+    ) -> Result<Result<u64, Refusal>, Cause> {
+        let tenant = session.repo.tenant();
+        let files = observer.files();
+        match read_chunk(files, self.alloc, name, session.received, notes) {
+            Ok(bytes) => Ok(self.store.append_by(
+                self.rt,
+                files,
+                desk,
+                &session.repo,
+                name.number,
+                None,
+                bytes.as_slice(),
+                Hashing::Open,
+            )),
+            Err(error) => Err(Cause::unread(self.alloc, tenant, name.number, error)),
+        }
+    }
+
+    /// Adds a chunk to a session by the notes of its pieces. It is read only if the session is left open.
+    fn append_noted<O: ChangeSink>(
+        &mut self,
+        desk: &mut Desk<S>,
+        observer: &O,
+        tenant: &[u8],
+        number: u64,
+        notes: &[u8],
+    ) -> Result<(), Cause> {
+        let number = session_number(number)?;
+        let left_open = observer.left_open(tenant, number);
+        let tenant = tenant_name(tenant)?;
+        let Some(len) = noted_len(notes) else {
+            return Err(Cause::Malformed);
+        };
+        let session = self.session(tenant, number)?;
+        let appended = match left_open {
+            Some(name) => self.append_read(desk, observer, session, name, notes)?,
+            None => self
+                .store
+                .append_noted(self.rt, desk, &session.repo, number, notes, len),
+        };
+        match appended {
+            Ok(received) => {
+                self.sessions.set_received(tenant, number, received);
+                Ok(())
+            }
+            Err(refusal) => Err(self.refused(tenant, refusal)),
+        }
+    }
+
+    /// Closes a session with its last chunk.
+    fn close(
         &self,
         desk: &mut Desk<S>,
         repo: &RepoName,
         number: u32,
         digest: &Digest,
-        last: &[u8],
-        hashing: Hashing<'_>,
+        last: LastChunk<'_>,
     ) -> Result<u64, Refusal> {
-        let first = self
-            .store
-            .close_by(self.rt, desk, repo, number, digest, None, last, hashing);
-        if !matches!(first, Err(Refusal::StoreFull)) {
-            return first;
+        match last {
+            LastChunk::Bytes(bytes, hashing) => self.store.close_by(
+                self.rt,
+                &NoFiles,
+                desk,
+                repo,
+                number,
+                digest,
+                None,
+                bytes,
+                hashing,
+            ),
+            LastChunk::Noted(notes, len) => self
+                .store
+                .close_noted(self.rt, desk, repo, number, digest, notes, len),
         }
-        let _ = self.store.sweep_at(self.rt, desk);
-        self.store
-            .close_by(self.rt, desk, repo, number, digest, None, last, hashing)
+    }
+
+    /// Closes a session with its last chunk. If the store is full, sweeps and tries again.
+    fn close_or_sweep(
+        &mut self,
+        desk: &mut Desk<S>,
+        tenant: &[u8],
+        number: u64,
+        digest: &[u8],
+        last: LastChunk<'_>,
+    ) -> Result<(), Cause> {
+        let tenant = tenant_name(tenant)?;
+        let number = session_number(number)?;
+        let digest = digest_of(digest)?;
+        let repo = &self.session(tenant, number)?.repo;
+        let mut closed = self.close(desk, repo, number, &digest, last);
+        if matches!(closed, Err(Refusal::StoreFull)) {
+            let _ = self.store.sweep_at(self.rt, desk);
+            closed = self.close(desk, repo, number, &digest, last);
+        }
+        match closed {
+            Ok(_) => {
+                self.sessions.remove(tenant, number);
+                Ok(())
+            }
+            Err(refusal) => Err(self.refused(tenant, refusal)),
+        }
     }
 
     /// Closes a session. Nothing is hashed if a blob with its content is at hand.
@@ -147,28 +261,33 @@ impl<'s, W: Wait, S: Naming> Player<'s, W, S> {
         last: &[u8],
         hashed: Option<&Blob>,
     ) -> Result<(), Cause> {
-        let tenant = tenant_name(tenant)?;
-        let number = session_number(number)?;
-        let digest = digest_of(digest)?;
-        let repo = self.repo_of_session(tenant, number)?;
         let hashing = match hashed {
             Some(blob) => Hashing::Known(blob),
-            None => Hashing::Last(digest.algorithm()),
+            None => Hashing::Last(digest_of(digest)?.algorithm()),
         };
-        match self.close_or_sweep(desk, repo, number, &digest, last, hashing) {
-            Ok(_) => {
-                self.sessions.remove(tenant, number);
-                Ok(())
-            }
-            Err(refusal) => Err(self.refused(tenant, refusal)),
-        }
+        self.close_or_sweep(desk, tenant, number, digest, LastChunk::Bytes(last, hashing))
+    }
+
+    /// Closes a session with its last chunk, by the notes of the chunk's pieces. Nothing is read or hashed.
+    fn seal_noted(
+        &mut self,
+        desk: &mut Desk<S>,
+        tenant: &[u8],
+        number: u64,
+        digest: &[u8],
+        notes: &[u8],
+    ) -> Result<(), Cause> {
+        let Some(len) = noted_len(notes) else {
+            return Err(Cause::Malformed);
+        };
+        self.close_or_sweep(desk, tenant, number, digest, LastChunk::Noted(notes, len))
     }
 
     /// Abandons a session.
     fn abandon(&mut self, desk: &mut Desk<S>, tenant: &[u8], number: u64) -> Result<(), Cause> {
         let tenant = tenant_name(tenant)?;
         let number = session_number(number)?;
-        let repo = self.repo_of_session(tenant, number)?;
+        let repo = &self.session(tenant, number)?.repo;
         match self.store.abandon(self.rt, desk, repo, number) {
             Ok(_) => {
                 self.sessions.remove(tenant, number);
@@ -235,12 +354,14 @@ impl<'s, W: Wait, S: Naming> Player<'s, W, S> {
     /// # Errors
     ///
     /// - `Rewritten` if only a rewritten log has such a record.
-    /// - `Malformed` if a name, a digest or a session's number is not one.
+    /// - `Malformed` if a name, a digest or a session's number is not one, or notes are not those of a chunk.
+    /// - `Content` if a chunk of a session that is left open cannot be read from its file.
     /// - `Refused` if no such session is open, or the store refuses the change.
     /// - `Memory`
-    pub fn play(
+    pub fn play<O: ChangeSink>(
         &mut self,
         desk: &mut Desk<S>,
+        observer: &O,
         change: &Change<'_>,
         hashed: Option<&Blob>,
     ) -> Result<(), Cause> {
@@ -250,7 +371,18 @@ impl<'s, W: Wait, S: Naming> Player<'s, W, S> {
                 tenant,
                 number,
                 bytes,
-            } => self.append(desk, tenant, number, bytes),
+            } => self.append(desk, observer, tenant, number, bytes),
+            Change::ChunkNoted {
+                tenant,
+                number,
+                notes,
+            } => self.append_noted(desk, observer, tenant, number, notes),
+            Change::SealNoted {
+                tenant,
+                number,
+                digest,
+                notes,
+            } => self.seal_noted(desk, tenant, number, digest, notes),
             Change::SessionSealed {
                 tenant,
                 number,
@@ -263,9 +395,10 @@ impl<'s, W: Wait, S: Naming> Player<'s, W, S> {
             Change::ManifestPut { repo, bytes } => self.put_manifest(desk, repo, bytes),
             Change::ManifestDeleted { repo, digest } => self.delete_manifest(desk, repo, digest),
             Change::RepoRemoved { repo } => self.remove_repo(desk, repo),
-            Change::RepoAdded { .. } | Change::NumberSet { .. } | Change::BlobStored { .. } => {
-                Err(Cause::Rewritten)
-            }
+            Change::RepoAdded { .. }
+            | Change::NumberSet { .. }
+            | Change::BlobStored { .. }
+            | Change::BlobNoted { .. } => { Err(Cause::Rewritten) }
         }
     }
 }

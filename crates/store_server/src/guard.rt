@@ -4,6 +4,7 @@ ghost use Rattle.locked_book.specs.Durability.{IsDurable, OnlyLearns};
 ghost use Rattle.locked_book.specs.declared.policy.LogPolicy.TheVariants.{NoLog};
 
 use blob_store::{Desk, LogPolicy, Naming, SharedLogDevice, Store, StoreBackend};
+use content_files::ContentStore;
 use durable_log::CommitError;
 use log_disk::FileBacked;
 use std::sync::Wait;
@@ -90,10 +91,10 @@ impl<'g, S: Naming, D: FileBacked> StoreGuard<'g, S, D> {
     }
 
     /// Commits the desk. Returns `false` if the log failed.
-    fn commit_desk<'s, W: Wait>(
+    fn commit_desk<'s, W: Wait, F: ContentStore>(
         &mut self,
         device: &SharedLogDevice<S, D>,
-        backend: &mut StoreBackend<'s, W, S>,
+        backend: &mut StoreBackend<'s, W, S, F>,
     ) -> bool
         ensures learns { OnlyLearns backend.old.desk backend.new.desk }
         ensures durable { result ≡ true → IsDurable S.names backend.new.desk.trace }
@@ -103,7 +104,7 @@ impl<'g, S: Naming, D: FileBacked> StoreGuard<'g, S, D> {
     }
 }
 
-impl<'g, 's, W: Wait, S: Naming, D: FileBacked> ReplyGuard<StoreBackend<'s, W, S>>
+impl<'g, 's, W: Wait, S: Naming, D: FileBacked, F: ContentStore> ReplyGuard<StoreBackend<'s, W, S, F>>
     for StoreGuard<'g, S, D> {
     ghost use Rattle.std.specs.Prelude.{◌≢◌};
     ghost use Rattle.locked_book.specs.Durability.{IsDurable};
@@ -113,7 +114,7 @@ impl<'g, 's, W: Wait, S: Naming, D: FileBacked> ReplyGuard<StoreBackend<'s, W, S
 
     ghost log_failed = { λ _. S.names.policy ≢ NoLog };
 
-    fn commit(&mut self, backend: &mut StoreBackend<'s, W, S>) -> bool {
+    fn commit(&mut self, backend: &mut StoreBackend<'s, W, S, F>) -> bool {
         let is_durable = backend.desk.is_durable();
         let Some(device) = self.device else {
             return is_durable;

@@ -3,6 +3,7 @@ ghost use Rattle.std.specs.Prelude.{◌≡◌};
 
 use blob_digest::{Digest, Refusal};
 use blob_store::{Lease, Naming, StoreBackend};
+use content_files::ContentStore;
 use lease_table::{LeaseNaming, LeaseWriter, LockedLeaseTable};
 use locked_book::StorePins;
 use std::sync::{Mutex, Wait};
@@ -21,7 +22,7 @@ pub struct SharedLeases<'l, 's, W: Wait, S: Naming, L: LeaseNaming> {
     pub writer: LeaseWriter<L>,
 }
 
-impl<'l, 's, W: Wait, S: Naming, L: LeaseNaming> LeaseStore<StoreBackend<'s, W, S>>
+impl<'l, 's, W: Wait, S: Naming, L: LeaseNaming, F: ContentStore> LeaseStore<StoreBackend<'s, W, S, F>>
     for SharedLeases<'l, 's, W, S, L> {
     ghost use Rattle.lease_table.specs.Histories.{AddsEvent};
 
