@@ -1,5 +1,5 @@
 //! Serves connections on a store whose log is replayed and continued.
-ghost use Rattle.std.specs.Prelude.{◌≡◌, [], false, IfOk, OnOk};
+ghost use Rattle.std.specs.Prelude.{◌≡◌, [], IfOk, OnOk};
 ghost use Rattle.blob_store.specs.Parts.{names_of};
 ghost use Rattle.blob_store.specs.Starts.{IsStarted};
 ghost use Rattle.blob_store.specs.StoreCalls.{AreBalancedTotals};
@@ -9,7 +9,6 @@ ghost use Rattle.store_server.specs.Connections.{AreServed, AreServedOn};
 use crate::hashers::Hashers;
 use blob_digest::Refusal;
 use blob_store::{Desk, LogPolicy, Naming, Parts, SharedLogDevice, StartedLog, Store, Totals};
-use content_files::NoFiles;
 use durable_log::{CommitError, IdleDevice};
 use ghost_log::SharedLog;
 use lease_table::{LeaseEvent, LeaseNaming};
@@ -369,13 +368,13 @@ fn serve_started<
 ) -> Result<ServedLog<S>, ServeFault>
     requires log { (leases.name ≡ L.log) × (leases.entries ≡ []) }
     ensures start { IfOk result (λ r. IsStarted S.names r.start.value) }
-    ensures served { OnOk result (AreServed false S.names L.log I.remaining O.contents lines.old lines.new) }
+    ensures served { OnOk result (AreServed S.names L.log I.remaining O.contents lines.old lines.new) }
     ensures totals { IfOk result (λ r. AreBalancedTotals r.totals) }
 {
     started.reveal_start();
     let start = Snapshot::of(&started);
-    let (totals, device) = serve_on::<W, S, L, FolderDisk, NoFiles, I, O>(
-        rt, alloc, store, &NoFiles, started, end, leases, lines,
+    let (totals, device) = serve_on::<W, S, L, FolderDisk, I, O>(
+        rt, alloc, store, started, end, leases, lines,
     )?;
     match finish_log(rt, store, device) {
         Ok(()) => Ok(ServedLog { totals, start }),
@@ -406,7 +405,7 @@ fn serve_log_parts<
     requires named { names_of parts ≡ S.names }
     requires log { (leases.name ≡ L.log) × (leases.entries ≡ []) }
     ensures start { IfOk result (λ r. IsStarted S.names r.start.value) }
-    ensures served { OnOk result (AreServed false S.names L.log I.remaining O.contents lines.old lines.new) }
+    ensures served { OnOk result (AreServed S.names L.log I.remaining O.contents lines.old lines.new) }
     ensures totals { IfOk result (λ r. AreBalancedTotals r.totals) }
 {
     let ExaminedLog {
@@ -443,7 +442,7 @@ fn serve_for_totals<
 ) -> Result<Totals, ServeFault>
     requires named { names_of parts ≡ S.names }
     requires log { (leases.name ≡ L.log) × (leases.entries ≡ []) }
-    ensures served { OnOk result (AreServed false S.names L.log I.remaining O.contents lines.old lines.new) }
+    ensures served { OnOk result (AreServed S.names L.log I.remaining O.contents lines.old lines.new) }
     ensures totals { IfOk result (λ t. AreBalancedTotals t) }
 {
     let served = serve_log_parts::<W, S, L, I, O>(rt, alloc, parts, examined, leases, end, lines)?;
@@ -477,7 +476,7 @@ pub fn serve_log<
     end: &Arc<EndCell, Global>,
     lines: &mut [Connection<I, O>],
 ) -> Result<Totals, ServeFault>
-    ensures served { OnOk result (AreServedOn false parts I.remaining O.contents lines.old lines.new) }
+    ensures served { OnOk result (AreServedOn parts I.remaining O.contents lines.old lines.new) }
     ensures totals { IfOk result (λ t. AreBalancedTotals t) }
 {
     let leases = SharedLog::new(alloc)?;

@@ -57,8 +57,8 @@ fn digest_of(text: &[u8]) -> Result<Digest, Cause> {
 enum LastChunk<'b> {
     /// Its bytes, and how the session is hashed.
     Bytes(&'b [u8], Hashing<'b>),
-    /// The notes of its pieces, and its length.
-    Noted(&'b [u8], u64),
+    /// The notes of its pieces.
+    Noted(&'b [u8]),
 }
 
 impl<'s, W: Wait, S: Naming> Player<'s, W, S> {
@@ -152,16 +152,18 @@ impl<'s, W: Wait, S: Naming> Player<'s, W, S> {
         let tenant = session.repo.tenant();
         let files = observer.files();
         match read_chunk(files, self.alloc, name, session.received, notes) {
-            Ok(bytes) => Ok(self.store.append_by(
-                self.rt,
-                files,
-                desk,
-                &session.repo,
-                name.number,
-                None,
-                bytes.as_slice(),
-                Hashing::Open,
-            )),
+            Ok(bytes) => Ok(
+                self.store.append_by(
+                    self.rt,
+                    files,
+                    desk,
+                    &session.repo,
+                    name.number,
+                    None,
+                    bytes.as_slice(),
+                    Hashing::Open,
+                ),
+            ),
             Err(error) => Err(Cause::unread(self.alloc, tenant, name.number, error)),
         }
     }
@@ -208,19 +210,14 @@ impl<'s, W: Wait, S: Naming> Player<'s, W, S> {
     ) -> Result<u64, Refusal> {
         match last {
             LastChunk::Bytes(bytes, hashing) => self.store.close_by(
-                self.rt,
-                &NoFiles,
-                desk,
-                repo,
-                number,
-                digest,
-                None,
-                bytes,
-                hashing,
+                self.rt, &NoFiles, desk, repo, number, digest, None, bytes, hashing,
             ),
-            LastChunk::Noted(notes, len) => self
-                .store
-                .close_noted(self.rt, desk, repo, number, digest, notes, len),
+            LastChunk::Noted(notes) => match noted_len(notes) {
+                Some(len) => self
+                    .store
+                    .close_noted(self.rt, desk, repo, number, digest, notes, len),
+                None => Err(Refusal::Memory),
+            },
         }
     }
 
@@ -265,7 +262,13 @@ impl<'s, W: Wait, S: Naming> Player<'s, W, S> {
             Some(blob) => Hashing::Known(blob),
             None => Hashing::Last(digest_of(digest)?.algorithm()),
         };
-        self.close_or_sweep(desk, tenant, number, digest, LastChunk::Bytes(last, hashing))
+        self.close_or_sweep(
+            desk,
+            tenant,
+            number,
+            digest,
+            LastChunk::Bytes(last, hashing),
+        )
     }
 
     /// Closes a session with its last chunk, by the notes of the chunk's pieces. Nothing is read or hashed.
@@ -277,10 +280,10 @@ impl<'s, W: Wait, S: Naming> Player<'s, W, S> {
         digest: &[u8],
         notes: &[u8],
     ) -> Result<(), Cause> {
-        let Some(len) = noted_len(notes) else {
+        if noted_len(notes).is_none() {
             return Err(Cause::Malformed);
-        };
-        self.close_or_sweep(desk, tenant, number, digest, LastChunk::Noted(notes, len))
+        }
+        self.close_or_sweep(desk, tenant, number, digest, LastChunk::Noted(notes))
     }
 
     /// Abandons a session.
