@@ -104,8 +104,9 @@ impl<'g, S: Naming, D: FileBacked> StoreGuard<'g, S, D> {
     }
 }
 
-impl<'g, 's, W: Wait, S: Naming, D: FileBacked, F: ContentStore> ReplyGuard<StoreBackend<'s, W, S, F>>
-    for StoreGuard<'g, S, D> {
+impl<'g, 's, W: Wait, S: Naming, D: FileBacked, F: ContentStore> ReplyGuard<
+    StoreBackend<'s, W, S, F>,
+> for StoreGuard<'g, S, D> {
     ghost use Rattle.std.specs.Prelude.{◌≢◌};
     ghost use Rattle.locked_book.specs.Durability.{IsDurable};
     ghost use Rattle.locked_book.specs.declared.policy.LogPolicy.TheVariants.{NoLog};

@@ -22,8 +22,9 @@ pub struct SharedLeases<'l, 's, W: Wait, S: Naming, L: LeaseNaming> {
     pub writer: LeaseWriter<L>,
 }
 
-impl<'l, 's, W: Wait, S: Naming, L: LeaseNaming, F: ContentStore> LeaseStore<StoreBackend<'s, W, S, F>>
-    for SharedLeases<'l, 's, W, S, L> {
+impl<'l, 's, W: Wait, S: Naming, L: LeaseNaming, F: ContentStore> LeaseStore<
+    StoreBackend<'s, W, S, F>,
+> for SharedLeases<'l, 's, W, S, L> {
     ghost use Rattle.lease_table.specs.Histories.{AddsEvent};
 
     ghost does = { λ old event new. AddsEvent old.writer event new.writer };
