@@ -8,13 +8,14 @@ use Rattle.std.specs.BTreeSet as tree_set
 use Rattle.std.specs.Cmp.Lexicographic.{slice_cmp}
 use Rattle.std.specs.Ordering.{nat_cmp, ordering_then}
 use Rattle.blob_digest.specs.Names.{tenant_name}
-use Rattle.log_records.specs.Changes.{BlobLinked, BlobUnlinked, Change, ChunkReceived, ManifestDeleted, ManifestPut, RepoRemoved, SessionDropped, SessionOpened, SessionSealed, change_view}
+use Rattle.log_records.specs.Changes.{BlobLinked, BlobUnlinked, Change, ChunkNoted, ChunkReceived, ManifestDeleted, ManifestPut, RepoRemoved, SealNoted, SessionDropped, SessionOpened, SessionSealed, change_view}
 use Rattle.log_rewriting.specs.declared.blobs.Blob.{Blob}
 use Rattle.log_rewriting.specs.declared.filter.Filter.{Filter}
 use Rattle.log_rewriting.specs.declared.kept.Kept.{Kept}
 use Rattle.log_rewriting.specs.declared.kept.Kept.TheVariants as kept
 use Rattle.log_rewriting.specs.declared.place.Place.{Place}
 use Rattle.log_rewriting.specs.declared.place.Place.TheVariants as place
+use Rattle.log_rewriting.specs.declared.seals.LastSeal.{LastSeal}
 
 -- the changes in place of one, as a list
 abbrev pub kept_view : Kept → List Change
@@ -36,7 +37,11 @@ HasSessions s ks = list_all (tree_set.contains session_cmp s) ks ≡ true
 
 -- the session whose seal made a blob: the number of its tenant, and its own
 abbrev pub blob_session : (ℕ × List ℕ) × Blob → ℕ × ℕ
-blob_session e = (e.0.0, e.1.number)
+blob_session e = (e.0.0, e.1.seal.number)
+
+-- the session of the last seal of a digest: the number of its tenant, and its own
+abbrev pub last_session : List ℕ × LastSeal → ℕ × ℕ
+last_session e = (e.1.tenant, e.1.seal.number)
 
 -- the second set has each session of the first
 abbrev pub KeepsSessions : tree_set.BTreeSet (ℕ × ℕ) → tree_set.BTreeSet (ℕ × ℕ) → Type 0
@@ -61,9 +66,9 @@ place_at F offset = tree.get_by (nat_cmp offset) F.places
 abbrev pub name_of : Filter → ℕ → List ℕ
 name_of F repo = option_map_or (λ name. name.items) (slice_get F.names.items repo) []
 
--- the change, if its session is kept; otherwise others
-abbrev pub if_kept : Bool → Change → List Change → List Change
-if_kept b change others = if b then change ∷ [] else others
+-- the change, if its session is kept
+abbrev pub if_kept : Bool → Change → List Change
+if_kept b change = if b then change ∷ [] else []
 
 -- a session is opened; if it is not kept, it is abandoned at once
 abbrev pub kept_opened : Filter → List ℕ → ℕ → List Change
@@ -76,6 +81,15 @@ abbrev pub kept_link : Filter → Option Place → List ℕ → List Change
 kept_link F (Some (place.Link repo unlinked)) digest =
     BlobLinked (name_of F repo) digest ∷ option_map_or (λ u. BlobUnlinked (name_of F u) digest ∷ []) unlinked []
 kept_link F p digest = []
+
+-- a seal that is kept; then a repository's link may be removed
+abbrev pub kept_seal : Filter → Option Place → List ℕ → Change → List Change
+kept_seal F (Some (place.Link repo (Some u))) digest seal = seal ∷ BlobUnlinked (name_of F u) digest ∷ []
+kept_seal F p digest seal = seal ∷ []
+
+-- a seal of a session that is kept, or the kept link of its record
+abbrev pub kept_sealed : Filter → Bool → Option Place → List ℕ → Change → List Change
+kept_sealed F b p digest seal = if b then kept_seal F p digest seal else kept_link F p digest
 
 -- an image index without manifests
 abbrev pub empty_index : List ℕ
@@ -104,10 +118,13 @@ kept_mount F p repo digest = kept_link F p digest
 abbrev pub kept_changes : Filter → Change → ℕ → List Change
 kept_changes F (SessionOpened repo number) offset = kept_opened F repo number
 kept_changes F (ChunkReceived tenant number bytes) offset =
-    if_kept (is_kept F tenant number) (ChunkReceived tenant number bytes) []
+    if_kept (is_kept F tenant number) (ChunkReceived tenant number bytes)
+kept_changes F (ChunkNoted tenant number notes) offset =
+    if_kept (is_kept F tenant number) (ChunkNoted tenant number notes)
 kept_changes F (SessionSealed tenant number digest last) offset =
-    if_kept (is_kept F tenant number) (SessionSealed tenant number digest last)
-    (kept_link F (place_at F offset) digest)
+    kept_sealed F (is_kept F tenant number) (place_at F offset) digest (SessionSealed tenant number digest last)
+kept_changes F (SealNoted tenant number digest notes) offset =
+    kept_sealed F (is_kept F tenant number) (place_at F offset) digest (SealNoted tenant number digest notes)
 kept_changes F (BlobLinked repo digest) offset = kept_mount F (place_at F offset) repo digest
 kept_changes F (ManifestPut repo bytes) offset = kept_manifest (place_at F offset) repo bytes
 kept_changes F (RepoRemoved repo) offset = RepoRemoved repo ∷ []

@@ -3,6 +3,7 @@ ghost use Rattle.std.specs.Prelude.{◌≡◌};
 
 use crate::error::InventoryError;
 use crate::lengths::{digest_len, record_len};
+use crate::seals::{LastSeal, Seal, SealedLink};
 use blob_digest::Digest;
 use std::alloc::Global;
 use std::collections::{BTreeMap, BTreeSet};
@@ -54,10 +55,8 @@ pub struct Move {
 /// A blob that a tenant holds, since the seal of a session made it.
 #[derive(Drop)]
 pub struct Blob {
-    /// The session.
-    pub session: Session,
-    /// The number of the session.
-    pub number: u64,
+    /// The seal.
+    pub seal: Seal,
     /// The links of the tenant's repositories. There is at least one.
     pub links: BTreeMap<usize, Link>,
     /// The repository of the session, or that of the last move.
@@ -73,6 +72,8 @@ pub type BlobKey = (usize, Digest);
 #[derive(Drop)]
 pub struct Blobs {
     blobs: BTreeMap<BlobKey, Blob>,
+    /// The last seals of the digests that tenants hold since a seal by notes.
+    last: BTreeMap<Digest, LastSeal>,
     /// For each repository the blobs whose anchor it is although it has lost the link.
     left: BTreeMap<usize, BTreeSet<Digest>>,
     dropped: u64,
@@ -90,6 +91,7 @@ impl Blobs {
     pub fn new(alloc: Global) -> Blobs {
         Blobs {
             blobs: BTreeMap::new(alloc),
+            last: BTreeMap::new(alloc),
             left: BTreeMap::new(alloc),
             dropped: 0,
         }
@@ -102,12 +104,35 @@ impl Blobs {
         &self.blobs
     }
 
+    /// Returns the last seals of the digests that tenants hold since a seal by notes.
+    pub fn last(&self) -> &BTreeMap<Digest, LastSeal>
+        ensures { result.now ≡ self.now.last }
+    {
+        &self.last
+    }
+
+    /// Returns whether a seal made the blob that its tenant holds.
+    fn is_of_blob(&self, digest: &Digest, last: &LastSeal) -> bool {
+        self.blobs
+            .get(&(last.tenant, *digest))
+            .is_some_and(|blob| blob.seal.number == last.seal.number)
+    }
+
+    /// Returns what the last seal of a digest does to the link of its repository in the rewritten log, or `None` if it made the
+    /// tenant's blob.
+    pub fn sealed_link(&self, digest: &Digest, last: &LastSeal) -> Option<SealedLink> {
+        if self.is_of_blob(digest, last) {
+            return None;
+        }
+        Some(last.link(self.blobs.get(&(last.tenant, *digest))))
+    }
+
     /// Notes the end of a session that is not kept.
     pub fn drop_session(&mut self, session: &Session) {
         self.dropped = self.dropped.saturating_add(session.pair_len);
     }
 
-    /// Notes that a session of a tenant became a blob, by the record at an offset. Returns whether the link is new.
+    /// Notes that a session of a tenant became a blob. Returns whether the link is new.
     ///
     /// # Errors
     ///
@@ -116,23 +141,25 @@ impl Blobs {
         &mut self,
         alloc: Global,
         key: BlobKey,
-        number: u64,
-        session: Session,
-        offset: u64,
+        seal: Seal,
     ) -> Result<bool, InventoryError> {
+        let is_held = self.blobs.contains_key(&key);
+        let is_last = seal.is_noted && self.note_last(&key, &seal, is_held)?;
+        let session = seal.session;
         let link = Link {
-            offset,
+            offset: seal.offset,
             len: record_len(session.name_len, digest_len(&key.1), 0),
         };
-        if self.blobs.contains_key(&key) {
-            self.drop_session(&session);
+        if is_held {
+            if !is_last {
+                self.drop_session(&session);
+            }
             return self.link(key, session.repo, link);
         }
         let mut links = BTreeMap::new(alloc);
         links.insert(session.repo, link)?;
         let blob = Blob {
-            session,
-            number,
+            seal,
             links,
             anchor: Anchor {
                 repo: session.repo,
@@ -142,6 +169,61 @@ impl Blobs {
         };
         self.blobs.insert(key, blob)?;
         Ok(true)
+    }
+
+    /// Notes a seal by notes as the last one of its digest, and returns `true`. If the blob is held, but not since a seal by
+    /// notes, the log has its bytes. Then it returns `false`.
+    ///
+    /// # Errors
+    ///
+    /// - `Memory`: out of memory.
+    fn note_last(
+        &mut self,
+        key: &BlobKey,
+        seal: &Seal,
+        is_held: bool,
+    ) -> Result<bool, InventoryError> {
+        let before = self.last.get(&key.1).copied();
+        let mut holders = match before {
+            Some(before) => before.holders,
+            None if is_held => return Ok(false),
+            None => 0,
+        };
+        if let Some(before) = before {
+            if !self.is_of_blob(&key.1, &before) {
+                self.drop_session(&before.seal.session);
+            }
+        }
+        if !is_held {
+            holders = holders.saturating_add(1);
+        }
+        let last = LastSeal {
+            tenant: key.0,
+            seal: *seal,
+            holders,
+        };
+        self.last.insert(key.1, last)?;
+        Ok(true)
+    }
+
+    /// Notes that a tenant does not hold a blob any more. Its session is not kept, unless its seal is the last one of a digest that
+    /// another tenant holds.
+    fn release(&mut self, key: &BlobKey, seal: &Seal) {
+        let Some(last) = self.last.get_mut(&key.1) else {
+            return self.drop_session(&seal.session);
+        };
+        if !seal.is_noted {
+            return self.drop_session(&seal.session);
+        }
+        last.holders = last.holders.saturating_sub(1);
+        let last = *last;
+        if last.tenant != key.0 || last.seal.number != seal.number {
+            self.drop_session(&seal.session);
+        }
+        if last.holders == 0 {
+            self.drop_session(&last.seal.session);
+            self.last.remove(&key.1);
+        }
     }
 
     /// Notes that a repository links a blob. A link that exists stays as it is. Returns whether the link is new.
@@ -187,9 +269,9 @@ impl Blobs {
             }
             return Ok((link, None));
         }
-        let session = blob.session;
+        let seal = blob.seal;
         self.stays(anchor, &key.1);
-        self.drop_session(&session);
+        self.release(&key, &seal);
         Ok((link, self.blobs.remove(&key)))
     }
 
@@ -238,13 +320,26 @@ impl Blobs {
         }
     }
 
-    /// Returns whether the tenants hold the same blobs, with the same links.
+    /// Returns whether the tenants hold the same blobs, with the same links, and the same sessions sealed their contents last.
     pub fn is_same(&self, other: &Blobs) -> bool {
         self.blobs.len() == other.blobs.len()
             && self
                 .blobs
                 .iter()
                 .all(|(key, blob)| other.has_links(key, &blob.links))
+            && self.last.len() == other.last.len()
+            && self
+                .last
+                .iter()
+                .all(|(digest, last)| other.has_last(digest, last))
+    }
+
+    /// Returns whether the same session sealed a content last.
+    fn has_last(&self, digest: &Digest, last: &LastSeal) -> bool {
+        match self.last.get(digest) {
+            Some(found) => { found.tenant == last.tenant && found.seal.number == last.seal.number }
+            None => false,
+        }
     }
 
     /// Returns whether a blob exists with these links.
@@ -264,13 +359,28 @@ impl Blobs {
         for blob in self.blobs.values() {
             live = live.saturating_add(blob_live(blob));
         }
+        for (digest, last) in self.last.iter() {
+            live = live.saturating_add(self.last_live(digest, last));
+        }
         live
+    }
+
+    /// Returns the bytes of the records that the rewritten log has for the last seal of a digest in addition to those for blobs.
+    fn last_live(&self, digest: &Digest, last: &LastSeal) -> u64 {
+        let session = &last.seal.session;
+        let link = record_len(session.name_len, digest_len(digest), 0);
+        match self.sealed_link(digest, last) {
+            None => 0,
+            Some(SealedLink::There) => session.bytes,
+            Some(SealedLink::Made) => session.bytes.saturating_sub(link),
+            Some(SealedLink::Extra) => session.bytes.saturating_add(link),
+        }
     }
 }
 
 /// Returns the bytes of the records that the rewritten log has for a blob and its links.
 fn blob_live(blob: &Blob) -> u64 {
-    let mut live = blob.session.bytes;
+    let mut live = blob.seal.session.bytes;
     for (repo, link) in blob.links.iter() {
         if *repo != blob.anchor.repo {
             live = live.saturating_add(link.len);

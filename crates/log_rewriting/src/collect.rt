@@ -1,12 +1,13 @@
 //! Collects the parts of a filter.
 ghost use Rattle.std.specs.Prelude.{◌≡◌, OnOk, map};
 ghost use Rattle.std.specs.BTreeMap as tree;
-ghost use Rattle.log_rewriting.specs.Keeping.{HasSession, HasSessions, KeepsSessions, blob_session};
+ghost use Rattle.log_rewriting.specs.Keeping.{HasSession, HasSessions, KeepsSessions, blob_session, last_session};
 
-use crate::blobs::{Blob, BlobKey, Link, Move, Session, first_link};
+use crate::blobs::{Blob, BlobKey, Blobs, Link, Move, Session, first_link};
 use crate::inventory::{SessionKey, Stored};
 use crate::names::{Names, Tenant};
 use crate::place::Place;
+use crate::seals::{LastSeal, SealedLink};
 use blob_digest::Digest;
 use std::alloc::{AllocError, Global};
 use std::collections::{BTreeMap, BTreeSet};
@@ -43,7 +44,21 @@ pub fn add_held(
     ensures kept { KeepsSessions kept.old kept.new }
 {
     for (key, blob) in blobs.iter() {
-        add_session(kept, (key.0, blob.number))?;
+        add_session(kept, (key.0, blob.seal.number))?;
+    }
+    Ok(())
+}
+
+/// Adds the sessions of the last seals of digests to a set.
+pub fn add_last(
+    kept: &mut BTreeSet<SessionKey>,
+    seals: &BTreeMap<Digest, LastSeal>,
+) -> Result<(), AllocError>
+    ensures there { OnOk result (HasSessions kept.new (map last_session seals.now.entries)) }
+    ensures kept { KeepsSessions kept.old kept.new }
+{
+    for (_digest, last) in seals.iter() {
+        add_session(kept, (last.tenant, last.seal.number))?;
     }
     Ok(())
 }
@@ -55,9 +70,24 @@ pub fn add_links(
 ) -> Result<(), AllocError> {
     for blob in blobs.values() {
         add_links_of(places, &blob.links, blob.anchor.repo)?;
-        add_moves(places, blob.moves.as_slice(), blob.session.repo)?;
+        add_moves(places, blob.moves.as_slice(), blob.seal.session.repo)?;
         if blob.is_moved() {
             add_last_move(places, &blob.links, blob.anchor.repo)?;
+        }
+    }
+    Ok(())
+}
+
+/// Adds the places of the last seals of digests that make a link which the rewritten log does not have.
+pub fn add_extra(places: &mut BTreeMap<u64, Place>, blobs: &Blobs) -> Result<(), AllocError> {
+    for (digest, last) in blobs.last().iter() {
+        if blobs.sealed_link(digest, last) == Some(SealedLink::Extra) {
+            let repo = last.seal.session.repo;
+            let place = Place::Link {
+                repo,
+                unlinked: Some(repo),
+            };
+            places.insert(last.seal.offset, place)?;
         }
     }
     Ok(())

@@ -1,7 +1,7 @@
 //! The second pass: the changes of the rewritten log.
 ghost use Rattle.std.specs.Prelude.{◌≡◌};
 ghost use Rattle.log_records.specs.Changes.{SessionOpened, change_view};
-ghost use Rattle.log_rewriting.specs.Keeping.{empty_repo, is_kept, kept_changes, kept_link, kept_opened, kept_view, name_of, place_at};
+ghost use Rattle.log_rewriting.specs.Keeping.{empty_repo, is_kept, kept_changes, kept_link, kept_opened, kept_seal, kept_view, name_of, place_at};
 
 use crate::empty_index::{EMPTY_INDEX, EMPTY_INDEX_DIGEST};
 use crate::inventory::SessionKey;
@@ -30,13 +30,16 @@ impl Filter {
     /// | Change | In its place |
     /// |---|---|
     /// | a session is opened | the same; then the session is abandoned, if it is not kept |
-    /// | a chunk or a seal of a kept session | the same |
+    /// | a chunk of a kept session | the same |
+    /// | a seal of a kept session | the same; then the end of a link, if the place of the record names one |
     /// | a seal of another, a link | the link, if this record made it and it exists at the end |
     /// | a manifest is put | the same, if this record put it and it exists at the end |
     /// | a repository is removed | the same |
     /// | any other | nothing |
     ///
     /// - A session is kept if it is open at the end, or if its seal made a blob that the tenant holds from then to the end.
+    /// - It is kept as well if its seal is the last one by notes of a digest that a tenant holds at the end. Its repository may not
+    ///   have the link at that place. Then the link is removed at once.
     /// - The repository of that session may not link the blob at the end. Then its link is removed after the first other link.
     /// - If the repository of that session is removed before, the link is removed after the first link that exists at that time.
     ///   This link is kept until another one takes its place in the same way.
@@ -54,7 +57,8 @@ impl Filter {
     {
         match *change {
             Change::SessionOpened { repo, number } => self.keep_opened(change, repo, number),
-            Change::ChunkReceived { tenant, number, .. } => {
+            Change::ChunkReceived { tenant, number, .. }
+            | Change::ChunkNoted { tenant, number, .. } => {
                 if self.keeps(tenant, number) {
                     Kept::One(*change)
                 } else {
@@ -66,9 +70,15 @@ impl Filter {
                 number,
                 digest,
                 ..
+            }
+            | Change::SealNoted {
+                tenant,
+                number,
+                digest,
+                ..
             } => {
                 if self.keeps(tenant, number) {
-                    Kept::One(*change)
+                    self.keep_seal(change, digest, offset)
                 } else {
                     self.keep_link(digest, offset)
                 }
@@ -124,6 +134,27 @@ impl Filter {
             Kept::One(*change)
         } else {
             Kept::Two(*change, Change::SessionDropped { tenant, number })
+        }
+    }
+
+    /// Returns the seal of a session that is kept, with the end of the link that its place names.
+    fn keep_seal<'a>(&'a self, seal: &Change<'a>, digest: &'a [u8], offset: u64) -> Kept<'a>
+        ensures { kept_view result ≡ kept_seal self.now (place_at self.now offset) digest.now (change_view seal.now) }
+    {
+        match self.place(offset) {
+            Some(
+                Place::Link {
+                    repo: _,
+                    unlinked: Some(unlinked),
+                },
+            ) => Kept::Two(
+                *seal,
+                Change::BlobUnlinked {
+                    repo: self.name(unlinked),
+                    digest,
+                },
+            ),
+            _ => Kept::One(*seal),
         }
     }
 

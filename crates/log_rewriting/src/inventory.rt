@@ -2,20 +2,22 @@
 ghost use Rattle.std.specs.Prelude.{◌≡◌, Err, IfOk, false};
 ghost use Rattle.blob_digest.specs.Digests.{is_digest_text};
 ghost use Rattle.log_records.specs.Changes.{change_view};
-ghost use Rattle.log_rewriting.specs.Held.{held_sessions, open_sessions};
+ghost use Rattle.log_rewriting.specs.Held.{held_sessions, last_sessions, open_sessions};
 ghost use Rattle.log_rewriting.specs.Keeping.{KeepsEach};
 ghost use Rattle.log_rewriting.specs.Refused.{HasInvalidDigest, IsForeign};
 ghost use Rattle.log_rewriting.specs.declared.error.InventoryError.TheVariants.{DigestInvalid, KindUnexpected};
 
 use crate::blobs::{Blob, BlobKey, Blobs, Link, Session};
 use crate::collect::{
-    add_bare, add_held, add_links, add_manifests, add_open, add_repos, names_of, numbers_of,
+    add_bare, add_extra, add_held, add_last, add_links, add_manifests, add_open, add_repos,
+    names_of, numbers_of,
 };
 use crate::error::InventoryError;
 use crate::filter::Filter;
 use crate::lengths::{change_len, digest_len, record_len};
 use crate::names::{Names, Tenant};
 use crate::place::Place;
+use crate::seals::Seal;
 use blob_digest::{Algorithm, Digest};
 use log_records::Change;
 use std::alloc::{AllocError, Global};
@@ -100,13 +102,20 @@ impl Inventory {
         self.total = self.total.saturating_add(len);
         match *change {
             Change::SessionOpened { repo, number } => self.note_opened(repo, number, offset),
-            Change::ChunkReceived { tenant, number, .. } => self.note_chunk(tenant, number, len),
+            Change::ChunkReceived { tenant, number, .. }
+            | Change::ChunkNoted { tenant, number, .. } => self.note_chunk(tenant, number, len),
             Change::SessionSealed {
                 tenant,
                 number,
                 digest,
                 ..
-            } => self.note_sealed(tenant, number, digest, offset, len),
+            } => self.note_sealed(tenant, number, digest, offset, len, false),
+            Change::SealNoted {
+                tenant,
+                number,
+                digest,
+                ..
+            } => self.note_sealed(tenant, number, digest, offset, len, true),
             Change::SessionDropped { tenant, number } => self.note_dropped(tenant, number),
             Change::BlobLinked { repo, digest } => self.note_linked(repo, digest, offset, len),
             Change::BlobUnlinked { repo, digest } => self.note_unlinked(repo, digest),
@@ -116,8 +125,6 @@ impl Inventory {
             Change::RepoAdded { .. }
             | Change::NumberSet { .. }
             | Change::BlobStored { .. }
-            | Change::ChunkNoted { .. }
-            | Change::SealNoted { .. }
             | Change::BlobNoted { .. } => Err(InventoryError::KindUnexpected),
         }
     }
@@ -152,10 +159,12 @@ impl Inventory {
     pub fn filter(&self) -> Result<Filter, AllocError>
         ensures open { IfOk result (λ F. KeepsEach F (open_sessions self.now)) }
         ensures held { IfOk result (λ F. KeepsEach F (held_sessions self.now)) }
+        ensures last { IfOk result (λ F. KeepsEach F (last_sessions self.now)) }
     {
         let mut sessions = BTreeSet::new(self.alloc);
         add_open(&mut sessions, &self.sessions)?;
         add_held(&mut sessions, self.blobs.map())?;
+        add_last(&mut sessions, self.blobs.last())?;
         Ok(Filter {
             names: names_of(self.alloc, self.names.ids())?,
             tenants: numbers_of(self.alloc, self.names.tenants())?,
@@ -168,17 +177,18 @@ impl Inventory {
     fn places(&self) -> Result<BTreeMap<u64, Place>, AllocError> {
         let mut places = BTreeMap::new(self.alloc);
         add_links(&mut places, self.blobs.map())?;
+        add_extra(&mut places, &self.blobs)?;
         add_manifests(&mut places, &self.manifests)?;
         add_repos(&mut places, &self.names)?;
         add_bare(&mut places, &self.names)?;
         Ok(places)
     }
 
-    /// Returns whether another log leaves the same state: the same repositories, session numbers, links and manifests, and the
-    /// same open sessions with records of the same length.
+    /// Returns whether another log leaves the same state: the same repositories, session numbers, links and manifests, the same
+    /// open sessions with records of the same length, and contents in files of the same sessions.
     ///
     /// A rewritten log has the state of the old one. A caller can check it before it uses the new log: it notes the changes of the
-    /// new log in a second inventory. The contents of blobs need no check, because a replay computes their digests.
+    /// new log in a second inventory. Other contents of blobs need no check, because a replay computes their digests.
     ///
     /// # Cost
     ///
@@ -256,6 +266,7 @@ impl Inventory {
         digest: &[u8],
         offset: u64,
         len: u64,
+        is_noted: bool,
     ) -> Result<(), InventoryError>
         ensures { is_digest_text digest.now ≡ false → result ≡ Err DigestInvalid }
     {
@@ -263,10 +274,13 @@ impl Inventory {
         let (tenant, mut session) = self.close_session(tenant, number)?;
         session.bytes = session.bytes.saturating_add(len);
         let repo = session.repo;
-        if self
-            .blobs
-            .seal(self.alloc, (tenant, digest), number, session, offset)?
-        {
+        let seal = Seal {
+            number,
+            session,
+            offset,
+            is_noted,
+        };
+        if self.blobs.seal(self.alloc, (tenant, digest), seal)? {
             self.names.use_repo(repo);
         }
         Ok(())

@@ -19,12 +19,14 @@ mod lengths;
 mod logs;
 mod names;
 mod place;
+mod seals;
 mod writing;
 
 pub use error::InventoryError;
 pub use failure::RewriteError;
 pub use filter::Filter;
 pub use inventory::Inventory;
+pub use joining::{Receiver, give_changes};
 pub use kept::Kept;
 pub use logs::{LogRewriting, take_inventory};
 pub use writing::RecordWriter;
