@@ -5,6 +5,7 @@
 //! file. A change that needs something that is lost is left out, and is named at the end ([`Loss`]).
 #![tactic(auto)]
 
+mod ending;
 mod error;
 mod frames;
 mod header;

@@ -1,9 +1,11 @@
 //! Decides which changes a store can still make, and writes their records.
 
+use crate::ending::{add_losses, end_sessions};
 use crate::loss::Loss;
 use crate::repos::Repo;
-use crate::sessions::{Session, Tenant};
+use crate::sessions::{Received, Session, Tenant};
 use blob_digest::{Digest, Refusal, RepoName};
+use content_files::noted_len;
 use log_frames::Cursor;
 use log_records::Change;
 use log_rewriting::{RecordWriter, RewriteError};
@@ -89,6 +91,17 @@ impl<W: Write + Drop> Maker<W> {
                 number,
                 bytes,
             } => self.append(change, tenant, number, bytes),
+            Change::ChunkNoted {
+                tenant,
+                number,
+                notes,
+            } => self.append_noted(change, tenant, number, notes),
+            Change::SealNoted {
+                tenant,
+                number,
+                digest,
+                notes,
+            } => self.seal_noted(change, tenant, number, digest, notes),
             Change::SessionSealed {
                 tenant,
                 number,
@@ -104,8 +117,6 @@ impl<W: Write + Drop> Maker<W> {
             Change::RepoAdded { .. }
             | Change::NumberSet { .. }
             | Change::BlobStored { .. }
-            | Change::ChunkNoted { .. }
-            | Change::SealNoted { .. }
             | Change::BlobNoted { .. } => {
                 Ok(()) // No store writes such a record.
             }
@@ -141,7 +152,7 @@ impl<W: Write + Drop> Maker<W> {
         self.repo(name.text())?.exists = true;
         let session = Session {
             repo: String::from_str(self.alloc, name.text())?,
-            bytes: Vec::new(self.alloc),
+            received: Received::Bytes(Vec::new(self.alloc)),
             is_doubtful: false,
         };
         let tenant = self.tenant(name.tenant())?;
@@ -182,11 +193,34 @@ impl<W: Write + Drop> Maker<W> {
         number: u64,
         bytes: &[u8],
     ) -> Result<(), RewriteError> {
-        match self.session(tenant, number) {
-            Some(session) => session.bytes.extend_from_slice(bytes)?,
-            None => return Ok(()),
+        let is_made = match self.session(tenant, number) {
+            Some(session) => session.append(bytes)?,
+            None => false,
+        };
+        if is_made {
+            self.records.add(change)
+        } else {
+            Ok(())
         }
-        self.records.add(change)
+    }
+
+    /// Adds a chunk that lies in a file to a session.
+    fn append_noted(
+        &mut self,
+        change: &Change<'_>,
+        tenant: &[u8],
+        number: u64,
+        notes: &[u8],
+    ) -> Result<(), RewriteError> {
+        let is_made = match self.session(tenant, number) {
+            Some(session) => session.append_noted(notes),
+            None => false,
+        };
+        if is_made {
+            self.records.add(change)
+        } else {
+            Ok(())
+        }
     }
 
     /// Makes a session a blob, if its content has the digest: a chunk of it may be lost.
@@ -204,15 +238,47 @@ impl<W: Write + Drop> Maker<W> {
         let Some(mut session) = self.take_session(tenant, number) else {
             return self.lose_seal(tenant, digest);
         };
-        session.bytes.extend_from_slice(last)?;
-        if Digest::of(digest.algorithm(), session.bytes.as_slice()) != digest {
-            self.records
-                .add(&Change::SessionDropped { tenant, number })?;
-            self.repo(session.repo.as_str())?.lost_blobs.insert(digest)?;
+        let is_whole = session.has_digest(&digest, last)?;
+        self.end_sealed(change, tenant, number, &session, digest, is_whole)
+    }
+
+    /// Makes a session whose content lies in a file a blob, unless a chunk of it may be lost: the content is not read.
+    fn seal_noted(
+        &mut self,
+        change: &Change<'_>,
+        tenant: &[u8],
+        number: u64,
+        digest: &[u8],
+        notes: &[u8],
+    ) -> Result<(), RewriteError> {
+        let Ok(digest) = Digest::parse(digest) else {
             return Ok(());
+        };
+        let Some(session) = self.take_session(tenant, number) else {
+            return self.lose_seal(tenant, digest);
+        };
+        let is_whole = !session.is_doubtful && noted_len(notes).is_some();
+        self.end_sealed(change, tenant, number, &session, digest, is_whole)
+    }
+
+    /// Writes the seal of a session whose content is whole. Another one ends, and its blob is lost.
+    fn end_sealed(
+        &mut self,
+        change: &Change<'_>,
+        tenant: &[u8],
+        number: u64,
+        session: &Session,
+        digest: Digest,
+        is_whole: bool,
+    ) -> Result<(), RewriteError> {
+        if is_whole {
+            self.records.add(change)?;
+            return self.add_link(session.repo.as_str(), digest);
         }
-        self.records.add(change)?;
-        self.add_link(session.repo.as_str(), digest)
+        self.records
+            .add(&Change::SessionDropped { tenant, number })?;
+        self.repo(session.repo.as_str())?.lost_blobs.insert(digest)?;
+        Ok(())
     }
 
     /// Notes that the blob of a session which is not open is lost, unless its tenant holds it.
@@ -434,56 +500,4 @@ impl<W: Write + Drop> Maker<W> {
         let end = records.finish()?;
         Ok((end, losses))
     }
-}
-
-/// Adds what a repository has lost.
-fn add_losses(
-    alloc: Global,
-    losses: &mut Vec<Loss>,
-    name: &str,
-    repo: &Repo,
-) -> Result<(), RewriteError> {
-    for digest in repo.lost_manifests.iter() {
-        losses.push(Loss::Manifest {
-            repo: String::from_str(alloc, name)?,
-            digest: *digest,
-        })?;
-    }
-    for digest in repo.lost_blobs.iter() {
-        losses.push(Loss::Blob {
-            repo: String::from_str(alloc, name)?,
-            digest: *digest,
-        })?;
-    }
-    Ok(())
-}
-
-/// Ends the sessions of a tenant whose changes may be lost, and adds what the tenant has lost.
-fn end_sessions<W: Write + Drop>(
-    alloc: Global,
-    losses: &mut Vec<Loss>,
-    records: &mut RecordWriter<W>,
-    name: &str,
-    tenant: &Tenant,
-) -> Result<(), RewriteError> {
-    for digest in tenant.lost.iter() {
-        losses.push(Loss::BlobOfTenant {
-            tenant: String::from_str(alloc, name)?,
-            digest: *digest,
-        })?;
-    }
-    for (number, session) in tenant.sessions.iter() {
-        if !session.is_doubtful {
-            continue;
-        }
-        records.add(&Change::SessionDropped {
-            tenant: name.as_bytes(),
-            number: *number,
-        })?;
-        losses.push(Loss::Upload {
-            repo: String::from_str(alloc, session.repo.as_str())?,
-            number: *number,
-        })?;
-    }
-    Ok(())
 }

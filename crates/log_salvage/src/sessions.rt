@@ -1,21 +1,69 @@
 //! The sessions of tenants, and the blobs that tenants hold.
 
 use blob_digest::Digest;
+use content_files::noted_len;
 use std::alloc::{AllocError, Global};
 use std::collections::{BTreeMap, BTreeSet};
 
 /// The number of sessions that a tenant may have open, whatever its limit is.
 const MOST_SESSIONS: usize = 4096;
 
+/// What a session has received.
+#[derive(Drop)]
+pub enum Received {
+    /// These bytes, as far as they are readable.
+    Bytes(Vec<u8>),
+    /// Bytes that lie in a file, at least the last ones.
+    Noted,
+}
+
 /// An open session.
 #[derive(Drop)]
 pub struct Session {
     /// The repository in which it was opened.
     pub repo: String,
-    /// The bytes that it has received, as far as they are readable.
-    pub bytes: Vec<u8>,
+    /// What it has received.
+    pub received: Received,
     /// Whether a change of it may be lost.
     pub is_doubtful: bool,
+}
+
+impl Session {
+    /// Adds the bytes of a chunk. Returns whether the store can do so: after a chunk in a file, it can not.
+    pub fn append(&mut self, chunk: &[u8]) -> Result<bool, AllocError> {
+        match &mut self.received {
+            Received::Bytes(bytes) => {
+                bytes.extend_from_slice(chunk)?;
+                Ok(true)
+            }
+            Received::Noted => {
+                self.is_doubtful = true;
+                Ok(false)
+            }
+        }
+    }
+
+    /// Adds a chunk in a file. Returns whether the store can do so: it has the notes of a chunk, and no chunk before it may be lost.
+    /// Otherwise the content could be too short to lie in a file.
+    pub fn append_noted(&mut self, notes: &[u8]) -> bool {
+        if self.is_doubtful || noted_len(notes).is_none() {
+            self.is_doubtful = true;
+            return false;
+        }
+        self.received = Received::Noted;
+        true
+    }
+
+    /// Returns whether the session has these bytes with its last ones, by their digest.
+    pub fn has_digest(&mut self, digest: &Digest, last: &[u8]) -> Result<bool, AllocError> {
+        match &mut self.received {
+            Received::Bytes(bytes) => {
+                bytes.extend_from_slice(last)?;
+                Ok(Digest::of(digest.algorithm(), bytes.as_slice()) == *digest)
+            }
+            Received::Noted => Ok(false),
+        }
+    }
 }
 
 /// A tenant.
