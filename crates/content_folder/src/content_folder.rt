@@ -1,12 +1,14 @@
 //! A folder of contents.
 
-ghost use Rattle.std.specs.Prelude.{true};
+ghost use Rattle.std.specs.Prelude.{◌≡◌, ◌≤◌, ◌+◌, IfOk, length, true};
+ghost use Rattle.content_files.specs.Placed.{placed};
 
 use crate::listed::Listed;
 use content_files::{ContentError, ContentName, ContentStore, Written, read_back, write_synced};
 use std::fs::{self, DirBuilder, File};
 use std::io::{self, ErrorKind, Read, Seek, SeekFrom};
 use std::os::unix::fs::{DirBuilderExt, OpenOptionsExt};
+use std::sync::Mutex;
 
 /// The permissions of a new folder: its user may list and change it, and nobody else may.
 const FOLDER_MODE: u32 = 0o700;
@@ -26,16 +28,20 @@ pub struct ContentFolder<'r> {
     tenants: &'r [String],
 }
 
-/// Makes a folder, if it does not exist, and syncs the one that contains it, so that a crash leaves both.
-fn make_folder(rt: &HostRuntime, parent: &str, folder: &str) -> io::Result<()> {
+/// Makes a folder, if it does not exist.
+fn make_folder(rt: &HostRuntime, folder: &str) -> io::Result<()> {
     match DirBuilder::new().mode(FOLDER_MODE).create(rt, folder) {
-        Ok(()) => {}
+        Ok(()) => Ok(()),
         Err(error) => match error.kind() {
-            ErrorKind::AlreadyExists => {}
-            _ => return Err(error),
+            ErrorKind::AlreadyExists => Ok(()),
+            _ => Err(error),
         },
     }
-    File::open(rt, parent)?.sync_all()
+}
+
+/// Syncs a folder, so that a crash leaves what it contains.
+fn sync_folder(rt: &HostRuntime, folder: &str) -> io::Result<()> {
+    File::open(rt, folder)?.sync_all()
 }
 
 /// Returns the error of a call: a file that ends too soon has lost a part of its content.
@@ -48,6 +54,13 @@ fn fault_of(error: io::Error) -> ContentError {
 }
 
 impl<'r> ContentFolder<'r> {
+    /// Returns the folder `path`, which exists, as do the folders of the tenants. Nothing is looked at.
+    ///
+    /// `tenants` are the tenants' names in their order. A name is one component of a path.
+    pub fn at(rt: &'r HostRuntime, path: &'r str, tenants: &'r [String]) -> ContentFolder<'r> {
+        ContentFolder { rt, path, tenants }
+    }
+
     /// Opens the folder `path` in the folder `parent`, and makes it and the folder of each tenant that has none.
     ///
     /// `tenants` are the tenants' names in their order. A name is one component of a path.
@@ -58,22 +71,24 @@ impl<'r> ContentFolder<'r> {
     ///
     /// # Cost
     ///
-    /// Two calls for each tenant, and a sync of the folder for each.
+    /// A call for each tenant, and two syncs.
     pub fn open(
         rt: &'r HostRuntime,
         parent: &str,
         path: &'r str,
         tenants: &'r [String],
     ) -> io::Result<ContentFolder<'r>> {
-        make_folder(rt, parent, path)?;
-        let folder = ContentFolder { rt, path, tenants };
+        make_folder(rt, path)?;
+        sync_folder(rt, parent)?;
+        let folder = ContentFolder::at(rt, path, tenants);
         for tenant in 0..tenants.len() {
             if tenant > u16::MAX as usize {
                 break;
             }
             let own = folder.folder_of(tenant as u16)?;
-            make_folder(rt, path, own.as_str())?;
+            make_folder(rt, own.as_str())?;
         }
+        sync_folder(rt, path)?; // An earlier process may have made folders, and crashed before it synced this one.
         Ok(folder)
     }
 
@@ -101,17 +116,27 @@ impl<'r> ContentFolder<'r> {
         Ok(path)
     }
 
-    /// Creates the file of a content, in place of an old one, so that a crash leaves it.
+    /// Syncs the folder of a tenant, so that a crash leaves the files in it.
+    ///
+    /// # Errors
+    ///
+    /// `NotFound` if there is no such tenant, or the operating system's error.
+    pub fn sync(&self, tenant: u16) -> io::Result<()> {
+        let folder = self.folder_of(tenant)?;
+        sync_folder(self.rt, folder.as_str())
+    }
+
+    /// Creates the file of a content, so that a crash leaves it. An old file is removed, and not written: another process may have
+    /// it open.
     fn create(&self, name: ContentName) -> io::Result<File> {
+        let _ = self.remove(name)?;
         let path = self.path_of(name)?;
         let file = File::options()
             .write(true)
-            .create(true)
-            .truncate(true)
+            .create_new(true)
             .mode(FILE_MODE)
             .open(self.rt, path.as_str())?;
-        let folder = self.folder_of(name.tenant)?;
-        File::open(self.rt, folder.as_str())?.sync_all()?;
+        self.sync(name.tenant)?;
         Ok(file)
     }
 
@@ -119,10 +144,13 @@ impl<'r> ContentFolder<'r> {
     fn open_to_write(&self, name: ContentName, offset: u64) -> io::Result<File> {
         let path = self.path_of(name)?;
         let mut file = File::options().write(true).open(self.rt, path.as_str())?;
-        if file.seek(SeekFrom::End(0))? < offset {
+        let len = file.seek(SeekFrom::End(0))?;
+        if len < offset {
             return Err(io::Error::from(ErrorKind::UnexpectedEof));
         }
-        file.set_len(offset)?;
+        if len > offset {
+            file.set_len(offset)?;
+        }
         Ok(file)
     }
 
@@ -134,7 +162,25 @@ impl<'r> ContentFolder<'r> {
 
     /// Returns the contents' files as they are: a write succeeds if the file has these bytes already, and changes no file.
     pub fn written_already(&self) -> WrittenFiles<'_, 'r> {
-        WrittenFiles { folder: self }
+        WrittenFiles {
+            folder: self,
+            error: Mutex::new(None),
+        }
+    }
+
+    /// Cuts the file of a content to a length, if it is longer. Returns whether it was.
+    ///
+    /// # Errors
+    ///
+    /// The operating system's error.
+    pub fn cut(&self, name: ContentName, len: u64) -> io::Result<bool> {
+        let path = self.path_of(name)?;
+        let mut file = File::options().write(true).open(self.rt, path.as_str())?;
+        if file.seek(SeekFrom::End(0))? <= len {
+            return Ok(false);
+        }
+        file.set_len(len)?;
+        Ok(true)
     }
 
     /// Returns the length of a content's file in bytes, or `None` if there is no file.
@@ -241,6 +287,43 @@ impl<'r> ContentStore for ContentFolder<'r> {
 #[derive(Drop)]
 pub struct WrittenFiles<'f, 'r> {
     folder: &'f ContentFolder<'r>,
+    /// Why the last write failed that did, until it is taken.
+    error: Mutex<Option<ContentError>>,
+}
+
+impl<'f, 'r> WrittenFiles<'f, 'r> {
+    /// Returns why a write failed, if one did since the last call.
+    pub fn take_error(&self) -> Option<ContentError> {
+        let mut place = self.error.try_lock()?;
+        place.take()
+    }
+
+    /// Keeps why a write failed.
+    fn keep_error(&self, error: ContentError) {
+        if let Some(mut place) = self.error.try_lock() {
+            *place = Some(error);
+        }
+    }
+
+    /// Compares bytes with those in a file at an offset.
+    fn compare<'b>(
+        &self,
+        name: ContentName,
+        offset: u64,
+        bytes: &'b [u8],
+    ) -> Result<Written<'b>, ContentError>
+        requires { offset + length bytes.now ≤ 18446744073709551615 }
+        ensures { IfOk result (λ w. w ≡ placed name offset bytes.now) }
+    {
+        let mut file = match self.folder.open_to_read(name) {
+            Ok(file) => file,
+            Err(error) => return Err(fault_of(error)),
+        };
+        match read_back(&mut file, name, offset, bytes)? {
+            Some(written) => Ok(written),
+            None => Err(ContentError::Fault),
+        }
+    }
 }
 
 impl<'f, 'r> ContentStore for WrittenFiles<'f, 'r> {
@@ -256,13 +339,12 @@ impl<'f, 'r> ContentStore for WrittenFiles<'f, 'r> {
         offset: u64,
         bytes: &'b [u8],
     ) -> Result<Written<'b>, ContentError> {
-        let mut file = match self.folder.open_to_read(name) {
-            Ok(file) => file,
-            Err(error) => return Err(fault_of(error)),
-        };
-        match read_back(&mut file, name, offset, bytes)? {
-            Some(written) => Ok(written),
-            None => Err(ContentError::Fault),
+        match self.compare(name, offset, bytes) {
+            Ok(written) => Ok(written),
+            Err(error) => {
+                self.keep_error(error);
+                Err(error)
+            }
         }
     }
 
