@@ -28,6 +28,12 @@ pub enum FolderFile {
     EarlierLog,
     /// `rewrite`: the request to rewrite the log.
     Request,
+    /// `contents`: the folder of contents.
+    Contents,
+    /// `longest`: the length of the longest content whose bytes the log has.
+    Longest,
+    /// `owner-N/longest.new`: this length, while this owner writes it.
+    NewLongest(u64),
 }
 
 /// The name, with a slash before it. The text of the folder is empty.
@@ -45,6 +51,9 @@ impl fmt::Display for FolderFile {
             FolderFile::EarlierNewBase => f.write_str("/base.new"),
             FolderFile::EarlierLog => f.write_str("/log"),
             FolderFile::Request => f.write_str("/rewrite"),
+            FolderFile::Contents => f.write_str("/contents"),
+            FolderFile::Longest => f.write_str("/longest"),
+            FolderFile::NewLongest(owner) => write!(f, "/owner-{owner}/longest.new"),
         }
     }
 }

@@ -1,7 +1,6 @@
 //! Observers of the changes that are replayed.
 
-use blob_digest::Blob;
-use content_files::{ContentName, ContentStore, NoFiles};
+use content_files::{ContentError, ContentName, ContentStore, NoFiles};
 use log_records::Change;
 use std::alloc::AllocError;
 
@@ -17,21 +16,22 @@ pub trait ChangeSink: Drop {
     /// and hashed, so that it can go on. Those of other sessions are not read.
     fn left_open(&self, tenant: &[u8], number: u32) -> Option<ContentName>;
 
+    /// Returns why a write to these files failed, if one did since the last call.
+    fn take_error(&self) -> Option<ContentError>;
+
+    /// Returns whether the replay goes on without the bytes of a session that is still open at the end of the log, although a chunk
+    /// cannot be read for this reason. If so, its chunks are added by their notes, and it cannot be closed any more.
+    fn gives_up(&mut self, tenant: &str, number: u32, error: &ContentError) -> bool;
+
     /// Notes a change that the store has made again. Its record begins at this offset in the joined payloads of the log.
     ///
     /// # Errors
     ///
     /// - if memory runs out. Then the replay ends with a fault.
     fn note(&mut self, change: &Change<'_>, offset: u64) -> Result<(), AllocError>;
-
-    /// Returns a blob with the content of the session that the next change closes, if it was hashed before. It is called once
-    /// for each change, before the store makes it.
-    ///
-    /// The replay compares the blob with the session's bytes. A blob of other bytes costs time, and has no other effect.
-    fn hashed(&mut self, change: &Change<'_>) -> Option<Blob>;
 }
 
-/// An observer that notes nothing, has hashed nothing, and knows no files.
+/// An observer that notes nothing, and knows no files.
 #[derive(Drop)]
 pub struct NoSink;
 
@@ -48,14 +48,20 @@ impl ChangeSink for NoSink {
         None
     }
 
+    fn take_error(&self) -> Option<ContentError> {
+        None
+    }
+
+    fn gives_up(&mut self, tenant: &str, number: u32, error: &ContentError) -> bool {
+        let _ = tenant;
+        let _ = number;
+        let _ = error;
+        false
+    }
+
     fn note(&mut self, change: &Change<'_>, offset: u64) -> Result<(), AllocError> {
         let _ = change;
         let _ = offset;
         Ok(())
-    }
-
-    fn hashed(&mut self, change: &Change<'_>) -> Option<Blob> {
-        let _ = change;
-        None
     }
 }

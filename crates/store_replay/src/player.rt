@@ -3,9 +3,9 @@
 use crate::fault::Cause;
 use crate::observer::ChangeSink;
 use crate::open_sessions::{OpenSession, OpenSessions};
-use blob_digest::{Blob, Digest, Refusal, RepoName};
+use blob_digest::{Digest, Refusal, RepoName};
 use blob_store::{Desk, Naming, Store};
-use content_files::{ContentName, NoFiles, noted_len, read_chunk};
+use content_files::{ContentError, ContentName, NoFiles, noted_len, read_chunk};
 use log_records::Change;
 use std::alloc::Global;
 use std::str;
@@ -148,23 +148,59 @@ impl<'s, W: Wait, S: Naming> Player<'s, W, S> {
         session: &OpenSession,
         name: ContentName,
         notes: &[u8],
-    ) -> Result<Result<u64, Refusal>, Cause> {
-        let tenant = session.repo.tenant();
+    ) -> Result<Result<u64, Refusal>, ContentError> {
         let files = observer.files();
-        match read_chunk(files, self.alloc, name, session.received, notes) {
-            Ok(bytes) => Ok(
-                self.store.append_by(
-                    self.rt,
-                    files,
-                    desk,
-                    &session.repo,
-                    name.number,
-                    None,
-                    bytes.as_slice(),
-                    Hashing::Open,
-                ),
+        let bytes = read_chunk(files, self.alloc, name, session.received, notes)?;
+        let appended = self.store.append_by(
+            self.rt,
+            files,
+            desk,
+            &session.repo,
+            name.number,
+            None,
+            bytes.as_slice(),
+            Hashing::Open,
+        );
+        match observer.take_error() {
+            Some(error) if matches!(appended, Err(Refusal::Memory)) => Err(error),
+            _ => Ok(appended),
+        }
+    }
+
+    /// Adds a chunk of a session that is left open. If its bytes cannot be had, and the observer gives them up, adds it by its notes.
+    fn append_left_open<O: ChangeSink>(
+        &self,
+        desk: &mut Desk<S>,
+        observer: &mut O,
+        session: &OpenSession,
+        name: ContentName,
+        notes: &[u8],
+    ) -> Result<Result<u64, Refusal>, Cause> {
+        let error = match self.append_read(desk, observer, session, name, notes) {
+            Ok(appended) => return Ok(appended),
+            Err(error) => error,
+        };
+        let (tenant, number) = (session.repo.tenant(), name.number);
+        if observer.gives_up(tenant, number, &error) {
+            return self.append_by_notes(desk, session, number, notes);
+        }
+        Err(Cause::unread(self.alloc, tenant, number, error))
+    }
+
+    /// Adds a chunk by the notes of its pieces. Nothing is read.
+    fn append_by_notes(
+        &self,
+        desk: &mut Desk<S>,
+        session: &OpenSession,
+        number: u32,
+        notes: &[u8],
+    ) -> Result<Result<u64, Refusal>, Cause> {
+        match noted_len(notes) {
+            Some(len) => Ok(
+                self.store
+                    .append_noted(self.rt, desk, &session.repo, number, notes, len),
             ),
-            Err(error) => Err(Cause::unread(self.alloc, tenant, name.number, error)),
+            None => Err(Cause::Malformed),
         }
     }
 
@@ -172,7 +208,7 @@ impl<'s, W: Wait, S: Naming> Player<'s, W, S> {
     fn append_noted<O: ChangeSink>(
         &mut self,
         desk: &mut Desk<S>,
-        observer: &O,
+        observer: &mut O,
         tenant: &[u8],
         number: u64,
         notes: &[u8],
@@ -180,15 +216,13 @@ impl<'s, W: Wait, S: Naming> Player<'s, W, S> {
         let number = session_number(number)?;
         let left_open = observer.left_open(tenant, number);
         let tenant = tenant_name(tenant)?;
-        let Some(len) = noted_len(notes) else {
+        if noted_len(notes).is_none() {
             return Err(Cause::Malformed);
-        };
+        }
         let session = self.session(tenant, number)?;
         let appended = match left_open {
-            Some(name) => self.append_read(desk, observer, session, name, notes)?,
-            None => self
-                .store
-                .append_noted(self.rt, desk, &session.repo, number, notes, len),
+            Some(name) => self.append_left_open(desk, observer, session, name, notes)?,
+            None => self.append_by_notes(desk, session, number, notes)?,
         };
         match appended {
             Ok(received) => {
@@ -248,7 +282,7 @@ impl<'s, W: Wait, S: Naming> Player<'s, W, S> {
         }
     }
 
-    /// Closes a session. Nothing is hashed if a blob with its content is at hand.
+    /// Closes a session, whose bytes are hashed.
     fn seal(
         &mut self,
         desk: &mut Desk<S>,
@@ -256,12 +290,8 @@ impl<'s, W: Wait, S: Naming> Player<'s, W, S> {
         number: u64,
         digest: &[u8],
         last: &[u8],
-        hashed: Option<&Blob>,
     ) -> Result<(), Cause> {
-        let hashing = match hashed {
-            Some(blob) => Hashing::Known(blob),
-            None => Hashing::Last(digest_of(digest)?.algorithm()),
-        };
+        let hashing = Hashing::Last(digest_of(digest)?.algorithm());
         self.close_or_sweep(
             desk,
             tenant,
@@ -351,8 +381,7 @@ impl<'s, W: Wait, S: Naming> Player<'s, W, S> {
         }
     }
 
-    /// Makes a change at the desk. After the removal of a link, and if the store is full, it sweeps. If the change closes a
-    /// session, `hashed` may be a blob with its content, so that the content need not be hashed.
+    /// Makes a change at the desk. After the removal of a link, and if the store is full, it sweeps.
     ///
     /// # Errors
     ///
@@ -364,9 +393,8 @@ impl<'s, W: Wait, S: Naming> Player<'s, W, S> {
     pub fn play<O: ChangeSink>(
         &mut self,
         desk: &mut Desk<S>,
-        observer: &O,
+        observer: &mut O,
         change: &Change<'_>,
-        hashed: Option<&Blob>,
     ) -> Result<(), Cause> {
         match *change {
             Change::SessionOpened { repo, number: _ } => self.open(desk, repo),
@@ -391,7 +419,7 @@ impl<'s, W: Wait, S: Naming> Player<'s, W, S> {
                 number,
                 digest,
                 last,
-            } => self.seal(desk, tenant, number, digest, last, hashed),
+            } => self.seal(desk, tenant, number, digest, last),
             Change::SessionDropped { tenant, number } => { self.abandon(desk, tenant, number) }
             Change::BlobLinked { repo, digest } => self.link(desk, repo, digest),
             Change::BlobUnlinked { repo, digest } => self.unlink(desk, repo, digest),

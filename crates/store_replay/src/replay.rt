@@ -53,11 +53,7 @@ impl<'s, W: Wait, S: Naming, O: ChangeSink> Players<'s, W, S, O> {
                 }
                 Err(RecordError::Malformed) => return Err(Cause::Malformed.at(offset)),
             };
-            let hashed = self.observer.hashed(&change);
-            if let Err(cause) = self
-                .player
-                .play(desk, &self.observer, &change, hashed.as_ref())
-            {
+            if let Err(cause) = self.player.play(desk, &mut self.observer, &change) {
                 return Err(cause.at(offset));
             }
             if self.observer.note(&change, offset).is_err() {
