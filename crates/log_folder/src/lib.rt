@@ -1,19 +1,22 @@
-//! The folder of a store's log: its lock, its files, how they are opened and mended after a crash, how their contents are hashed
-//! ahead of a replay, and how they are rewritten.
+//! The folder of a store's log: its lock, its files, how they are opened and mended after a crash, which sessions they leave open,
+//! and how they are rewritten and converted.
 //!
 //! `docs/LOG.md` has the layout.
 #![tactic(auto)]
 
 mod close_request;
-mod contents;
+mod conversion;
+mod converting;
 mod data_folder;
 mod error;
 mod fault;
-mod gathering;
-mod hash_ahead;
+mod holders;
+mod left_open;
 mod listing;
+mod longest;
 mod next_segments;
 mod noting;
+mod open_contents;
 mod opening;
 mod ownership;
 mod progress;
@@ -24,9 +27,13 @@ mod segment;
 mod watch;
 
 pub use close_request::CloseRequest;
+pub use conversion::{Conversion, ConvertError};
+pub use converting::convert;
 pub use data_folder::DataFolder;
 pub use error::FolderError;
-pub use hash_ahead::{HashAhead, HashedAhead};
+pub use holders::{Holders, find_holders};
+pub use left_open::{ContentsObserver, LeftOpen, OpenContent, find_left_open};
+pub use longest::{read_longest, write_longest};
 pub use next_segments::NextSegments;
 pub use noting::Noting;
 pub use opening::{OpenLog, accept_loss, open_log};

@@ -30,6 +30,13 @@ pub struct OpenLog {
     pub number: u64,
 }
 
+impl OpenLog {
+    /// Returns whether the log has no frame.
+    pub fn is_empty(&self) -> bool {
+        self.closed.is_empty() && self.last.length <= HEADER_LENGTH
+    }
+}
+
 /// What has to be done with a segment before it is replayed.
 enum Repair {
     /// Nothing.
@@ -41,7 +48,7 @@ enum Repair {
 }
 
 /// Returns a reader of the frames of a segment.
-pub(crate) fn frames_of<'f>(
+fn frames_of<'f>(
     rt: &HostRuntime,
     segment: &'f mut Segment,
 ) -> Result<BufReader<Noting<&'f File>>, FolderError> {

@@ -203,7 +203,7 @@ fn rewrite(
 }
 
 /// Makes `base.new` the base up to this number, so that a crash leaves it, and removes the segments that it was written from.
-fn replace(
+pub(crate) fn replace(
     rt: &HostRuntime,
     folder: &str,
     owner: u64,
