@@ -1,5 +1,5 @@
 -- The arguments of the command line.
-use Rattle.std.specs.Prelude.{⊤, ◌≡◌, ◌≢◌, ◌⊎◌, ◌%◌, ◌≤◌, ℕ, List, [], ◌∷◌, Bool, true, false, Option, Some, None, MatchOption, String, bytes_eq, codes, length, map, string_bytes}
+use Rattle.std.specs.Prelude.{⊤, ◌≡◌, ◌≢◌, ◌⊎◌, ◌%◌, ◌≤◌, ℕ, List, [], ◌∷◌, Bool, true, false, Option, Some, None, MatchOption, String, bytes_eq, codes, is_some, length, map, string_bytes}
 use Rattle.std.specs.declared.alloc.Global.{Global}
 use Rattle.std.specs.List.{after_first, before_first}
 use Rattle.spec_lib.specs.Texts.{Text}
@@ -45,6 +45,7 @@ pub record SpellsOptions (words : List Text) (options : Options) : Type 0 where
   pub parts : words ≡ program ∷ after
   pub flags_are : flags_of after ≡ Some (flags, settings)
   pub log : AskForLog flags options.log
+  pub place : options.store.on_disk ≡ is_some options.log
   pub spelled : SpellsSettings settings options.store (texts_of options.paths.now)
 
 -- a store can be made by the settings
@@ -52,7 +53,6 @@ pub record IsWithin (store : Config) : Type 0 where
   pub sized : IsSized store.slots store.max_blob
   pub names : HasNames (tenants_shown store.tenants.items)
   pub limits : IsWithinLimits (tenants_shown store.tenants.items)
-  pub in_memory : store.on_disk ≡ false
   pub first : store.first_generation ≡ 0
 
 -- there are too few settings, or a number is missing or past its limit, or a tenant is wrong, or the number of paths is odd

@@ -8,7 +8,7 @@ use Rattle.server_cli.specs.declared.need.Need.TheVariants as need
 use Rattle.tenant_args.specs.declared.fault.TenantFault.{TenantFault}
 use Rattle.tenant_args.specs.declared.fault.TenantFault.TheVariants as words
 use Rattle.server_cli.specs.declared.stop.Stop.{Stop}
-use Rattle.server_cli.specs.declared.stop.Stop.TheVariants.{Usage, File, Memory, Folder, Held, Lost, Damaged, LogFailed, Settings}
+use Rattle.server_cli.specs.declared.stop.Stop.TheVariants.{Usage, File, Memory, Folder, Held, Lost, Damaged, Missing, LogFailed, Settings}
 
 -- the text for wrong arguments
 abbrev pub usage_text : Text
@@ -31,6 +31,7 @@ stop_status (Folder action folder file error) = 6
 stop_status (Held folder) = 7
 stop_status (Lost folder) = 7
 stop_status (Damaged folder place damage) = 8
+stop_status (Missing folder count) = 8
 stop_status (LogFailed folder error) = 9
 stop_status (Settings folder place name need) = 10
 

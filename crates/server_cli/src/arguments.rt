@@ -16,7 +16,7 @@ use tenant_args::read_tenants;
 /// The options of the program.
 #[derive(Drop)]
 pub struct Options<'w> {
-    /// The store's limits and tenants.
+    /// The store's limits and tenants. With a log, contents lie in files.
     pub store: Config,
     /// How the store is made durable. `None` for a store in memory.
     pub log: Option<LogOptions<'w>>,
@@ -58,9 +58,15 @@ fn split_at_end(words: &[String]) -> (&[String], &[String])
     }
 }
 
-/// Returns the store's limits and tenants, and the paths, that the arguments after the options spell.
-fn read_settings(alloc: Global, words: &[String]) -> Result<(Config, &[String]), Stop<'_>>
+/// Returns the store's limits and tenants, and the paths, that the arguments after the options spell. `on_disk` is whether contents
+/// may lie in files.
+fn read_settings(
+    alloc: Global,
+    words: &[String],
+    on_disk: bool,
+) -> Result<(Config, &[String]), Stop<'_>>
     ensures spelled { IfOk result (λ r. SpellsSettings (texts_of words.now) r.0 (texts_of r.1.now)) }
+    ensures place { IfOk result (λ r. (r.0).on_disk ≡ on_disk) }
     ensures within { IfOk result (λ r. IsWithin r.0) }
     ensures refused { IfErr result (RefusesSettings (texts_of words.now)) }
 {
@@ -86,7 +92,7 @@ fn read_settings(alloc: Global, words: &[String]) -> Result<(Config, &[String]),
         slots: slots as u32,
         max_blob,
         tenants,
-        on_disk: false,
+        on_disk,
         first_generation: 0,
     };
     Ok((store, paths))
@@ -117,7 +123,7 @@ pub fn read_arguments(alloc: Global, words: &[String]) -> Result<Options<'_>, St
     let Some(log) = flags.log() else {
         return Err(Stop::Usage);
     };
-    match read_settings(alloc, words) {
+    match read_settings(alloc, words, log.is_some()) {
         Ok((store, paths)) => Ok(Options { store, log, paths }),
         Err(stop) => Err(stop),
     }

@@ -56,6 +56,13 @@ pub enum Stop<'w> {
         /// What is wrong there.
         damage: Damage,
     },
+    /// Files of contents are missing.
+    Missing {
+        /// The folder of the log.
+        folder: &'w str,
+        /// The number of these contents.
+        count: u64,
+    },
     /// The log cannot be written any more.
     LogFailed {
         /// The folder of the log.
@@ -122,6 +129,7 @@ impl<'w> Stop<'w> {
             Stop::Held { .. } => 7,
             Stop::Lost { .. } => 7,
             Stop::Damaged { .. } => 8,
+            Stop::Missing { .. } => 8,
             Stop::LogFailed { .. } => 9,
             Stop::Settings { .. } => 10,
         }
@@ -164,6 +172,12 @@ impl fmt::Display for StopText<'_, '_> {
                 "blobd: {folder}{} is damaged at byte {}, byte {} of the log: {damage}\n",
                 place.file, place.place, place.offset
             ),
+            Stop::Missing { folder, count } => {
+                write!(
+                    f,
+                    "blobd: {folder}/contents lacks the files of {count} contents\n"
+                )
+            }
             Stop::LogFailed { folder, error } => {
                 write!(f, "blobd: cannot write the log in {folder}: {error}\n")
             }

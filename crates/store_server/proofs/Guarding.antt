@@ -1,5 +1,5 @@
 -- Desks that are durable, and what a commit keeps.
-use Rattle.std.proofs.Common.{◌≡◌, ◌≢◌, ◌∙◌, ◌++◌, [], Bool, true, ap, arith, subst, sym}
+use Rattle.std.proofs.Common.{◌≡◌, ◌≢◌, ◌∙◌, ◌++◌, [], true, ap, arith, subst, sym}
 use Rattle.std.proofs.lemmas.Bool.{false≢true}
 use Rattle.ghost_log.specs.Entries.{events_by}
 use Rattle.durable_log.specs.Views as durable

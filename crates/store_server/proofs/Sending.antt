@@ -24,6 +24,7 @@ use Rattle.lease_table.specs.contracts.locked.LockedLeaseTable as LockedLeaseTab
 use Rattle.blob_store.proofs.Sending.{blob_send, blob_sync, store_sync}
 use Rattle.store_server.specs.contracts.connection.EndedConnection as EndedConnection
 use Rattle.store_server.specs.contracts.connection.Connection as Connection
+use Rattle.store_server.specs.contracts.removal.ConnectionsEnd as ConnectionsEnd
 use Rattle.store_server.specs.contracts.service_end.EndCell as EndCell
 use Rattle.store_server.specs.contracts.serving.Shared as Shared
 
@@ -87,5 +88,8 @@ device_sync S D n d s e = search (cell_sync, idle_send, step_send, log_send, sen
 end_sync : IsSync EndCell.the_row
 end_sync = search (sendable, crosses) depth 60 fits 20000
 
-pub shared_sync : (s l : NamedLft) (W S L D : RattleType) (names : _) (log : _) (d : _) → IsSync W → IsSend S → IsSync S → IsSend L → IsSend D → IsSync (Shared.the_row s l W S L D names log d)
-shared_sync s l W S L D names log d w ss sy ls ds = search (store_sync, device_sync, end_sync, leases_sync, sendable, crosses) depth 60 fits 20000
+pub shared_sync : (s l : NamedLft) (W S L D F : RattleType) (names : _) (log : _) (d : _) → IsSync W → IsSend S → IsSync S → IsSend L → IsSend D → IsSync F → IsSync (Shared.the_row s l W S L D F names log d)
+shared_sync s l W S L D F names log d w ss sy ls ds fs = search (store_sync, device_sync, end_sync, leases_sync, sendable, crosses) depth 60 fits 20000
+
+pub connections_end_sync : IsSync ConnectionsEnd.the_row
+connections_end_sync = search (sendable, crosses) depth 60 fits 20000

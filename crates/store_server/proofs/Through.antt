@@ -160,14 +160,14 @@ module _ {S T U V : Type 0} (on_disk : Bool) (shown : S → U) (lent : T → V)
   connection_through old new line held holds ending (inr h) = inr (h.0, h.1, h.2, h.3, served_through old new h.0 h.1 holds ending h.4)
 
 -- a connection that is served with a new desk and a new writer
-pub served_at : (names : StoreNames) (log : TableId) (old new : DeskView) (was is : LeaseTrace) (line held holds : Option (List ℕ)) (ending : Ending) → work_of old ≡ zero_work → was.own ≡ []
-    → ServesConnection false WorkActs (λ _ catalog. IsFound names catalog) AddsTableEvent (work_of old, was.own) (work_of new, is.own) line held holds ending
+pub served_at : (on_disk : Bool) (names : StoreNames) (log : TableId) (old new : DeskView) (was is : LeaseTrace) (line held holds : Option (List ℕ)) (ending : Ending) → work_of old ≡ zero_work → was.own ≡ []
+    → ServesConnection on_disk WorkActs (λ _ catalog. IsFound names catalog) AddsTableEvent (work_of old, was.own) (work_of new, is.own) line held holds ending
     → IsPart names.opening new.trace → leased.IsLeaseHistoryPart log is → (ending ≡ NotDurable → names.policy ≢ NoLog) → (ending ≢ NotDurable → IsDurable names new.trace)
-    → IsServedConnection names log line held holds ending
-served_at names log old new was is line held holds ending fresh unwritten served part leases_part committed durable = record {
+    → IsServedConnection on_disk names log line held holds ending
+served_at on_disk names log old new was is line held holds ending fresh unwritten served part leases_part committed durable = record {
   desk = new;
   leases = is;
-  served = subst (λ (from : Work × List TableEvent). ServesConnection false WorkActs (λ _ catalog. IsFound names catalog) AddsTableEvent from (work_of new, is.own) line held holds ending) (λ i. (fresh i, unwritten i)) served;
+  served = subst (λ (from : Work × List TableEvent). ServesConnection on_disk WorkActs (λ _ catalog. IsFound names catalog) AddsTableEvent from (work_of new, is.own) line held holds ending) (λ i. (fresh i, unwritten i)) served;
   part = part;
   leases_part = leases_part;
   committed = committed;

@@ -1,5 +1,5 @@
 -- Connections that are served at the same time on one store.
-use Rattle.std.specs.Prelude.{◌≡◌, ◌≢◌, ◌⊎◌, ◌<◌, ℕ, Some, false, List, [], ◌∷◌, ◌++◌, Option, None, IfSome, IsSomeAnd, MatchResult, length, slice_index_or}
+use Rattle.std.specs.Prelude.{◌≡◌, ◌≢◌, ◌⊎◌, ◌<◌, ℕ, Bool, Some, false, List, [], ◌∷◌, ◌++◌, Option, None, IfSome, IsSomeAnd, MatchResult, length, slice_index_or}
 use Rattle.blob_digest.specs.declared.refusal.Refusal.TheVariants.{LimitReached, Memory}
 use Rattle.atomic_table.specs.Seated.{TableId}
 use Rattle.wire_server.specs.LeaseEvents.{TableEvent}
@@ -28,38 +28,38 @@ AddsTableEvent old event new = new ≡ old ++ event ∷ []
 abbrev pub IsOpen : {I O : Type 0} → Connection I O → I → O → Type 0
 IsOpen {I} line input output = (watched : Watched I) × (line.ends ≡ Some (watched, output)) × (inner_of watched ≡ input) × (has_failed watched ≡ false)
 
--- A connection was served by a new desk, on a store whose contents are in memory. The steps of its requests are the desk's part in a legal history
+-- A connection was served by a new desk, on a store whose contents are in memory or may lie in files. The steps of its requests are the desk's part in a legal history
 -- of the store, and their events of leases are its part in the history of this log. Only a store with a log can fail to make its steps durable.
 -- Unless it did, the desk's steps are durable, as far as the store promises that.
-pub record IsServedConnection (names : StoreNames) (log : TableId) (line held holds : Option (List ℕ)) (ending : Ending) : Type 0 where
+pub record IsServedConnection (on_disk : Bool) (names : StoreNames) (log : TableId) (line held holds : Option (List ℕ)) (ending : Ending) : Type 0 where
   pub desk : DeskView
   pub leases : LeaseTrace
-  pub served : ServesConnection false WorkActs (λ _ catalog. IsFound names catalog) AddsTableEvent (zero_work, []) (work_of desk, leases.own) line held holds ending
+  pub served : ServesConnection on_disk WorkActs (λ _ catalog. IsFound names catalog) AddsTableEvent (zero_work, []) (work_of desk, leases.own) line held holds ending
   pub part : IsPart names.opening desk.trace
   pub leases_part : leased.IsLeaseHistoryPart log leases
   pub committed : ending ≡ NotDurable → names.policy ≢ NoLog
   pub durable : ending ≢ NotDurable → IsDurable names desk.trace
 
 -- the connection was served from its old output to the new one, and ended so
-abbrev pub ServesStreams : {I O : Type 0} → StoreNames → TableId → (I → Option (List ℕ)) → (O → Option (List ℕ)) → Watched I → O → O → Ending → Type 0
-ServesStreams names log remaining contents input old new ending = IsServedConnection names log (remaining (inner_of input)) (contents old) (contents new) ending
+abbrev pub ServesStreams : {I O : Type 0} → Bool → StoreNames → TableId → (I → Option (List ℕ)) → (O → Option (List ℕ)) → Watched I → O → O → Ending → Type 0
+ServesStreams on_disk names log remaining contents input old new ending = IsServedConnection on_disk names log (remaining (inner_of input)) (contents old) (contents new) ending
 
 -- A connection with these ends was served until it ended, with nothing written after its last reply. Or there was no desk for it, and nothing was
 -- read or written.
-abbrev pub IsEndedConnection : {I O : Type 0} → StoreNames → TableId → (I → Option (List ℕ)) → (O → Option (List ℕ)) → Watched I × O → EndedConnection I O → Type 0
-IsEndedConnection names log remaining contents ends ended = MatchResult ended.result
-    (λ ending. ServesStreams names log remaining contents ends.0 ends.1 ended.output.value ending × EndsByRead ending ends.0 ended.input.value)
+abbrev pub IsEndedConnection : {I O : Type 0} → Bool → StoreNames → TableId → (I → Option (List ℕ)) → (O → Option (List ℕ)) → Watched I × O → EndedConnection I O → Type 0
+IsEndedConnection on_disk names log remaining contents ends ended = MatchResult ended.result
+    (λ ending. ServesStreams on_disk names log remaining contents ends.0 ends.1 ended.output.value ending × EndsByRead ending ends.0 ended.input.value)
     (λ refusal. ((refusal ≡ LimitReached) ⊎ (refusal ≡ Memory)) × (ended.input.value ≡ ends.0) × (ended.output.value ≡ ends.1))
 
 -- an open connection was served until it ended, and is closed
-pub record IsClosedConnection {I O : Type 0} (names : StoreNames) (log : TableId) (remaining : I → Option (List ℕ)) (contents : O → Option (List ℕ)) (old new : Connection I O) : Type 0 where
+pub record IsClosedConnection {I O : Type 0} (on_disk : Bool) (names : StoreNames) (log : TableId) (remaining : I → Option (List ℕ)) (contents : O → Option (List ℕ)) (old new : Connection I O) : Type 0 where
   pub closed : new.ends ≡ None
-  pub line : IfSome old.ends (λ ends. IsSomeAnd new.ended (IsEndedConnection names log remaining contents ends))
+  pub line : IfSome old.ends (λ ends. IsSomeAnd new.ended (IsEndedConnection on_disk names log remaining contents ends))
 
 -- each of the connections was served until it ended
-abbrev pub AreServed : {I O : Type 0} → StoreNames → TableId → (I → Option (List ℕ)) → (O → Option (List ℕ)) → List (Connection I O) → List (Connection I O) → Type 0
-AreServed {I} {O} names log remaining contents old new = (i : ℕ) (d : Connection I O) → i < length old → IsClosedConnection names log remaining contents (slice_index_or old i d) (slice_index_or new i d)
+abbrev pub AreServed : {I O : Type 0} → Bool → StoreNames → TableId → (I → Option (List ℕ)) → (O → Option (List ℕ)) → List (Connection I O) → List (Connection I O) → Type 0
+AreServed {I} {O} on_disk names log remaining contents old new = (i : ℕ) (d : Connection I O) → i < length old → IsClosedConnection on_disk names log remaining contents (slice_index_or old i d) (slice_index_or new i d)
 
 -- the connections were served on the store of these parts, with one table of leases
-abbrev pub AreServedOn : {I O : Type 0} → PartsView → (I → Option (List ℕ)) → (O → Option (List ℕ)) → List (Connection I O) → List (Connection I O) → Type 0
-AreServedOn parts remaining contents old new = (log : TableId) × AreServed (names_of parts) log remaining contents old new
+abbrev pub AreServedOn : {I O : Type 0} → Bool → PartsView → (I → Option (List ℕ)) → (O → Option (List ℕ)) → List (Connection I O) → List (Connection I O) → Type 0
+AreServedOn on_disk parts remaining contents old new = (log : TableId) × AreServed on_disk (names_of parts) log remaining contents old new

@@ -10,14 +10,14 @@ use log_disk::FileBacked;
 use std::sync::Wait;
 use wire_server::ReplyGuard;
 
-/// The number of bytes of records that may wait until they are written.
+/// The number of bytes of records, and of chunks that they note, that may wait until the records are written.
 const MAX_WAITING: u64 = 1_048_576;
 
 /// The guard of the replies of a connection to a store.
 ///
 /// It commits the connection's desk before a reply if the store promises more than the desk knows to be durable. Records that
 /// need not be durable are written without a sync: before each reply if the policy is `Never`, else before the reply to a chunk
-/// if more than 1 MiB of records waits.
+/// if more than 1 MiB of records waits, or the connection has received 1 MiB since it wrote them last.
 #[derive(Drop)]
 pub struct StoreGuard<'g, S: Naming, D: FileBacked> {
     /// The device of the store's log, whose disk's content is kept by a file. `None` for a store in memory.
@@ -60,8 +60,12 @@ impl<'g, S: Naming, D: FileBacked> StoreGuard<'g, S, D> {
             LogPolicy::NoLog => return false,
             LogPolicy::Never => 0,
             LogPolicy::Closes | LogPolicy::Each => {
-                if desk.received() == self.received {
+                let received = desk.received().saturating_sub(self.received);
+                if received == 0 {
                     return false;
+                }
+                if received >= MAX_WAITING {
+                    return true;
                 }
                 MAX_WAITING
             }

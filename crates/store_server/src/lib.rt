@@ -15,12 +15,14 @@
 
 mod connection;
 mod guard;
+mod removal;
 mod service_end;
 mod serving;
 mod shared;
 
 pub use connection::{Connection, EndedConnection};
 pub use guard::StoreGuard;
+pub use removal::ContentFiles;
 pub use service_end::{EndCell, ServiceEnd};
 pub use serving::{serve_new, serve_on, serve_streams};
 pub use shared::SharedLeases;

@@ -1,5 +1,5 @@
 //! Serves connections on a store.
-ghost use Rattle.std.specs.Prelude.{◌≡◌, ◌⊎◌, ◌+◌, [], IfErr, IfOk, OnErr, OnOk};
+ghost use Rattle.std.specs.Prelude.{◌≡◌, ◌⊎◌, ◌+◌, [], false, IfErr, IfOk, OnErr, OnOk};
 ghost use Rattle.blob_digest.specs.declared.refusal.Refusal.TheVariants.{LimitReached, Memory};
 ghost use Rattle.blob_store.specs.Parts.{names_of};
 ghost use Rattle.blob_store.specs.Starts.{IsStarted};
@@ -11,13 +11,14 @@ ghost use Rattle.wire_server.specs.ReplyStreams.{output_of};
 
 use crate::connection::{Connection, EndedConnection};
 use crate::guard::StoreGuard;
+use crate::removal::{ConnectionsEnd, ContentFiles, Remover};
 use crate::service_end::{EndCell, ServiceEnd};
 use crate::shared::SharedLeases;
 use blob_digest::Refusal;
 use blob_store::{
     Desk, MAX_DESKS, Naming, Parts, SharedLogDevice, StartedLog, Store, StoreBackend, Totals,
 };
-use content_files::NoFiles;
+use content_files::{ContentStore, NoFiles};
 use durable_log::LeaderCell;
 use ghost_log::SharedLog;
 use lease_table::{LeaseEvent, LeaseNaming, LeaseWriter, LockedLeaseTable};
@@ -27,16 +28,26 @@ use std::alloc::{AllocError, Global};
 use std::io::{Read, Write};
 use std::marker::Brand;
 use std::sync::{Mutex, Wait};
-use std::thread::{self, Threads};
+use std::thread::{self, Threads, join_mut};
 use watched_reader::Watched;
 use wire_server::{Ending, ReplyStream, serve};
 
 /// Serves a connection with a new desk and a new writer of the table's history. Returns why the connection ended, and the
 /// desk. If a commit fails, the connection ends with `NotDurable`, and so does the service, with the error of the log.
-fn serve_with_desk<'s, W: Wait, S: Naming, L: LeaseNaming, D: FileBacked, I: Read, O: Write>(
+fn serve_with_desk<
+    's,
+    W: Wait,
+    S: Naming,
+    L: LeaseNaming,
+    D: FileBacked,
+    F: ContentStore,
+    I: Read,
+    O: Write,
+>(
     rt: &'s W,
     alloc: Global,
     store: &'s Store<S>,
+    files: &'s F,
     device: Option<&'s SharedLogDevice<S, D>>,
     end: &EndCell,
     table: &Mutex<LockedLeaseTable<'s, StorePins<S>, L>>,
@@ -48,7 +59,7 @@ fn serve_with_desk<'s, W: Wait, S: Naming, L: LeaseNaming, D: FileBacked, I: Rea
     requires fresh { work_of desk ≡ zero_work }
     requires unwritten { writer.own ≡ [] }
     requires undurable { desk.trace.durable ≡ [] }
-    ensures served { ServesStreams S.names L.log I.remaining O.contents
+    ensures served { ServesStreams F.on_disk S.names L.log I.remaining O.contents
         input.old (output_of output.old) (output_of output.new) result.0 }
     ensures failed { EndsByRead result.0 input.old input.new }
 {
@@ -56,13 +67,13 @@ fn serve_with_desk<'s, W: Wait, S: Naming, L: LeaseNaming, D: FileBacked, I: Rea
     let mut backend = StoreBackend {
         rt,
         store,
-        files: &NoFiles,
+        files,
         desk,
     };
     let mut leases = SharedLeases { rt, table, writer };
     let ending = serve(
         rt,
-        &NoFiles,
+        files,
         alloc,
         &mut guard,
         &mut backend,
@@ -92,17 +103,27 @@ fn serve_with_desk<'s, W: Wait, S: Naming, L: LeaseNaming, D: FileBacked, I: Rea
 ///
 /// - `LimitReached`, if 1,024 desks exist.
 /// - `Memory`, if the desk cannot be allocated.
-pub fn serve_streams<'s, W: Wait, S: Naming, L: LeaseNaming, D: FileBacked, I: Read, O: Write>(
+pub fn serve_streams<
+    's,
+    W: Wait,
+    S: Naming,
+    L: LeaseNaming,
+    D: FileBacked,
+    F: ContentStore,
+    I: Read,
+    O: Write,
+>(
     rt: &'s W,
     alloc: Global,
     store: &'s Store<S>,
+    files: &'s F,
     device: Option<&'s SharedLogDevice<S, D>>,
     end: &EndCell,
     table: &Mutex<LockedLeaseTable<'s, StorePins<S>, L>>,
     input: &mut Watched<I>,
     output: &mut ReplyStream<StoreGuard<'s, S, D>, O>,
 ) -> Result<Ending, Refusal>
-    ensures served { IfOk result (ServesStreams S.names L.log I.remaining O.contents
+    ensures served { IfOk result (ServesStreams F.on_disk S.names L.log I.remaining O.contents
         input.old (output_of output.old) (output_of output.new)) }
     ensures failed { IfOk result (λ e. EndsByRead e input.old input.new) }
     ensures same { OnErr result ((input.new ≡ input.old) × (output.new ≡ output.old)) }
@@ -114,7 +135,7 @@ pub fn serve_streams<'s, W: Wait, S: Naming, L: LeaseNaming, D: FileBacked, I: R
     };
     let writer = table.lock(rt).writer();
     let (ending, desk) = serve_with_desk(
-        rt, alloc, store, device, end, table, desk, writer, input, output,
+        rt, alloc, store, files, device, end, table, desk, writer, input, output,
     );
     desks.push_reserved(desk);
     store.settle(rt, desks);
@@ -123,10 +144,11 @@ pub fn serve_streams<'s, W: Wait, S: Naming, L: LeaseNaming, D: FileBacked, I: R
 
 /// The values that all connections share.
 #[derive(Drop)]
-struct Shared<'s, 'l, W, S: Naming, L: LeaseNaming, D: FileBacked> {
+struct Shared<'s, 'l, W, S: Naming, L: LeaseNaming, D: FileBacked, F> {
     rt: &'s W,
     alloc: Global,
     store: &'s Store<S>,
+    files: &'s F,
     device: Option<&'s SharedLogDevice<S, D>>,
     end: &'l EndCell,
     table: &'l Mutex<LockedLeaseTable<'s, StorePins<S>, L>>,
@@ -140,10 +162,11 @@ fn serve_connection<
     S: Naming,
     L: LeaseNaming,
     D: FileBacked,
+    F: ContentStore,
     I: Read + Drop,
     O: Write + Drop,
->(shared: &Shared<'s, 'l, W, S, L, D>, line: &mut Connection<I, O>)
-    ensures { IsClosedConnection S.names L.log I.remaining O.contents line.old line.new }
+>(shared: &Shared<'s, 'l, W, S, L, D, F>, line: &mut Connection<I, O>)
+    ensures { IsClosedConnection F.on_disk S.names L.log I.remaining O.contents line.old line.new }
 {
     if let Some((mut input, output)) = line.ends.take() {
         let mut replies = ReplyStream::new(output);
@@ -151,6 +174,7 @@ fn serve_connection<
             shared.rt,
             shared.alloc,
             shared.store,
+            shared.files,
             shared.device,
             shared.end,
             shared.table,
@@ -171,10 +195,11 @@ fn serve_connections<
     S: Naming + Send + Sync,
     L: LeaseNaming + Send + Sync,
     D: FileBacked + Send,
+    F: ContentStore + Sync,
     I: Read + Send + Drop,
     O: Write + Send + Drop,
->(rt: &'s W, shared: &Shared<'s, 'l, W, S, L, D>, lines: &mut [Connection<I, O>])
-    ensures { AreServed S.names L.log I.remaining O.contents lines.old lines.new }
+>(rt: &'s W, shared: &Shared<'s, 'l, W, S, L, D, F>, lines: &mut [Connection<I, O>])
+    ensures { AreServed F.on_disk S.names L.log I.remaining O.contents lines.old lines.new }
 {
     thread::for_each_mut(
         rt,
@@ -182,6 +207,96 @@ fn serve_connections<
         MAX_DESKS as usize,
         &|_, line| serve_connection(shared, line),
     );
+}
+
+/// Serves all connections until they end, and then sets their end.
+fn serve_until_end<
+    's,
+    'l,
+    W: Threads + Wait + Sync,
+    S: Naming + Send + Sync,
+    L: LeaseNaming + Send + Sync,
+    D: FileBacked + Send,
+    F: ContentStore + Sync,
+    I: Read + Send + Drop,
+    O: Write + Send + Drop,
+>(
+    rt: &'s W,
+    shared: &Shared<'s, 'l, W, S, L, D, F>,
+    ended: &ConnectionsEnd,
+    lines: &mut [Connection<I, O>],
+)
+    ensures { AreServed F.on_disk S.names L.log I.remaining O.contents lines.old lines.new }
+{
+    serve_connections(rt, shared, lines);
+    ended.set();
+}
+
+/// Removes the files of freed contents until all connections have ended, if the store has a log.
+fn remove_freed<'s, 'l, W: Wait, S: Naming, L: LeaseNaming, D: FileBacked, F: ContentFiles>(
+    shared: &Shared<'s, 'l, W, S, L, D, F>,
+    ended: &ConnectionsEnd,
+) {
+    if let Some(device) = shared.device {
+        let mut remover = Remover::new(
+            shared.rt,
+            shared.alloc,
+            shared.store,
+            device,
+            shared.files,
+            shared.end,
+        );
+        remover.run(ended);
+    }
+}
+
+/// Serves all connections until they end, while a further thread removes the files of freed contents. If that thread cannot
+/// be started, the files are removed after the end of the connections.
+fn serve_removing<
+    's,
+    'l,
+    W: Threads + Wait + Sync,
+    S: Naming + Send + Sync,
+    L: LeaseNaming + Send + Sync,
+    D: FileBacked + Send,
+    F: ContentFiles + Sync,
+    I: Read + Send + Drop,
+    O: Write + Send + Drop,
+>(
+    rt: &'s W,
+    shared: &Shared<'s, 'l, W, S, L, D, F>,
+    ended: &ConnectionsEnd,
+    lines: &mut [Connection<I, O>],
+)
+    ensures { AreServed F.on_disk S.names L.log I.remaining O.contents lines.old lines.new }
+{
+    let mut remove = || remove_freed(shared, ended);
+    let mut serve = ||
+        ensures { AreServed F.on_disk S.names L.log I.remaining O.contents lines.entry.now lines.exit.now }
+    { serve_until_end(rt, shared, ended, lines) };
+    join_mut(rt, &mut remove, &mut serve);
+}
+
+/// Serves all connections until they end. If contents lie in files, those of freed contents are removed meanwhile, unless the
+/// connections take all of the 1,024 desks.
+fn serve_lines<
+    's,
+    'l,
+    W: Threads + Wait + Sync,
+    S: Naming + Send + Sync,
+    L: LeaseNaming + Send + Sync,
+    D: FileBacked + Send,
+    F: ContentFiles + Sync,
+    I: Read + Send + Drop,
+    O: Write + Send + Drop,
+>(rt: &'s W, shared: &Shared<'s, 'l, W, S, L, D, F>, lines: &mut [Connection<I, O>])
+    ensures { AreServed F.on_disk S.names L.log I.remaining O.contents lines.old lines.new }
+{
+    if shared.files.is_on_disk() && lines.len() < MAX_DESKS as usize {
+        serve_removing(rt, shared, &ConnectionsEnd::new(), lines);
+    } else {
+        serve_connections(rt, shared, lines);
+    }
 }
 
 /// Serves all connections on a store with one new table of leases, gives back the remaining leases, and returns the
@@ -192,28 +307,31 @@ fn serve_with<
     S: Naming + Send + Sync,
     L: LeaseNaming + Send + Sync,
     D: FileBacked + Send,
+    F: ContentFiles + Sync,
     I: Read + Send + Drop,
     O: Write + Send + Drop,
 >(
     rt: &'s W,
     alloc: Global,
     store: &'s Store<S>,
+    files: &'s F,
     device: Option<&'s SharedLogDevice<S, D>>,
     end: &EndCell,
     log: SharedLog<LeaseEvent>,
     lines: &mut [Connection<I, O>],
 ) -> Totals
     requires log { (log.name ≡ L.log) × (log.entries ≡ []) }
-    ensures served { AreServed S.names L.log I.remaining O.contents lines.old lines.new }
+    ensures served { AreServed F.on_disk S.names L.log I.remaining O.contents lines.old lines.new }
     ensures totals { result.received ≡ result.in_sessions + result.closed + result.abandoned }
 {
     let table = Mutex::new(LockedLeaseTable::<'s, StorePins<S>, L>::new(alloc, log));
-    serve_connections(
+    serve_lines(
         rt,
         &Shared {
             rt,
             alloc,
             store,
+            files,
             device,
             end,
             table: &table,
@@ -225,7 +343,10 @@ fn serve_with<
 }
 
 /// Serves all connections on a store with a log, which was started, as `serve_new` does. Returns the store's totals, and the
-/// device of the log. A file keeps the content of its disk.
+/// device of the log. A file keeps the content of its disk. Contents may lie in these files.
+///
+/// If they do, the files of freed contents are removed meanwhile, after the changes that freed them are durable. With 1,024
+/// connections or more, or with the policy `Never`, all files stay.
 ///
 /// The store's history begins with the records that were replayed, and no others, all of them durable on the log's device
 /// (`start`). A reply is sent only if each own step of its desk that the policy promises is durable on this device.
@@ -239,12 +360,14 @@ pub fn serve_on<
     S: Naming + Send + Sync,
     L: LeaseNaming + Send + Sync,
     D: FileBacked + Send,
+    F: ContentFiles + Sync,
     I: Read + Send + Drop,
     O: Write + Send + Drop,
 >(
     rt: &W,
     alloc: Global,
     store: &Store<S>,
+    files: &F,
     started: StartedLog<S, D>,
     end: &EndCell,
     log: SharedLog<LeaseEvent>,
@@ -252,7 +375,7 @@ pub fn serve_on<
 ) -> Result<(Totals, SharedLogDevice<S, D>), AllocError>
     requires log { (log.name ≡ L.log) × (log.entries ≡ []) }
     ensures start { IsStarted S.names started }
-    ensures served { OnOk result (AreServed S.names L.log I.remaining O.contents lines.old lines.new) }
+    ensures served { OnOk result (AreServed F.on_disk S.names L.log I.remaining O.contents lines.old lines.new) }
     ensures totals { IfOk result (λ r. (r.0).received ≡ (r.0).in_sessions + (r.0).closed + (r.0).abandoned) }
     ensures same { OnErr result (lines.new ≡ lines.old) }
 {
@@ -262,7 +385,16 @@ pub fn serve_on<
     desks.push_reserved(desk);
     store.settle(rt, desks);
     let device = LeaderCell::new(device);
-    let totals = serve_with::<W, S, L, D, I, O>(rt, alloc, store, Some(&device), end, log, lines);
+    let totals = serve_with::<W, S, L, D, F, I, O>(
+        rt,
+        alloc,
+        store,
+        files,
+        Some(&device),
+        end,
+        log,
+        lines,
+    );
     Ok((totals, device))
 }
 
@@ -283,12 +415,14 @@ fn serve_parts<
 ) -> Totals
     requires named { names_of parts ≡ S.names }
     requires log { (log.name ≡ L.log) × (log.entries ≡ []) }
-    ensures served { AreServed S.names L.log I.remaining O.contents lines.old lines.new }
+    ensures served { AreServed false S.names L.log I.remaining O.contents lines.old lines.new }
     ensures totals { result.received ≡ result.in_sessions + result.closed + result.abandoned }
 {
     let store = Store::<S>::new(parts);
     let end = EndCell::new();
-    serve_with::<W, S, L, FileDisk, I, O>(rt, alloc, &store, None, &end, log, lines)
+    serve_with::<W, S, L, FileDisk, NoFiles, I, O>(
+        rt, alloc, &store, &NoFiles, None, &end, log, lines,
+    )
 }
 
 /// Serves all connections on a new store of these parts until they end, and returns the store's totals.
@@ -310,7 +444,7 @@ pub fn serve_new<W: Threads + Wait + Sync, I: Read + Send + Drop, O: Write + Sen
     parts: Parts,
     lines: &mut [Connection<I, O>],
 ) -> Result<Totals, AllocError>
-    ensures served { OnOk result (AreServedOn parts I.remaining O.contents lines.old lines.new) }
+    ensures served { OnOk result (AreServedOn false parts I.remaining O.contents lines.old lines.new) }
     ensures totals { IfOk result (λ t. t.received ≡ t.in_sessions + t.closed + t.abandoned) }
     ensures same { OnErr result (lines.new ≡ lines.old) }
 {

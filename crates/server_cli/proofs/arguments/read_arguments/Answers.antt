@@ -1,4 +1,4 @@
-use Rattle.std.proofs.Common.{string_bytes, refl}
+use Rattle.std.proofs.Common.{◌∙◌, string_bytes}
 use Rattle.server_cli.proofs.Partings.{first_one}
 use Rattle.server_cli.proofs.arguments.read_arguments.Goals as goal
 
@@ -13,5 +13,6 @@ returns-in-Ok-clause-spelled c =
       parts = words.1;
       flags_are = c.in-Some.ensures;
       log = c.in-Some-log.ensures;
+      place = c.in-Ok.ensures.place ∙ c.is_some.ensures;
       spelled = c.in-Ok.ensures.spelled;
     }
