@@ -5,11 +5,11 @@ import random
 import threading
 import time
 
-from data_folder import Ended, log_files
+from data_folder import LONGEST, Ended, content_files, log_files
 from frames import ABANDON, APPEND, BLOB_UNKNOWN, CLOSE, DELETE, START, STAT, STATUS, USAGE, sha256
 from kills import lose_power
 from model import Fault
-from room import compares, counts, ends_well
+from room import compares, counts, ends_well, wait_until
 
 TENANT = "t0"
 CONNECTIONS = 16
@@ -49,7 +49,7 @@ class Crowd:
         with self.lock:
             self.open[number] = [repository]
             self.last = max(self.last, number)
-        chunks = [rng.randbytes(rng.choice([10, 1000, 50_000])) for _ in range(rng.randint(1, 4))]
+        chunks = [rng.randbytes(rng.choice([10, 1000, LONGEST, 50_000])) for _ in range(rng.randint(1, 4))]
         for chunk in chunks[:-1]:
             self.calls(connection, APPEND, repository, number=number, body=chunk)
         data = b"".join(chunks)
@@ -137,6 +137,8 @@ def crowds(room):
             counts["kills"] += 1
         blobd = room.starts(folder)
         crowd.looks(blobd.opens()[0])
+        wanted = {digest for (_, digest), size in crowd.sizes.items() if size > LONGEST}
+        wait_until("a file of each content, and no other", lambda: sorted(map(sha256, content_files(folder).values())) == sorted(wanted))
         ends_well("an end after a crash of a crowd", blobd)
 
 

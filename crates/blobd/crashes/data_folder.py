@@ -1,5 +1,5 @@
-"""The folder of a `blobd --data`, for crash_tests and bench/durable.py: the bytes of its log by docs/LOG.md, the shim that watches the
-calls on it, and the program with its connections."""
+"""The folder of a `blobd --data`, for crash_tests and bench/durable.py: the bytes of its log by docs/LOG.md, the files of its contents,
+the shim that watches the calls on them, and the program with its connections."""
 import collections
 import errno
 import os
@@ -19,8 +19,8 @@ HERE = pathlib.Path(__file__).parent
 # The timeout for a start, for a reply, and for the end of the program, in seconds.
 PATIENCE = 60
 
-# Lengths in docs/LOG.md, in bytes: the header, and a frame without payload.
-HEADER, MARK = 32, 40
+# Lengths in docs/LOG.md, in bytes: the header, a frame without payload, and the longest content whose bytes the log has.
+HEADER, MARK, LONGEST = 32, 40, 16_384
 
 FNV_PRIME = 1099511628211
 FNV_BASIS = 14695981039346656037
@@ -49,11 +49,11 @@ def header(number, version=1):
 
 
 def framed(number, payloads):
-    """Returns a log with this id of frames with these payloads. No frame states a sync."""
+    """Returns a log with this id of frames with these payloads. Only a mark, whose payload is empty, states a sync."""
     found = header(number)
     chained = log_sum(FNV_BASIS, found[:24])
     for payload in payloads:
-        fields = struct.pack("<QQQ", len(found), HEADER, len(payload))
+        fields = struct.pack("<QQQ", len(found), HEADER if payload else len(found), len(payload))
         begun = fields + struct.pack("<Q", log_sum(number, fields)) + payload
         chained = log_sum(chained, begun)
         found += begun + struct.pack("<Q", chained)
@@ -160,6 +160,37 @@ def log_files(folder):
     return {path.name: path.read_bytes() for kind in ("log", "base") for path in folder.glob(f"{kind}*") if path.is_file()}
 
 
+def content_paths(folder):
+    """Returns the paths of the files of contents in a folder, by their names: `contents/TENANT/NUMBER`."""
+    return {str(path.relative_to(folder)): path for path in sorted(folder.glob("contents/*/*"))}
+
+
+def content_files(folder):
+    """Returns the bytes of the files of contents in a folder, by their names."""
+    found = {}
+    for name, path in content_paths(folder).items():
+        try:
+            found[name] = path.read_bytes()
+        except FileNotFoundError:
+            pass  # it was removed after its name was read
+    return found
+
+
+def data_files(folder):
+    """Returns the bytes of all files in a folder that a start reads: those of the log, of contents, and the file `longest`."""
+    longest = folder / "longest"
+    return {**log_files(folder), **content_files(folder), **({"longest": longest.read_bytes()} if longest.exists() else {})}
+
+
+def puts_data(folder, files):
+    """Leaves these files in a folder as its log, its contents and the length of the longest content in the log, and no others."""
+    for name in data_files(folder):
+        (folder / name).unlink()
+    for name, data in files.items():
+        (folder / name).parent.mkdir(parents=True, exist_ok=True)
+        (folder / name).write_bytes(data)
+
+
 def base_in_the_way(folder):
     """Returns the path at which a folder keeps the program that owns a folder from writing a base."""
     (owner,) = folder.glob("owner-*")
@@ -167,7 +198,7 @@ def base_in_the_way(folder):
 
 
 def puts_log(folder, files):
-    """Leaves these files in a folder as those of its log, and no others."""
+    """Leaves these files in a folder as those of its log, and no others. The files of contents stay."""
     for name in log_files(folder):
         (folder / name).unlink()
     for name, data in files.items():
@@ -182,12 +213,18 @@ def build_shim(room):
 
 
 class Trace:
-    """What the shim has written about the calls on a log: the calls with their first words, and for each sync the length."""
+    """What the shim has written about the calls on a log and on the files of contents: the calls with their first words, and for each sync
+    the length."""
 
     def __init__(self, path):
         lines = [line.split(" ") for line in path.read_text().splitlines()] if path.exists() else []
-        self.lines = [(call, " ".join(name), last) for call, *name, last in lines]
+        self.all_lines = [(call, " ".join(name), last) for call, *name, last in lines]
+        self.lines = [line for line in self.all_lines if line[0] != "begin"]
         self.calls = [(call, name) for call, name, _ in self.lines]
+
+    def of_log(self):
+        """Returns the calls on the log and its folder, with their numbers among all, counted from 1."""
+        return [(number, call) for number, call in enumerate(self.calls, 1) if "contents" not in call[1]]
 
     def syncs_by_name(self):
         """Returns the lengths at its syncs of each file, by the name that it has at last: `replaced-NAME` if a rename has replaced it."""
@@ -201,15 +238,37 @@ class Trace:
         return found
 
     def syncs(self):
-        """Returns the lengths at their syncs of all files that are no base."""
+        """Returns the lengths at their syncs of all files of the log that are no base."""
         return [length for name, lengths in self.syncs_by_name().items() if name.startswith("log") for length in lengths]
 
     def unsure_names(self):
-        """Returns the renames and removals after the last sync of a folder, the last one first: pairs of the names before and after.
-        The second one is "" for a removed file."""
-        folders = [place for place, (call, name) in enumerate(self.calls) if call == "sync" and name.startswith("/")]
-        later = self.lines[max(folders, default=-1) + 1:]
+        """Returns the renames and removals of files of the log after the last sync of its folder, the last one first: pairs of the names
+        before and after. The second one is "" for a removed file."""
+        lines = [line for line in self.lines if "contents" not in line[1]]
+        folders = [place for place, (call, name, _) in enumerate(lines) if call == "sync" and name.startswith("/")]
+        later = lines[max(folders, default=-1) + 1:]
         return [(name, last if call == "rename" else "") for call, name, last in reversed(later) if call in ("rename", "unlink")]
+
+    def unsure_contents(self):
+        """Returns what a loss of power may take from the files of contents: the offset in each after which it was changed since its last sync,
+        by its name; and the names that were made or removed since the last sync of the folder that has them, in order."""
+        changed, pending, begun = {}, collections.defaultdict(list), {}
+        for call, name, last in self.all_lines:
+            if name.startswith("contents"):
+                if call in ("create", "unlink", "mkdir"):
+                    pending[name.rpartition("/")[0]].append((call, name))
+                if call in ("create", "write", "cut"):
+                    changed[name] = min(changed.get(name, WORD), int(last))
+                elif call == "sync":
+                    changed.pop(name, None)
+            elif name.startswith("/"):
+                folder = name[name.index("/contents") + 1:] if "/contents" in name else ""
+                if call == "begin":
+                    begun[folder] = len(pending[folder])
+                elif call == "sync":
+                    done = begun.pop(folder, len(pending[folder]))
+                    del pending[folder][:done]
+        return changed, [step for steps in pending.values() for step in steps]
 
 
 Reply = collections.namedtuple("Reply", "status first second digest body")

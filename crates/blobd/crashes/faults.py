@@ -6,13 +6,13 @@ import threading
 import time
 
 from data_folder import PATIENCE, Ended, Trace, base_in_the_way, log_length
-from frames import GREETING, SWEEP
-from kills import lose_power
+from frames import GREETING
+from kills import calls_of_start, lose_power
 from logs import SmallLog
 from model import MIB, Client
-from room import NOBODY, all_there, clients, compares, counts, ends_well, fault, looks, stops, together
+from room import NOBODY, all_there, clients, compares, contents_fit, counts, ends_well, fault, looks, stops, together
 
-# The bound for the peak memory of a start from a log of 100 MiB, of which 3 MiB are live.
+# The bound for the peak memory of a start from a log of 100 MiB, of which 3 MiB are live, and 40 MiB of contents in files.
 MOST_MEMORY = 48 * MIB
 
 
@@ -30,10 +30,10 @@ def wrong_options(room):
     compares("a folder after wrong options", list(folder.iterdir()), [])
 
 
-def failing(room, name, status, settings=None, around=(), lost=False):
+def failing(room, name, status, settings=None, around=(), lost=False, in_files=True):
     """Lets a disk fail while the clients work. The program must end with the status. All that was replied to is there after a restart,
-    also if the kernel has dropped what was not synced."""
-    folder, everybody = room.fresh(), clients(room)
+    also if the kernel has dropped what was not synced. If not `in_files`, no content has a file."""
+    folder, everybody = room.fresh(), clients(room, in_files)
     settings = {**room.traced(), **(settings or {})}
     # nobody uses the last connection, which must not keep the program from ending
     blobd = room.starts(folder, "--sync", "each", connections=len(everybody) + 1, around=around, settings=settings)
@@ -51,14 +51,16 @@ def failing(room, name, status, settings=None, around=(), lost=False):
 
 
 def failing_disks(room):
-    """Tests calls on the log that fail: each once, at several places."""
-    for number in (5, 6, 40):
+    """Tests calls on the log that fail after a start: each once, at several places."""
+    calls = [call for _, call in enumerate(calls_of_start(room, room.fresh()))]
+    first = sum(call == "sync" and name.startswith(("log", "base")) for call, name in calls)
+    for number in (first + 1, first + 2, first + 35):
         for lost in (False, True):
             failing(room, f"a failed sync {number}", 9, {"CRASH_FAIL_SYNC": str(number)}, lost=lost)
         failing(room, f"a failed write {number}", 9, {"CRASH_FAIL_WRITE": str(number)})
     limited = ["env", "--ignore-signal=XFSZ", "prlimit"]
     for size in (40_000, 300_000):
-        failing(room, f"a file of at most {size} bytes", 9, around=[*limited, f"--fsize={size}"])
+        failing(room, f"a file of at most {size} bytes", 9, around=[*limited, f"--fsize={size}"], in_files=False)
 
 
 def failing_reads(room):
@@ -80,8 +82,8 @@ def failing_reads(room):
 
 
 def full_disk(room):
-    """Tests a disk without room, if one can be mounted."""
-    folder, everybody = room.fresh(), clients(room)
+    """Tests a disk without room for the log, if one can be mounted."""
+    folder, everybody = room.fresh(), clients(room, False)
     if subprocess.run(["mount", "-t", "tmpfs", "-o", "size=1m", "tmpfs", folder], capture_output=True).returncode:
         print("crash_tests: a full disk is left out, since no file system can be mounted")
         return
@@ -114,7 +116,9 @@ def folders(room):
         compares("a first start", room.runs(folder)[:2], (0, GREETING))
         folder.chmod(0o777)
         (folder / "lock").chmod(0o666)
-        next(folder.glob("owner-*")).chmod(0o777)
+        for path in [*folder.glob("owner-*"), *folder.glob("contents"), *folder.glob("contents/*")]:
+            path.chmod(0o777)
+        (folder / "longest").chmod(0o666)
         (folder / "log.1").chmod(rights)
         stops(f"a log with the rights {rights:o}", room.runs(folder, user=user), 6, folder / "log.1")
     (other / "log.1").mkdir()
@@ -171,7 +175,8 @@ def syncs_of_writes(path):
 
 
 def policies(room):
-    """Tests how many syncs each policy makes for 10 chunks and for a close, and that chunks without a close are written all the same."""
+    """Tests how many syncs of the log each policy makes for 10 chunks and for a close, and that the chunks are in the content's file without a
+    close."""
     for policy, chunks, closes in (("closes", 0, 1), ("each", 10, 1), ("never", 0, 0)):
         folder, trace = room.fresh(), room.path / "trace"
         client = Client("t0", room.rng)
@@ -182,29 +187,30 @@ def policies(room):
         for _ in range(10):
             client.plays(line, client.state.appends(1, room.rng.randbytes(MIB // 2)), policy)
         found.append(syncs_of_writes(trace))
-        length = log_length(folder)
+        compares(f"whether the chunks are in the file, with {policy}", (folder / "contents/t0/1").read_bytes() == client.state.sessions[1][1], True)
         client.plays(line, client.state.closes(1, b""))
         found.append(syncs_of_writes(trace))
         compares(f"the syncs with {policy}", [after - before for before, after in zip(found, found[1:])], [chunks, closes])
-        compares(f"a log with chunks of 5 MiB, of which 2 MiB may wait, with {policy}", length > 3 * MIB, True)
         ends_well("a program with a policy", blobd)
 
 
 def memory(room):
-    """Tests that a start keeps only what is live: 100 blobs of a MiB were stored, of which all but three were deleted at once. The store
-    has 5 slots."""
-    folder, words = room.fresh(), {"slots": 5, "most": 2 * MIB}
+    """Tests that a start keeps only what is live: 100 manifests of a MiB were stored, of which all but three were deleted at once, and 40
+    contents of a MiB, which are in files."""
+    folder, words = room.fresh(), {"slots": 50, "most": 2 * MIB}
     blobd = room.starts(folder, "--sync", "never", **words)
     (line,) = blobd.opens()
     (client, *_) = clients(room)
     # a folder in the way keeps the program from rewriting the log while it runs
     base_in_the_way(folder).mkdir()
-    for number in range(100):
+    for number in range(40):
         client.plays(line, client.state.starts("t0/one"))
         client.plays(line, client.state.closes(number + 1, room.rng.randbytes(MIB)))
+    digest = list(client.state.links)[0][1]
+    for number in range(100):
+        client.plays(line, client.state.puts_manifest("t0/one", [digest], room.rng.randbytes(MIB // 2).hex()))
         if number >= 3:
-            client.plays(line, client.state.deletes("t0/one", list(client.state.links)[-1][1]))
-            line.calls(SWEEP)
+            client.plays(line, client.state.deletes_manifest(*list(client.state.manifests)[-1]))
     ends_well("a store with few slots", blobd)
     base_in_the_way(folder).rmdir()
     compares("a log that is long", log_length(folder) > 100 * MIB, True)
@@ -212,8 +218,9 @@ def memory(room):
     blobd = room.starts(folder, **words)
     (line,) = blobd.opens()
     took, peak = time.monotonic() - begun, 1024 * blobd.peak()
-    counts["comparisons"] += client.looks(line)
+    counts["comparisons"] += client.finds(line)
+    contents_fit(folder, [client])
     ends_well("a start from a long log", blobd)
     if peak > MOST_MEMORY:
         fault(f"a start from a log of 100 MiB takes {peak // MIB} MiB")
-    print(f"crash_tests: a log of 100 MiB with 3 live ones: {took:.1f} s, {peak // MIB} MiB")
+    print(f"crash_tests: a log of 100 MiB with 3 live manifests, and 40 MiB of contents: {took:.1f} s, {peak // MIB} MiB")

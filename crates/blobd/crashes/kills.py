@@ -6,7 +6,7 @@ import threading
 import time
 
 import data_folder
-from data_folder import HEADER, MARK, Ended, FolderLog, Trace, base_in_the_way, log_files, log_length, puts_log
+from data_folder import HEADER, LONGEST, MARK, Ended, FolderLog, Trace, base_in_the_way, data_files, log_files, log_length, puts_data
 from frames import FREE_SLOTS, GREETING, SWEEP
 from model import MIB, Fault
 from room import SLOTS, all_there, all_there_still, calls_of, clients, compares, counts, ends_well, fault, looks, together
@@ -111,6 +111,9 @@ def forgets_names(room, folder):
     at their syncs of the files, by the names that they have then."""
     trace = Trace(room.path / "trace")
     syncs = trace.syncs_by_name()
+    longest = folder / "longest"
+    if ("rename", "longest.new") in trace.calls and longest.exists():
+        compares("whether the length of the longest content was synced", max(syncs["longest"], default=0), longest.stat().st_size)
     for name, new in trace.unsure_names():
         moved = folder / new if new else room.kept / name
         if moved.exists() and room.rng.random() < 0.5:
@@ -139,10 +142,47 @@ def loses_end(room, path, synced, before):
         path.write_bytes(rng.choice([written, written[:kept] + before[kept:]]))
 
 
+def reverts_name(room, step, folder):
+    """Lets a name that was made or removed since the last sync of its folder be as before, or not. Returns whether it is."""
+    call, name = step
+    path, kept = folder / name, room.kept / name.replace("/", "%")
+    if room.rng.random() < 0.5:
+        return False
+    if call == "mkdir":
+        shutil.rmtree(path, ignore_errors=True)
+    elif call == "create":
+        path.unlink(missing_ok=True)
+    elif kept.exists() and path.parent.exists():
+        kept.rename(path)
+    return True
+
+
+def loses_contents(room, folder):
+    """Leaves of the files of contents what a loss of power may leave: names that were not synced may be as before, and files end or are
+    changed after the first byte that was written since their last sync."""
+    rng = room.rng
+    changed, steps = Trace(room.path / "trace").unsure_contents()
+    sure = set()
+    for step in reversed(steps):
+        if step[1] not in sure and not reverts_name(room, step, folder):
+            sure.add(step[1])
+    for name, synced in changed.items():
+        path = folder / name
+        if not path.exists():
+            continue
+        written = path.read_bytes()
+        kept = rng.choice([synced, rng.randint(synced, max(synced, len(written)))])
+        rest = max(0, len(written) - kept)
+        counts["bytes lost"] += rest
+        tails = b"", bytes(rest), rng.randbytes(rest), bytes(rng.randint(1, 5000)), rng.randbytes(rng.randint(1, 5000))
+        path.write_bytes(written[:kept] + rng.choice(tails))
+
+
 def lose_power(room, folder, before):
-    """Leaves of the log what a loss of power may leave. `before` are the bytes of its files when the program started. All files but the
-    last segment and those that are being made must have been synced."""
+    """Leaves of the log and of the files of contents what a loss of power may leave. `before` are the bytes of the log's files when the
+    program started. All of these but the last segment and those that are being made must have been synced."""
     counts["losses"] += 1
+    loses_contents(room, folder)
     synced = {name: max(lengths, default=0) for name, lengths in forgets_names(room, folder).items()}
     log = FolderLog(folder)
     written = [] if log.last == log.base else log.paths[-1:]
@@ -235,21 +275,25 @@ def first_starts(room):
 
 
 def litter(room, folder, everybody):
-    """Leaves a log of which less than half is live: contents that are there, sessions that are open, and deleted blobs of several
-    MiB. The last tenant keeps nothing but its next number. The program does not rewrite the log, since a folder is in the way."""
+    """Leaves a log of which less than half is live: contents that are there, sessions that are open, and deleted manifests of a MiB, also
+    deleted contents. The last tenant keeps nothing but its next number. The program does not rewrite the log, since a folder is in the way."""
     blobd = room.starts(folder, "--sync", "never", connections=len(everybody))
     lines = blobd.opens()
     base_in_the_way(folder).mkdir()
     together(everybody, lines, "each", 100)
     for client, line in zip(everybody, lines):
-        client.plays(line, client.state.starts(f"{client.tenant}/one"))
-        client.plays(line, client.state.appends(client.state.following - 1, room.rng.randbytes(1000)))
-    live = sum(client.state.use() for client in everybody)
+        for length in (1000, 2 * LONGEST):
+            client.plays(line, client.state.starts(f"{client.tenant}/one"))
+            client.plays(line, client.state.appends(client.state.following - 1, room.rng.randbytes(length)))
+    live = log_length(folder)
     client, line = everybody[0], lines[0]
     for _ in range(2 + 2 * live // MIB):
         client.plays(line, client.state.starts("t0/one"))
-        client.plays(line, client.state.closes(client.state.following - 1, room.rng.randbytes(MIB)))
-        client.plays(line, client.state.deletes("t0/one", list(client.state.links)[-1][1]))
+        client.plays(line, client.state.closes(client.state.following - 1, room.rng.randbytes(2 * LONGEST)))
+        digest = list(client.state.links)[-1][1]
+        client.plays(line, client.state.puts_manifest("t0/one", [digest], room.rng.randbytes(MIB // 2).hex()))
+        client.plays(line, client.state.deletes_manifest(*list(client.state.manifests)[-1]))
+        client.plays(line, client.state.deletes("t0/one", digest))
         line.calls(SWEEP)
     everybody[-1].empties(lines[-1])
     for client in everybody:
@@ -292,14 +336,14 @@ def interrupted_rewriting(room):
     afterwards."""
     folder, everybody = room.fresh(), clients(room)
     litter(room, folder, everybody)
-    before = log_files(folder)
+    before = data_files(folder)
     begun = time.monotonic()
     calls = calls_of_start(room, folder)
     took = time.monotonic() - begun
     removals = [place for place, (call, _) in enumerate(calls, 1) if call == "unlink"]
     steps = [place for place in range(1, len(calls) + 1) if place not in removals[2:-1]]
     for step in steps + [0] * (ROUNDS * room.long // 4):
-        puts_log(folder, before)
+        puts_data(folder, before)
         blobd = room.starts(folder, settings={**room.traced(), "CRASH_KILL": str(step), "CRASH_SYNC_MS": "0" if step else "5"})
         if step:
             ends_early(blobd)
@@ -318,10 +362,10 @@ def rewriting_without_room(room):
     """Tests that a start whose disk fails while it rewrites goes on with the old log, or ends. Everything is there afterwards."""
     folder, everybody = room.fresh(), clients(room)
     litter(room, folder, everybody)
-    files = log_files(folder)
+    files = data_files(folder)
     for kind in ("CRASH_FAIL_WRITE", "CRASH_FAIL_SYNC"):
         for number in range(1, 6):
-            puts_log(folder, files)
+            puts_data(folder, files)
             blobd = room.starts(folder, connections=len(everybody), settings={kind: str(number)})
             try:
                 for client, connection in zip(everybody, blobd.opens()):

@@ -2,7 +2,7 @@
 import struct
 
 import data_folder
-from data_folder import HEADER, MARK, LogReading, log_files, log_length, puts_log
+from data_folder import HEADER, LONGEST, MARK, LogReading, content_files, data_files, log_length, puts_data
 from frames import GREETING, sha256
 from model import QUOTA, Fault, State
 from room import compares, ends_well, stops
@@ -11,6 +11,9 @@ from room import compares, ends_well, stops
 DAMAGED = 75
 
 ONE, TWO = sha256(b"the first content"), sha256(b"second")
+
+# A content that is in a file, of which the log has notes.
+LONG = b"a long content, of which the log has notes. " * 900
 
 # The calls of a small log. The program ends, and is started again, between the two parts.
 SMALL_LOG = [
@@ -28,13 +31,20 @@ SMALL_LOG = [
     [
         lambda state: state.starts("acme/two"),
         lambda state: state.appends(4, b"an open session"),
+        lambda state: state.starts("acme/one"),
+        lambda state: state.appends(5, LONG[:100]),
+        lambda state: state.appends(5, LONG[100:20_000]),
+        lambda state: state.closes(5, LONG[20_000:]),
+        lambda state: state.starts("acme/two"),
+        lambda state: state.appends(6, LONG[:50]),
+        lambda state: state.appends(6, LONG[50:LONGEST + 1]),
         lambda state: state.deletes_manifest(*list(state.manifests)[0]),
         lambda state: state.deletes("acme/one", TWO),
         lambda state: state.starts("acme/one"),
-        lambda state: state.appends(5, b"given up, and longer than all that is there at the end"),
-        lambda state: state.abandons(5),
+        lambda state: state.appends(7, LONG + b"given up, and longer than all that is there at the end"),
+        lambda state: state.abandons(7),
         lambda state: state.starts("acme/one"),
-        lambda state: state.closes(6, b"the last", "sha512"),
+        lambda state: state.closes(8, b"the last", "sha512"),
     ],
 ]
 
@@ -47,6 +57,7 @@ class SmallLog:
         self.folder = room.fresh()
         self.log = self.folder / "log.1"
         self.states = []
+        self.contents = {}  # the files of all contents that ever had one
         state = State("acme")
         for part in SMALL_LOG:
             blobd = room.starts(self.folder, "--sync", "each", tenants=self.tenants)
@@ -61,8 +72,9 @@ class SmallLog:
         self.names = set().union(*(state.names() for _, state in self.states))
 
     def notes(self, state):
-        """Notes the length of the log and the state."""
+        """Notes the length of the log, the state, and the files of contents."""
         self.states.append((self.log.stat().st_size, state))
+        self.contents.update(content_files(self.folder))
 
     def plays(self, line, step):
         """Makes a call, and returns the state after it."""
@@ -80,6 +92,8 @@ class SmallLog:
         """Runs a program on this log, with requests for all that may be there. Returns how the run ends, and what it must write if
         this is the state."""
         self.log.write_bytes(data)
+        for name, content in self.contents.items():
+            (self.folder / name).write_bytes(content)
         steps = state.observed(self.names)
         given = GREETING + b"".join(step.request for step in steps)
         found = self.room.runs(self.folder, *options, given=given, tenants=self.tenants)
@@ -220,7 +234,7 @@ def strange_records(room):
     records = reading.records(small.data)
     head = struct.Struct("<IHHQQ")
     for name, more in {
-        "a record of a later version": head.pack(12, 0, 0, 0, 0),
+        "a record of a later version": head.pack(16, 0, 0, 0, 0),
         "a record of no kind": bytes(24),
         "a record with a field that must be empty": head.pack(1, 8, 0, 1, 0) + b"acme/new",
         "a repository that is there": head.pack(1, 8, 0, 0, 0) + b"acme/one",
@@ -232,6 +246,10 @@ def strange_records(room):
         "a link to no blob": head.pack(6, 8, 71, 0, 0) + b"acme/one" + sha256(b"y").encode(),
         "no link": head.pack(7, 8, 71, 0, 0) + b"acme/one" + sha256(b"y").encode(),
         "no manifest": head.pack(8, 8, 0, 0, 2) + b"acme/one" + b"{}",
+        "notes that are cut off": head.pack(13, 4, 0, 6, 15) + b"acme" + bytes(15),
+        "notes of no bytes": head.pack(13, 4, 0, 6, 16) + b"acme" + bytes(16),
+        "notes for no session": head.pack(13, 4, 0, 99, 16) + b"acme" + struct.pack("<QQ", 1, 0),
+        "notes for a content that is in the log": head.pack(13, 4, 0, 4, 16) + b"acme" + struct.pack("<QQ", 1, 0),
     }.items():
         data = data_folder.framed(reading.number, [records, more])
         found, _ = small.runs(data, small.states[-1][1])
@@ -246,7 +264,7 @@ def other_settings(room):
     _, state = small.states[-1]
     contents = {digest: data for (_, digest), data in state.links.items()}
     longest = max(map(len, contents.values()))
-    files = log_files(small.folder)
+    files = data_files(small.folder)
     # The first two have the quota and the share in their replies.
     steps = state.observed(small.names)[2:]
     given = GREETING + b"".join(step.request for step in steps)
@@ -258,7 +276,7 @@ def other_settings(room):
         "fewer slots": ({"slots": len(contents) - 1}, "slots"),
         "a smaller limit of blobs": ({"most": longest - 1}, "limit"),
     }.items():
-        puts_log(small.folder, files)
+        puts_data(small.folder, files)
         words = {"tenants": small.tenants, **words}
         stops(name, room.runs(small.folder, **words), 10, text, lines=2)
         stops(f"{name}, another start", room.runs(small.folder, **words), 10, text, lines=2)
@@ -268,7 +286,7 @@ def other_settings(room):
         "more of everything": {"tenants": {"acme": 2 * QUOTA}, "slots": 65536, "most": 1 << 40},
         "just enough of everything": {"tenants": {"acme": f"{state.use()},{len(contents)}"}, "slots": len(contents), "most": longest},
     }.items():
-        puts_log(small.folder, files)
+        puts_data(small.folder, files)
         found = room.runs(small.folder, given=given, **{"tenants": small.tenants, **words})
         compares(name, found[:2], (0, wanted))
     compares("the bytes before and after the past was dropped", log_length(small.folder) < len(small.data), True)

@@ -6,10 +6,10 @@ import math
 import re
 import time
 
-from data_folder import Ended
+from data_folder import LONGEST, Ended
 from frames import ABANDON, APPEND, BLOB_UNKNOWN, CLOSE, DELETE, DELETE_MANIFEST, DIGEST_INVALID, FETCH, GET_MANIFEST, GIVE_BACK, LEASE
-from frames import MANIFEST_UNKNOWN, MOUNT, NAME_UNKNOWN, PUT_MANIFEST, READ, REFERENCED, REMOVE_REPO, REPO_COUNT, REPO_IN_USE, SLOT_USE
-from frames import START, STATUS, SWEEP, UNLIMITED, UPLOAD_UNKNOWN, USAGE, reply, request, sha256
+from frames import MANIFEST_UNKNOWN, MEMORY, MOUNT, NAME_UNKNOWN, PUT_MANIFEST, READ, REFERENCED, REMOVE_REPO, REPO_COUNT, REPO_IN_USE, SLOT_USE
+from frames import START, STATUS, SWEEP, UNLIMITED, UNREADABLE, UPLOAD_UNKNOWN, USAGE, reply, request, sha256
 
 MIB = 1 << 20
 QUOTA = 1 << 40
@@ -20,6 +20,9 @@ RARE = "/rare"
 
 # The number of links, of manifests and of sessions that a client keeps at most, and of removed ones that it still looks for.
 MOST_LINKS, MOST_MANIFESTS, MOST_SESSIONS, MOST_GONE = 30, 6, 8, 20
+
+# The number of contents that the clients push again, and the length of each at most.
+MOST_SHARED, MOST_SHARED_LENGTH = 12, 200_000
 
 # The kinds of a step: it changes nothing, it adds a chunk, or it changes something else.
 READS, CHUNK, CHANGE = "reads", "chunk", "change"
@@ -182,27 +185,41 @@ class State:
         return counted + [step for name in sorted(names, key=str) for step in self.finds(name)]
 
 
-def some_bytes(rng):
-    """Returns bytes of a random length: mostly few, sometimes more than a MiB, sometimes none."""
+def some_bytes(rng, in_files=True):
+    """Returns bytes of a random length: mostly few, often more than a log has of a content, seldom more than a MiB, sometimes none. If not
+    `in_files`, they are always few."""
     draw = rng.random()
-    most = 2 * MIB if draw < 0.004 else 100_000 if draw < 0.04 else 2000
+    if not in_files:
+        return rng.randbytes(rng.randint(0 if draw > 0.95 else 1, 2000))
+    if draw < 0.1:
+        return rng.randbytes(rng.randint(LONGEST - 100, LONGEST + 100))
+    if draw < 0.17:
+        return rng.randbytes(rng.choice([LONGEST, LONGEST + 1, LONGEST // 2]))
+    most = 2 * MIB if draw < 0.174 else 100_000 if draw < 0.4 else 2000
     return rng.randbytes(rng.randint(0 if draw > 0.95 else 1, most))
 
 
 class History:
     """What the clients of a store know in common: all that was replied to before the time `durable` is durable. The store keeps a first
-    part of one history. So a durable change proves that all is durable that was replied to before its request was sent."""
+    part of one history. So a durable change proves that all is durable that was replied to before its request was sent. `contents` are
+    some that were pushed, which others push again."""
 
     def __init__(self):
         self.durable = 0.0
+        self.contents = collections.deque(maxlen=MOST_SHARED)
+
+    def shares(self, data):
+        """Lets others push a content again."""
+        if len(data) <= MOST_SHARED_LENGTH:
+            self.contents.append(data)
 
 
 class Client:
     """Makes random calls in its tenant, and knows what may be there after a crash: one of `possible`, which are the state after the
     last change that was promised, and those after each later call."""
 
-    def __init__(self, tenant, rng, history=None):
-        self.tenant, self.rng, self.history = tenant, rng, history or History()
+    def __init__(self, tenant, rng, history=None, in_files=True):
+        self.tenant, self.rng, self.history, self.in_files = tenant, rng, history or History(), in_files
         self.state = State(tenant)
         self.possible = [self.state]
         self.sent, self.replied = {}, {}  # the times of the calls that led to the possible states
@@ -210,6 +227,8 @@ class Client:
         self.kinds = collections.Counter()
         self.made = 0
         self.fault = None
+        # whether another program may take the folder over from the one that the client works with
+        self.loses = False
 
     def promises(self, state):
         """Notes that the calls that led to a possible state are durable."""
@@ -232,6 +251,8 @@ class Client:
     def receives(self, connection, step, promise):
         """Receives the reply of a step, and compares it. `promise` is the policy under which it promises that the step is durable."""
         found = connection.hears()
+        if self.loses and found in (reply(MEMORY), reply(UNREADABLE)) and step.request[0] in (APPEND, CLOSE, FETCH):
+            raise Ended  # another program has the folder, and this one finds no file of a content there
         if found != step.reply:
             raise Fault(f"{self.tenant}: the reply to {step.request[:80]!r} is {found[:80]!r}, and not {step.reply[:80]!r}")
         if step.kind == CHANGE or step.kind == CHUNK and promise == "each":
@@ -261,6 +282,28 @@ class Client:
             return "removal", step
         return "removal of nothing" if repository not in self.state.repositories else "removal in use", step
 
+    def some_bytes(self):
+        return some_bytes(self.rng, self.in_files)
+
+    def chunk(self, number):
+        """Returns the next bytes of a session: sometimes a part of a content that was pushed before."""
+        _, data = self.state.sessions[number]
+        shared = [one for one in list(self.history.contents) if one.startswith(data)] if not data or self.rng.random() < 0.5 else []
+        if shared and self.rng.random() < 0.5:
+            rest = self.rng.choice(shared)[len(data):]
+            return rest[:self.rng.choice([LONGEST, len(rest) // 2, len(rest)])] or b"a"
+        return self.some_bytes() or b"a"
+
+    def last_chunk(self, number):
+        """Returns the last bytes of a session: if they can be, those of a content that was pushed before."""
+        _, data = self.state.sessions[number]
+        shared = [one for one in list(self.history.contents) if one.startswith(data)]
+        if shared and self.rng.random() < (0.3 if not data else 0.9):
+            return self.rng.choice(shared)[len(data):]
+        rest = self.some_bytes()
+        self.history.shares(data + rest)
+        return rest
+
     def chosen(self):
         """Returns the name and the step of a random call that is possible now."""
         state, rng = self.state, self.rng
@@ -269,10 +312,13 @@ class Client:
         if sessions and (draw < 0.45 or len(sessions) >= MOST_SESSIONS):
             number = rng.choice(sessions)
             kind = rng.choices(["append", "close", "close sha512", "abandon", "wrong close"], [50, 35, 5, 7, 3])[0]
+            last = self.last_chunk(number) if kind.startswith("close") else b""
+            if len(state.sessions[number][1]) + len(last) > LONGEST:
+                kind = kind.removesuffix(" sha512")  # which needs all bytes in memory
             make = {
-                "append": lambda: state.appends(number, some_bytes(rng) or b"a"),
-                "close": lambda: state.closes(number, some_bytes(rng)),
-                "close sha512": lambda: state.closes(number, some_bytes(rng), "sha512"),
+                "append": lambda: state.appends(number, self.chunk(number)),
+                "close": lambda: state.closes(number, last),
+                "close sha512": lambda: state.closes(number, last, "sha512"),
                 "abandon": lambda: state.abandons(number),
                 "wrong close": lambda: state.closes_wrongly(number),
             }
@@ -302,6 +348,8 @@ class Client:
         place = self.rng.randint(0, len(data))
         read = connection.calls(READ, digest=digest, number=leased.second, span=(place, place + 1000))
         back = connection.calls(GIVE_BACK, number=leased.second)
+        if self.loses and read.status == UNREADABLE:
+            raise Ended  # another program has the folder, and this one finds no file of a content there
         if (leased.status, leased.first, read.body, back.status) != (0, len(data), data[place:place + 1001], 0):
             raise Fault(f"{self.tenant}: a read of {digest} under a lease is wrong")
 

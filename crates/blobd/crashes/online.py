@@ -3,33 +3,36 @@ import re
 import threading
 import time
 
-from data_folder import PATIENCE, Ended, FolderLog, Trace, log_files, log_length, puts_log
-from frames import ABANDON, APPEND, CLOSE, DELETE, GREETING, START, STAT, SWEEP, sha256
+from data_folder import PATIENCE, Ended, FolderLog, Trace, data_files, log_files, log_length, puts_data
+from frames import ABANDON, CLOSE, DELETE, DELETE_MANIFEST, GREETING, PUT_MANIFEST, START, STAT, SWEEP, sha256
 from kills import lose_power
 from model import MIB, Fault
 from room import all_there, all_there_still, clients, compares, counts, ends_well, fault, looks, wait_until
-from segments import pushes
+from segments import pushes, puts_long_manifest
 
-# The lengths of the contents that are deleted, and the seconds of a round.
-CONTENT, ROUND = 150_000, 3
+# The lengths of the contents and of the manifests that are deleted, and the seconds of a round.
+CONTENT, MANIFEST, ROUND = 50_000, 150_000, 3
 
 # The number of small blobs in the log whose rewriting is measured, and the longest time that a command may take then, in seconds.
 SMALL, LONGEST = 1500, 1
 
 
 def churns(client, line, end):
-    """Uploads contents, and deletes most of them at once, until a time or the end of the connection. Makes random calls between. Keeps
-    the first fault."""
+    """Uploads contents with long manifests, and deletes most of them at once, until a time or the end of the connection. Makes random calls
+    between. Keeps the first fault."""
     repository = f"{client.tenant}/one"
     try:
         while time.monotonic() < end:
             client.plays(line, client.state.starts(repository))
             client.plays(line, client.state.closes(client.state.following - 1, client.rng.randbytes(CONTENT)))
+            digest = list(client.state.links)[-1][1]
+            puts_long_manifest(client, line, repository, digest, MANIFEST)
+            client.plays(line, client.state.deletes_manifest(*list(client.state.manifests)[-1]))
             if client.rng.random() < 0.95:
-                client.plays(line, client.state.deletes(repository, list(client.state.links)[-1][1]))
+                client.plays(line, client.state.deletes(repository, digest))
                 line.calls(SWEEP)
             client.some_calls(line, "closes")
-            client.made += 4
+            client.made += 6
     except Ended:
         pass
     except (Fault, OSError) as error:
@@ -162,15 +165,21 @@ def permissions(room):
     compares("a first start", room.runs(folder, umask=0)[:2], (0, GREETING))
     blobd = room.starts(folder, around=["sh", "-c", 'umask 0; exec "$@"', "sh"])
     (line,) = blobd.opens()
+    data = bytes(CONTENT)
+    line.calls(CLOSE, "t0/one", sha256(data), number=line.calls(START, "t0/one").first, body=data)
     closes_segment(line)
     (folder / "rewrite").write_bytes(b"")
     wait_until("a base", lambda: FolderLog(folder).base)
     ends_well("a program in a folder of its own", blobd)
-    found = {path.name: oct(path.stat().st_mode & 0o777) for path in (folder, *folder.iterdir())}
-    of_folders = {path.name for path in (folder, *folder.glob("owner-*"))}
+    paths = [folder, *folder.rglob("*")]
+    found = {str(path): oct(path.stat().st_mode & 0o777) for path in paths}
+    of_folders = {str(path) for path in paths if path.is_dir()}
     compares("the permissions", found, {name: "0o700" if name in of_folders else "0o600" for name in found})
-    compares("the number of owners", len(of_folders), 2)
-    compares("whether the last segment and a base are among the files", len(found) >= 4, True)
+    compares("the number of owners", len(list(folder.glob("owner-*"))), 1)
+    names = {path.relative_to(folder).parts[0] for path in paths[1:]}
+    compares("whether contents and the length of the longest in the log are among the files", {"contents", "longest"} <= names, True)
+    compares("whether a base is among the files", any(name.startswith("base.") for name in names), True)
+    compares("whether a content has a file", any(path.match("contents/t0/*") for path in paths), True)
 
 
 def asks_and_changes(folder, line):
@@ -214,7 +223,7 @@ def interrupted_requests(room):
     pushes(client, line, 4)
     ends_well("a log of two segments", blobd)
     client.promises_all()
-    files, request, trace = log_files(folder), folder / "rewrite", room.path / "trace"
+    files, request, trace = data_files(folder), folder / "rewrite", room.path / "trace"
     request.write_bytes(b"")
     blobd = room.starts(folder, settings=room.traced())
     blobd.opens()
@@ -222,7 +231,7 @@ def interrupted_requests(room):
     blobd.kills()
     calls = Trace(trace).calls
     for step in range(calls.index(("sync", "base.new")) + 1, len(calls) + 1):
-        puts_log(folder, files)
+        puts_data(folder, files)
         request.write_bytes(b"")
         blobd = room.starts(folder, settings={**room.traced(), "CRASH_KILL": str(step)})
         blobd.opens()
@@ -250,8 +259,9 @@ def small_blobs(line, count):
 
 
 def closes_segment(line):
-    """Makes the last segment so long that the next one begins."""
-    number = line.calls(START, "t0/two").first
-    line.calls(APPEND, "t0/two", number=number, body=bytes(MIB))
-    line.calls(APPEND, "t0/two", number=number, body=bytes(MIB))
-    line.calls(ABANDON, "t0/two", number=number)
+    """Makes the last segment so long that the next one begins, by manifests that are deleted at once."""
+    for note in ("a", "b"):
+        text = b'{"schemaVersion":2,"manifests":[],"annotations":{"note":"%s"}}' % (note.encode() * MIB)
+        found = line.calls(PUT_MANIFEST, "t0/two", body=text)
+        compares("the status of a long manifest", found.status, 0)
+        line.calls(DELETE_MANIFEST, "t0/two", sha256(text))

@@ -1,14 +1,19 @@
 """Two programs on one folder whose lock keeps neither out, as on a file system over a network that gives up the lock of a machine which is
 cut off. Here the file `lock` is removed, so that the second program locks another one."""
+import contextlib
+import pathlib
+import random
 import re
 import signal
 import subprocess
 import threading
 import time
 
-from data_folder import PATIENCE, FolderLog
-from model import Fault
-from room import all_there, clients, compares, ends_well, fault, looks, stops, together
+from contents import bytes_of, opens, uploads
+from data_folder import PATIENCE, Ended, FolderLog, content_files
+from frames import SWEEP, request
+from model import Client, Fault
+from room import all_there, clients, compares, contents_fit, ends_well, fault, looks, stops, together
 
 # How often a program is stopped at a random place while another one takes over.
 ROUNDS = 12
@@ -16,13 +21,15 @@ ROUNDS = 12
 # The longest time until a program notices that another one has taken over, in seconds: it looks once a second.
 SOON = 10
 
-# How a rewriting of the log ended, also one before another program took over, and how far a slow start was.
-PROGRESS = re.compile(r" was (not rewritten|not written|written): |^blobd: (examining|replaying) ")
+# How a rewriting of the log ended, also one before another program took over, how far a slow start was, and a content that cannot be used.
+PROGRESS = re.compile(r" was (not rewritten|not written|written): |^blobd: (examining|scanning|replaying) |^blobd: cannot (write|read|remove) \S+/contents/")
 
 
 def begun(everybody, lines):
     """Lets each client make calls until its connection ends. Returns the threads."""
     threads = [threading.Thread(target=client.works, args=(line, "closes")) for client, line in zip(everybody, lines)]
+    for client in everybody:
+        client.loses = True
     for thread in threads:
         thread.start()
     return threads
@@ -36,6 +43,7 @@ def joined(everybody, threads, blobd):
     if any(thread.is_alive() for thread in threads):
         raise Fault(f"a connection does not end: {blobd.waits()}")
     for client in everybody:
+        client.loses = False
         if client.fault:
             raise Fault(client.fault)
 
@@ -120,3 +128,40 @@ def stopped_owners(room):
         if not FolderLog(folder).is_in_order():
             fault("the ids of a log that was taken over do not follow")
         all_there(room, folder, everybody)
+
+
+def state_of(process):
+    """Returns the letter of the state of a process: `T` if it is stopped."""
+    return pathlib.Path(f"/proc/{process.pid}/stat").read_text().rsplit(")", 1)[1].split()[0]
+
+
+def late_contents(room):
+    """Tests a program that was stopped before it reads requests, and goes on after another one has taken over: it makes, changes and removes no file of
+    a content, and replies to no change."""
+    folder, client = room.fresh(), Client("t0", random.Random(1))
+    first = room.starts(folder, "--sync", "each")
+    (line,) = first.opens()
+    uploads(client, line, [bytes_of(1, 40_000)])
+    number = opens(client, line, bytes_of(2, 20_000))
+    dropped = opens(client, line, bytes_of(3, 20_000))
+    first.process.send_signal(signal.SIGSTOP)
+    steps = [client.state.appends(number, bytes_of(4, 10_000))]
+    for make in (lambda state: state.abandons(dropped), lambda state: state.starts("t0/one"), lambda state: state.deletes(*list(state.links)[0])):
+        steps.append(make(steps[-1].after))
+    line.writes(b"".join(step.request for step in steps) + request(SWEEP) * 2)
+    (folder / "lock").unlink()
+    second = room.starts(folder, "--sync", "each")
+    second.opens()
+    before = content_files(folder)
+    first.process.send_signal(signal.SIGCONT)
+    replies = []
+    with contextlib.suppress(Ended, TimeoutError):
+        for step in steps:
+            replies.append(line.hears() == step.reply)
+    compares("the changes that a program replied to which was taken over", [reply for reply in replies if reply], [])
+    loses("a program with late requests for contents", folder, first)
+    compares("the files of contents after it", content_files(folder) == before, True)
+    looks([client], second)
+    contents_fit(folder, [client])
+    ends_well("a program that took over from one with late requests", second)
+    all_there(room, folder, [client])

@@ -1,4 +1,6 @@
 """The rooms in which programs are tested, the clients of a test, and the checks."""
+import collections
+import hashlib
 import random
 import re
 import shutil
@@ -8,13 +10,16 @@ import threading
 import time
 
 import data_folder
-from data_folder import PATIENCE, Blobd
+from data_folder import LONGEST, PATIENCE, Blobd, content_files
 from frames import GREETING
 from model import QUOTA, Client, Fault, History
 
 NOBODY = 65534
 TENANTS = ("t0", "t1", "t2", "t3")
 SLOTS = 4096
+
+# The longest time until a program that runs has removed the files of contents that nobody needs, in seconds.
+SOON = 10
 
 counts = {"kills": 0, "losses": 0, "bytes lost": 0, "calls": 0, "comparisons": 0, "faults": 0}
 
@@ -43,9 +48,9 @@ def stops(name, found, status, *texts, lines=1):
 class Room:
     """Where a program is tested: a folder with a copy of the program, the library, the pipes, and the folders for data."""
 
-    def __init__(self, program, path, long):
+    def __init__(self, program, path, long, earlier=None):
         path.chmod(0o755)
-        self.path, self.long = path, long
+        self.path, self.long, self.earlier = path, long, earlier
         self.program = path / "blobd"
         shutil.copy(program, self.program)
         self.program.chmod(0o755)
@@ -54,6 +59,7 @@ class Room:
         self.rng = random.Random(1)
         self.made = 0
         self.started = []
+        self.segments = None  # the files and the states of a log of several files (segments.py)
 
     def fresh(self):
         """Returns the path of a new empty folder."""
@@ -69,11 +75,11 @@ class Room:
         self.kept.mkdir()
         return {"CRASH_TRACE": str(self.path / "trace"), "CRASH_KEEP": str(self.kept)}
 
-    def command(self, folder, *options, slots=SLOTS, most=1 << 30, tenants=None):
+    def command(self, folder, *options, slots=SLOTS, most=1 << 30, tenants=None, program=None):
         """Returns the words that start a program on a folder. A tenant has a quota, or the text of a quota and a share."""
         limits = tenants or {tenant: QUOTA for tenant in TENANTS}
         words = [f"{tenant}={limit}" for tenant, limit in limits.items()]
-        return [self.program, "--data", folder, *options, str(slots), str(most), *words]
+        return [program or self.program, "--data", folder, *options, str(slots), str(most), *words]
 
     def starts(self, folder, *options, connections=1, around=(), settings=None, **words):
         """Starts a program on a folder, with connections over named pipes. Settings are those of the library."""
@@ -104,10 +110,10 @@ class Room:
             shutil.rmtree(folder)
 
 
-def clients(room):
-    """Returns a client for each tenant."""
+def clients(room, in_files=True):
+    """Returns a client for each tenant. If not `in_files`, their contents are short: the log has their bytes."""
     history = History()
-    return [Client(tenant, random.Random(room.rng.random()), history) for tenant in TENANTS]
+    return [Client(tenant, random.Random(room.rng.random()), history, in_files) for tenant in TENANTS]
 
 
 def calls_of(everybody):
@@ -157,11 +163,53 @@ def ends_well(name, blobd):
         fault(f"{name}: status {status}: {text}")
 
 
+def sums(contents):
+    """Returns how often there is each content, by its sum."""
+    return collections.Counter(hashlib.sha256(data).hexdigest() for data in contents)
+
+
+def begins(files, blobs):
+    """Returns the files, each that begins with a blob's content without what follows: bytes of a chunk that failed may follow the content (docs/LOG.md)."""
+    known = {len(data): data for data in blobs}
+    shortened = []
+    for data in files:
+        fitting = [blob for length, blob in known.items() if length < len(data) and data[:length] == blob]
+        shortened.append(data if sums([data]) <= sums(blobs) or not fitting else fitting[0])
+    return shortened
+
+
+def contents_wrong(folder, everybody):
+    """Returns how the files of contents in a folder differ from what the clients have: a file for each open session that is longer than what
+    a log has, under its name, and one for each such blob. A file of another open session may be there."""
+    files, blobs, wrong = content_files(folder), {}, []
+    for client in everybody:
+        for number, (_, data) in client.state.sessions.items():
+            name = f"contents/{client.tenant}/{number}"
+            found = files.pop(name, None)
+            if len(data) > LONGEST and found != data:
+                wrong.append(f"{name}: {'no file' if found is None else f'{len(found)} bytes'}, and not its {len(data)} bytes")
+        blobs.update({digest: data for (_, digest), data in client.state.links.items() if len(data) > LONGEST})
+    found, wanted = sums(begins(files.values(), blobs.values())), sums(blobs.values())
+    if found != wanted:
+        names = [f"{name} ({len(data)} bytes)" for name, data in files.items() if hashlib.sha256(data).hexdigest() in found - wanted]
+        wrong.append(f"{(wanted - found).total()} contents of {len(blobs)} have no file, and these files are none of theirs: {names}")
+    return wrong
+
+
+def contents_fit(folder, everybody):
+    """Checks that the files of contents become those of the clients' contents, and no others. A program that runs removes the others soon."""
+    end = time.monotonic() + SOON
+    while (wrong := contents_wrong(folder, everybody)) and time.monotonic() < end:
+        time.sleep(0.05)
+    compares("the files of contents that are wrong", wrong, [])
+
+
 def all_there(room, folder, everybody):
     """Starts a program after the last kill, compares what is there, and ends it."""
     blobd = room.starts(folder, connections=len(everybody))
     blobd.opens()
     looks(everybody, blobd)
+    contents_fit(folder, everybody)
     ends_well("an end after a crash", blobd)
 
 
@@ -170,4 +218,5 @@ def all_there_still(room, folder, everybody):
     blobd = room.starts(folder, connections=len(everybody))
     for client, connection in zip(everybody, blobd.opens()):
         counts["comparisons"] += client.finds(connection)
+    contents_fit(folder, everybody)
     ends_well("a program without a change", blobd)

@@ -2,15 +2,15 @@
 meanwhile."""
 import struct
 
-from data_folder import MARK, Ended, FolderLog, LogReading, Trace, log_files, numbered, puts_log
+from data_folder import MARK, Ended, FolderLog, LogReading, Trace, log_files, numbered
 from logs import SmallLog
 from room import compares, stops, wait_until
 from segments import Segments, changed
 
 HEAD = struct.Struct("<IHHQQ")
 
-# The kinds of records that have the number of a session: it is opened, it gets a chunk, it becomes a blob.
-OPENED, CHUNK, SEALED = 2, 3, 4
+# The kinds of records that have the number of a session: it is opened, it gets a chunk, it becomes a blob. The last two have notes.
+OF_SESSIONS = 2, 3, 4, 13, 14
 
 
 def accepts(folder):
@@ -25,7 +25,7 @@ def sessions_in(records):
     found, place = set(), 0
     while place < len(records):
         kind, name, digest, number, body = HEAD.unpack_from(records, place)
-        if kind in (OPENED, CHUNK, SEALED):
+        if kind in OF_SESSIONS:
             found.add(number)
         place += HEAD.size + name + digest + body
     return found
@@ -167,14 +167,14 @@ def interrupted_salvage(room):
     place = parts.frames[name][2][0].place + 50
     files = {**made.files, name: changed(made.files[name], place)}
     state = left_without(made, parts.lost_at(name, place))
-    puts_log(made.folder, files)
+    made.puts(files)
     accepts(made.folder)
     blobd = room.starts(made.folder, settings=room.traced(), **made.words)
     blobd.opens()
     blobd.ends()
     calls = len(Trace(room.path / "trace").calls)
     for place in range(1, calls):
-        puts_log(made.folder, files)
+        made.puts(files)
         accepts(made.folder)
         blobd = room.starts(made.folder, settings={**room.traced(), "CRASH_KILL": str(place)}, **made.words)
         wait_until("the end of a program", lambda: blobd.process.poll() is not None or has_opened(blobd))

@@ -2,36 +2,55 @@
 import shutil
 import time
 
-from data_folder import HEADER, WORD, Ended, FolderLog, LogReading, Trace, framed, log_files, log_length, numbered, puts_log
+from data_folder import HEADER, WORD, Ended, FolderLog, LogReading, Trace, content_files, data_files, framed, log_files, log_length
+from data_folder import numbered, puts_data, puts_log
 from frames import GREETING
 from kills import litter, lose_power
 from model import QUOTA, State
 from room import all_there, all_there_still, clients, compares, counts, ends_well, fault, stops, wait_until
 
-# The length of each content of a log of segments, and the number of contents. The third one makes a segment long enough to be closed.
-CONTENT, CONTENTS = 400_000, 11
+# The lengths of the contents of a log of segments, over and over: all but one are in the log. The number of contents, of which more than 65
+# make a segment long enough to be closed. The length of a manifest, of which three do so.
+LENGTHS, CONTENTS, MANIFEST = (16_384, 16_384, 16_384, 16_384, 16_384, 40_000), 320, 400_000
+
+# The number of contents that are read after a start.
+READ = 60
 
 
 class Segments:
-    """A folder with a log of some segments by one tenant, with the length of the log and the state after each call."""
+    """A folder with a log of some segments by one tenant, with the length of the log and the state after each call. It is made once, and
+    copied for each test, unless it has to be another one."""
 
-    def __init__(self, room):
+    def __init__(self, room, is_another=False):
         self.room, self.folder = room, room.fresh()
         self.words = {"tenants": {"acme": QUOTA}}
-        self.states = [(HEADER, State("acme"))]
-        blobd = room.starts(self.folder, "--sync", "each", **self.words)
-        (line,) = blobd.opens()
-        for number in range(1, CONTENTS + 1):
-            self.plays(line, lambda state: state.starts("acme/one"))
-            self.plays(line, lambda state: state.closes(number, room.rng.randbytes(CONTENT)))
-        ends_well("a log of segments", blobd)
+        if is_another or not room.segments:
+            self.states = [(HEADER, State("acme"))]
+            blobd = room.starts(self.folder, "--sync", "each", **self.words)
+            (line,) = blobd.opens()
+            self.uploads(line)
+            ends_well("a log of segments", blobd)
+            room.segments = room.segments or (data_files(self.folder), self.states)
+        else:
+            files, states = room.segments
+            puts_data(self.folder, files)
+            self.states = list(states)
         self.keeps()
 
+    def uploads(self, line):
+        """Uploads contents, most of which are in the log."""
+        for place in range(CONTENTS):
+            number = self.states[-1][1].following
+            self.plays(line, lambda state: state.starts("acme/one"))
+            self.plays(line, lambda state: state.closes(number, self.room.rng.randbytes(LENGTHS[place % len(LENGTHS)])))
+
     def keeps(self):
-        """Notes the files of the log as they are."""
+        """Notes the files as they are."""
         self.files, self.log = log_files(self.folder), FolderLog(self.folder)
+        self.contents = content_files(self.folder)
         self.state = self.states[-1][1]
-        self.names = self.state.names()
+        # the use and the number of blobs are those of all
+        self.names = self.room.rng.sample(sorted(self.state.names(), key=str), READ)
 
     def plays(self, line, make):
         """Makes a call, and notes the length of the log and the state after it."""
@@ -47,10 +66,7 @@ class Segments:
         wait_until("a base", lambda: FolderLog(self.folder).base)
         wait_until("a base in place of the segments", lambda: len(numbered(self.folder, "base")) + len(numbered(self.folder, "log")) == 2)
         self.states = [(log_length(self.folder), self.states[-1][1])]
-        for _ in range(CONTENTS):
-            number = self.states[-1][1].following
-            self.plays(line, lambda state: state.starts("acme/one"))
-            self.plays(line, lambda state: state.closes(number, self.room.rng.randbytes(CONTENT)))
+        self.uploads(line)
         ends_well("a log with a base", blobd)
         self.keeps()
 
@@ -58,10 +74,16 @@ class Segments:
         """Returns the state that the whole frames before an offset in the log leave, or None if it was not noted."""
         return next((state for size, state in reversed(self.states) if size <= offset), None)
 
+    def puts(self, files):
+        """Leaves these files in the folder as those of the log, and all files of contents."""
+        puts_log(self.folder, files)
+        for name, data in self.contents.items():
+            (self.folder / name).write_bytes(data)
+
     def runs(self, files, state, *options):
         """Runs a program on these files, with requests for all that may be there. Returns how the run ends, and what it must write if
         this is the state."""
-        puts_log(self.folder, files)
+        self.puts(files)
         steps = state.observed(self.names)
         given = GREETING + b"".join(step.request for step in steps)
         found = self.room.runs(self.folder, *options, given=given, **self.words)
@@ -133,7 +155,7 @@ def wrong_files(room, made):
     """Tests files that are missing, exchanged, or those of another log."""
     names = [path.name for path in made.log.paths]
     one, two, three = names[1], names[2], names[-1]
-    other = Segments(room)
+    other = Segments(room, True)
     files = made.files
     for title, name, wrong in (
         ("a missing segment", one, {name: data for name, data in files.items() if name != one}),
@@ -172,7 +194,7 @@ def unsound_rewriting(room):
     made = Segments(room)
     compares("a log of several segments", len(made.log.paths) >= 4, True)
     for title, (wrong, name, place) in unsound_files(made).items():
-        puts_log(made.folder, made.files)
+        made.puts(made.files)
         blobd = room.starts(made.folder, "--sync", "each", **made.words)
         (line,) = blobd.opens()
         for path, data in ((made.folder / one, data) for one, data in wrong.items()):
@@ -239,7 +261,7 @@ def bases(room):
         "a base that another one has replaced": {"base.1": made.files[base]},
         "a segment that is being made": {"log.new": made.files["log.%d" % (number + 1)][:HEADER]},
         "the begin of a header": {"log.new": b"bloblog"},
-        "a base that is being written": {"base.new": made.files[base][:CONTENT]},
+        "a base that is being written": {"base.new": made.files[base][:MANIFEST]},
         "a whole base before its name": {"base.new": made.files[base]},
         "an empty base": {"base.new": b"", "log.new": b""},
     }.items():
@@ -264,13 +286,19 @@ def lonely_bases(room):
         compares("the ids of its files", FolderLog(folder).numbers(), [number, number + 1 & WORD])
 
 
+def puts_long_manifest(client, line, repository, digest, length=MANIFEST):
+    """Puts a manifest of at least this length, which the log has, for a content that is there."""
+    client.plays(line, client.state.puts_manifest(repository, [digest], client.rng.randbytes(length // 2).hex()))
+
+
 def pushes(client, line, count):
-    """Uploads some contents, each in a call. Returns whether the program answered all of them."""
+    """Pushes some contents, each in a file, with a long manifest each. Returns whether the program answered all of them."""
     try:
         for _ in range(count):
             number = client.state.following
             client.plays(line, client.state.starts("t0/one"))
-            client.plays(line, client.state.closes(number, client.rng.randbytes(CONTENT)))
+            client.plays(line, client.state.closes(number, client.rng.randbytes(LENGTHS[-1])))
+            puts_long_manifest(client, line, "t0/one", list(client.state.links)[-1][1])
     except Ended:
         return False
     return True
@@ -283,10 +311,11 @@ def rolls(room):
     (line,) = blobd.opens()
     pushes(client, line, 4)
     ends_well("a log of two segments", blobd)
-    calls = Trace(room.path / "trace").calls
+    numbered_calls = Trace(room.path / "trace").of_log()
+    calls = [call for _, call in numbered_calls]
     first = calls.index(("sync", "log.1"), calls.index(("rename", "log.new")))
     second = len(calls) - calls[::-1].index(("rename", "log.new"))
-    for place in range(max(first, second - 7), min(len(calls), second + 4) + 1):
+    for place, _ in numbered_calls[max(first, second - 7) - 1:second + 4]:
         for is_lost in (False, True, True):
             folder, (client, *_) = room.fresh(), clients(room)
             blobd = room.starts(folder, settings={**room.traced(), "CRASH_KILL": str(place)})
@@ -309,7 +338,7 @@ def failing_rolls(room):
     (line,) = blobd.opens()
     pushes(client, line, 4)
     ends_well("a log of two segments", blobd)
-    calls = [call for call in Trace(room.path / "trace").calls if not call[1].startswith("/")]
+    calls = [call for _, call in Trace(room.path / "trace").of_log() if not call[1].startswith("/") and "longest" not in call[1]]
     place = len(calls) - calls[::-1].index(("rename", "log.new"))
     syncs = sum(call == "sync" for call, _ in calls[:place])
     cases = [("CRASH_FAIL_SYNC", number) for number in range(syncs - 3, syncs + 2)]

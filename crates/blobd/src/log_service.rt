@@ -1,13 +1,15 @@
 //! Serves connections on a store with the log of a folder.
 ghost use Rattle.server_cli.specs.Arguments.{IsWithin};
 
-use crate::durable_serving::{ExaminedLog, ServeFault, serve_log};
+use crate::contents::{Contents, LONGEST, ServedContents};
+use crate::durable_serving::{ExaminedLog, serve_log};
 use crate::folder_stop::{folder_stop, log_stop};
+use crate::serve_fault::ServeFault;
 use crate::totals::conclude;
 use blob_store::Parts;
 use log_folder::{
-    DataFolder, FolderError, OpenLog, Outcome, Segment, When, accept_loss, compact, open_log,
-    salvage,
+    ConvertError, DataFolder, FolderError, OpenLog, Outcome, Segment, When, accept_loss, compact,
+    convert, open_log, read_longest, salvage, write_longest,
 };
 use server_cli::{LogOptions, Need, Options, Stop};
 use std::alloc::Global;
@@ -174,6 +176,76 @@ pub fn open_folder<'w>(
     examined(rt, folder, how, log, When::Wasteful)
 }
 
+/// Returns the stop for a log that was not converted. Prints the file of a content that cannot be written.
+fn convert_stop<'w>(rt: &HostRuntime, folder: &'w str, error: ConvertError) -> Stop<'w> {
+    match error {
+        ConvertError::Folder(error) => folder_stop(folder, error),
+        ConvertError::Content { path, error } => {
+            let _ = eprint!(*rt; "blobd: cannot write {path}: {error}\n");
+            folder_stop(
+                folder,
+                FolderError::of_file("write", FolderFile::Contents, error),
+            )
+        }
+    }
+}
+
+/// Converts a log that has the bytes of all contents. Before, it is rewritten, if there is room, so that what was dropped is not
+/// converted. Returns whether no content is left to convert: if not, the log has a record that cannot be replayed.
+fn convert_log<'w>(
+    rt: &HostRuntime,
+    folder: &DataFolder<'w>,
+    how: LogOptions<'w>,
+    log: OpenLog,
+    files: &ServedContents<'_>,
+) -> Result<bool, Stop<'w>> {
+    let examined = examined(rt, folder, how, log, When::Always)?;
+    let (mut segments, number) = segments_of(examined.log)?;
+    match convert(
+        rt,
+        folder.path,
+        folder.ownership.owner,
+        segments.as_mut_slice(),
+        number,
+        files.folder(),
+        files.tenants(),
+        LONGEST,
+    ) {
+        Ok(conversion) => Ok(conversion.is_whole),
+        Err(error) => Err(convert_stop(rt, how.folder, error)),
+    }
+}
+
+/// Opens the log of a folder, as `open_folder` does. A log that has the bytes of all contents is converted before. Returns also the
+/// length of the longest content whose bytes the log has then.
+///
+/// # Errors
+///
+/// Those of `open_folder`, and those of the conversion.
+pub fn open_converted<'w>(
+    rt: &HostRuntime,
+    folder: &DataFolder<'w>,
+    how: LogOptions<'w>,
+    files: &ServedContents<'_>,
+) -> Result<(ExaminedLog<'w>, u64), Stop<'w>> {
+    let longest = match read_longest(rt, folder.path) {
+        Ok(longest) => longest,
+        Err(error) => return Err(folder_stop(how.folder, error)),
+    };
+    if let Some(longest) = longest {
+        let log = open_folder(rt, folder, how)?;
+        return Ok((log, longest));
+    }
+    let log = open_mended(rt, folder, how)?;
+    if log.is_empty() || convert_log(rt, folder, how, log, files)? {
+        if let Err(error) = write_longest(rt, folder.path, folder.ownership.owner, LONGEST) {
+            return Err(folder_stop(how.folder, error));
+        }
+    }
+    let log = open_folder(rt, folder, how)?;
+    Ok((log, LONGEST))
+}
+
 /// Returns the stop for a log that has a record at this place which cannot be replayed.
 fn record_stop<'w>(folder: &'w str, place: LogPlace, cause: Cause) -> Stop<'w> {
     let need = match &cause {
@@ -202,6 +274,8 @@ fn fault_stop<'w>(folder: &'w str, fault: ServeFault) -> Stop<'w> {
         ServeFault::Read(file, error) => {
             folder_stop(folder, FolderError::of_file("read", file, error))
         }
+        ServeFault::Folder(error) => folder_stop(folder, error),
+        ServeFault::Missing(count) => Stop::Missing { folder, count },
         ServeFault::Log(error) => log_stop(folder, error),
         ServeFault::Record { place, cause } => record_stop(folder, place, cause),
     }
@@ -219,6 +293,7 @@ fn serve_once<
     options: &Options<'w>,
     how: LogOptions<'w>,
     log: ExaminedLog<'w>,
+    contents: &Contents<'_>,
     end: &Arc<EndCell, Global>,
     lines: &mut [Connection<I, O>],
 ) -> Result<(), Stop<'w>>
@@ -227,7 +302,8 @@ fn serve_once<
     let Ok(parts) = Parts::with_policy(rt.alloc(), &options.store, how.policy) else {
         return Err(Stop::Memory);
     };
-    match serve_log(threads, rt.alloc(), parts, log, end, lines) {
+    let parts = parts.with_files(contents.longest);
+    match serve_log(threads, rt.alloc(), parts, log, contents, end, lines) {
         Ok(totals) => conclude(rt, totals, lines),
         Err(fault) => Err(fault_stop(how.folder, fault)),
     }
@@ -289,16 +365,17 @@ pub fn serve_folder<
     folder: &DataFolder<'w>,
     how: LogOptions<'w>,
     log: ExaminedLog<'w>,
+    contents: &Contents<'_>,
     end: &Arc<EndCell, Global>,
     lines: &mut [Connection<I, O>],
 ) -> Result<(), Stop<'w>>
     requires { IsWithin (options.now).store }
 {
-    match serve_once(rt, threads, options, how, log, end, lines) {
+    match serve_once(rt, threads, options, how, log, contents, end, lines) {
         Ok(()) => Ok(()),
         Err(stop) => {
             let log = reopened(rt, folder, how, stop)?;
-            serve_once(rt, threads, options, how, log, end, lines)
+            serve_once(rt, threads, options, how, log, contents, end, lines)
         }
     }
 }

@@ -14,6 +14,8 @@
 //! more, the program ends at once. So it serves in a second thread, and the first one waits for the end of the service or for that
 //! failure. A third thread rewrites the log.
 //!
+//! Contents lie in files of the folder `DIR/contents` (`content_folder`). A start compares the files with the store.
+//!
 //! It guarantees of the function `serve_log` what `store_server` guarantees of `serve_new`, for each connection.
 #![tactic(auto)]
 
@@ -21,26 +23,32 @@ ghost use Rattle.std.specs.Prelude.{◌≡◌, IfErr, IfOk};
 ghost use Rattle.server_cli.specs.Stops.{stop_status};
 ghost use Rattle.server_cli.specs.Arguments.{IsWithin};
 
+mod comparison;
+mod contents;
 mod durable_serving;
 mod folder_stop;
-mod hashers;
+mod leftovers;
 mod log_service;
+mod replaying;
+mod serve_fault;
 mod totals;
 
+use crate::contents::{Contents, ServedContents, tenant_names};
 use crate::durable_serving::lost_folder;
 use crate::folder_stop::{folder_stop, log_stop, owner_stop};
-use crate::log_service::{open_folder, serve_folder};
+use crate::log_service::{open_converted, serve_folder};
 use crate::totals::conclude;
 use blob_store::Parts;
-use log_folder::DataFolder;
+use log_folder::{DataFolder, FolderError};
 use server_cli::{LogOptions, Options, Stop, read_arguments};
-use std::alloc::Global;
+use std::alloc::{AllocError, Global};
 use std::env;
 use std::fs::File;
 use std::io::{self, BufReader, BufWriter, ErrorKind, Read, Write};
 use std::process::ExitCode;
 use std::sync::{Arc, Wait};
 use std::thread::{self, Threads};
+use store_replay::FolderFile;
 use store_server::{Connection, EndCell, ServiceEnd, serve_new};
 
 /// A connection whose files are read and written through buffers.
@@ -131,6 +139,13 @@ fn run_in_memory<'w>(
     serve_all(rt, threads, parts, lines.as_mut_slice())
 }
 
+/// Returns the path of the folder of contents in a folder that this process owns. It leads through the owner's folder: a process that
+/// is the owner no more finds no content.
+fn contents_path(alloc: Global, folder: &DataFolder<'_>) -> Result<String, AllocError> {
+    let owner = FolderFile::Owner(folder.ownership.owner);
+    format!(in alloc; "{}{owner}/..{}", folder.path, FolderFile::Contents)
+}
+
 /// Serves the connections of the options on a store with the log of a folder that this process has.
 fn run_in_folder<'w, W: Threads + Wait + Sync + Copy + Send + 'static>(
     rt: &HostRuntime,
@@ -142,10 +157,36 @@ fn run_in_folder<'w, W: Threads + Wait + Sync + Copy + Send + 'static>(
 ) -> Result<(), Stop<'w>>
     requires { IsWithin (options.now).store }
 {
-    let log = open_folder(rt, folder, how)?;
+    let names = tenant_names(rt.alloc(), &options.store)?;
+    let path = contents_path(rt.alloc(), folder)?;
+    let files = match ServedContents::open(rt, how.folder, path.as_str(), names.as_slice()) {
+        Ok(files) => files,
+        Err(error) => {
+            let error = FolderError::of_file("make", FolderFile::Contents, error);
+            return Err(folder_stop(how.folder, error));
+        }
+    };
+    let (log, longest) = open_converted(rt, folder, how, &files)?;
+    let contents = Contents {
+        files,
+        path: path.as_str(),
+        longest,
+        slots: options.store.slots,
+        accepts_loss: folder.accepts_loss,
+    };
     if options.paths.is_empty() {
         let line = buffered(rt, rt.reader(), io::writer(rt))?;
-        return serve_folder(rt, threads, options, folder, how, log, end, &mut [line]);
+        return serve_folder(
+            rt,
+            threads,
+            options,
+            folder,
+            how,
+            log,
+            &contents,
+            end,
+            &mut [line],
+        );
     }
     let mut lines = open_connections(rt, options.paths)?;
     serve_folder(
@@ -155,6 +196,7 @@ fn run_in_folder<'w, W: Threads + Wait + Sync + Copy + Send + 'static>(
         folder,
         how,
         log,
+        &contents,
         end,
         lines.as_mut_slice(),
     )
