@@ -82,7 +82,7 @@ async fn run(options: Options) -> Result<(), Failure> {
     let notifier = Notifier::of_environment()?;
     let Listening { service, serving, address, metrics_address } = listening::listen(&options, tls, connections).await?;
     tracing::info!(%address, log_bytes = service.log_bytes(), "starting");
-    capacity::warn_of_memory(service.log_bytes());
+    capacity::warn_of_log(service.log_bytes(), options.data.as_deref());
     let started = tokio::select! {
         started = launch::start(&options, files, address) => started?,
         () = signals.recv() => {

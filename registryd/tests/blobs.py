@@ -1,9 +1,10 @@
 #!/usr/bin/env python3
 """Counts the calls to the store that a GET of a blob makes, for the full content and for ranges, and compares what it sends."""
-import email, email.policy
+import email, email.policy, http.client
 
 from hardships import head_of
 from playing import calls, play, serving_stub, until
+from restarts import folder
 from server import serving, sha256
 
 PATCH = {"Content-Type": "application/octet-stream"}
@@ -118,6 +119,35 @@ def a_fetch_that_came_too_late_leaves_no_lease():
         assert counts(server) == {FETCH: 2, GIVE_BACK: 1}, counts(server)
 
 
+def a_damaged_content_has_no_wrong_byte():
+    """The reply is 500 if no byte was sent. Else the connection ends before the promised length. Both are counted and logged. Then the blob
+    is taken for missing by who would not send it otherwise, until it is stored again."""
+    unreadable = 253
+    with folder() as path, serving_stub({FETCH: {"status": unreadable}}, "--data", path) as server:
+        client = server.client()
+        at = pushed(client, b"abc")
+        answer = client.ask("GET", at)
+        assert (answer.status, answer.code()) == (500, "UNSUPPORTED"), answer.status
+        assert server.metric("registryd_damaged_reads_total") == 1
+        mount = f"/v2/acme/two/blobs/uploads/?mount={sha256(b'abc')}&from=acme/one"
+        assert (client.ask("HEAD", at).status, client.ask("POST", mount).status) == (404, 202)
+        assert pushed(client, b"abc") == at and client.ask("HEAD", at).status == 200
+        line = f"the content is damaged: push it again repository=\"acme/one\" digest=\"{sha256(b'abc')}\""
+        assert line in server.logged(), server.logged()
+    for after, headers in ((0, {}), (0, {"Range": "bytes=-7"}), (0, {"Range": "bytes=0-0,9-9"}), (1, {}), (2, {})):
+        with folder() as path, serving_stub({READ: {"status": unreadable, "after": after}}, "--data", path) as server:
+            client, data = server.client(), bytes(range(256)) * (3 * MIB // 256)
+            at = pushed(client, data)
+            try:
+                # Two pieces are read at once, and the second read may be the first one at the store.
+                answer = client.ask("GET", at, headers=headers)
+                assert after <= 1 and answer.status == 500, (after, headers, answer.status)
+            except http.client.IncompleteRead as cut:
+                assert after > 0 and data.startswith(cut.partial) and len(cut.partial) <= after * PIECE, (after, len(cut.partial))
+            assert until(lambda: counts(server).get(GIVE_BACK) == 1), counts(server)
+            assert 1 <= server.metric("registryd_damaged_reads_total") <= 2 and "the content is damaged" in server.logged()
+
+
 def parts_are_those_of_the_content():
     """Compares ranges of blobs around the maximum length of a fetch with those of the stub and of a real store."""
     with serving() as server:
@@ -207,7 +237,7 @@ def main():
         a_part_that_is_not_there_takes_one_call, a_part_whose_place_depends_on_the_size_takes_a_lease,
         a_part_that_is_not_wanted_is_not_fetched, a_blob_that_is_not_there_takes_one_call,
         without_memory_for_a_fetch_the_size_is_asked_for_first, a_fetch_that_came_too_late_leaves_no_lease,
-        parts_are_those_of_the_content, several_parts_are_sent_together, some_ranges_are_one_part_or_all])
+        a_damaged_content_has_no_wrong_byte, parts_are_those_of_the_content, several_parts_are_sent_together, some_ranges_are_one_part_or_all])
 
 
 if __name__ == "__main__":

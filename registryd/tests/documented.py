@@ -1,7 +1,7 @@
 """The commands of a document, and a shell that types them in a folder of the test."""
 import os, re, subprocess, textwrap
 
-from server import BLOBD, Client, TOP
+from server import BLOBD, Client, REGISTRYD, TOP
 
 
 def blocks(document, heading, language="sh"):
@@ -20,6 +20,7 @@ class Shell:
             os.makedirs(f"{folder}/{top}", exist_ok=True)
         # The package's program is that of this checkout. There is no service, and no user of its own.
         self.words = {"registryd/run": f"{TOP}/run", "registryd --data": f"{TOP}/run --data", "systemctl ": ": ",
+                      "registryd contents": f"{REGISTRYD} contents",
                       "chown -R registryd:registryd": "chown -R 0:0", **dict(words)}
 
     def replaced(self, text):

@@ -70,8 +70,13 @@ def blobs(flows):
          wants={"Content-Range": "bytes */3"})
     play("end-4b: in one request", "POST", f"acme/one/blobs/uploads/?digest={sha256(b'one')}", 201, b"one", PATCH)
     play("under another digest", "POST", f"acme/one/blobs/uploads/?digest={sha256(b'two')}", 400, b"one", PATCH, code="DIGEST_INVALID")
-    play("by SHA-512", "POST", f"acme/one/blobs/uploads/?digest={sha512(big)}", 201, big, PATCH)
-    play("and back", "GET", f"acme/one/blobs/{sha512(big)}", 200, content=big)
+    if "WITH_FOLDER" in os.environ:
+        play("by SHA-512", "POST", f"acme/one/blobs/uploads/?digest={sha512(big)}", 400, big, PATCH, code="UNSUPPORTED")
+    else:
+        play("by SHA-512", "POST", f"acme/one/blobs/uploads/?digest={sha512(big)}", 201, big, PATCH)
+        play("and back", "GET", f"acme/one/blobs/{sha512(big)}", 200, content=big)
+    play("short, by SHA-512", "POST", f"acme/one/blobs/uploads/?digest={sha512(abc)}", 201, abc, PATCH)
+    play("and back", "GET", f"acme/one/blobs/{sha512(abc)}", 200, content=abc)
     play("no bytes", "POST", f"acme/one/blobs/uploads/?digest={sha256(b'')}", 201, b"", PATCH)
     play("and back", "GET", f"acme/one/blobs/{sha256(b'')}", 200, content=b"", wants={"Content-Length": "0"})
 

@@ -6,7 +6,7 @@ import ctypes, mmap, os, pathlib, shutil, stat, tempfile
 from crash.paths import build_shim, log_of
 from playing import play
 from restarts import by_signal, folder, pulled, push, pushed
-from server import BLOBD, MANIFEST, REGISTRYD, serving
+from server import BLOBD, MANIFEST, REGISTRYD, index_of, push_index, serving
 from statuses import check, ended
 
 NOBODY = 65534
@@ -109,7 +109,7 @@ def the_cache_is_dropped_before_the_start():
     with folder() as path:
         with serving("--data", path) as server:
             for number in range(3):
-                push(server.client(), "acme/one", os.urandom(2_000_000))
+                push_index(server.client(), "acme/one", index_of(number, 2_000_000))
             by_signal(server)
         first = log_of(path).paths[0]
         first.read_bytes()

@@ -8,7 +8,7 @@ from crash.paths import log_of
 from limits import CHEAP, basic, stopped, users
 from playing import Asking, play, until
 from restarts import PATCH, by_kill_of_both, by_signal, opened, pulled, push, pushed, tags_of
-from server import MANIFEST, serving, sha256
+from server import MANIFEST, index_of, push_index, serving, sha256
 from statuses import check, ended
 from tag_rules import command
 from views import status_of
@@ -251,41 +251,56 @@ def a_signal_gives_back_the_room_of_what_was_deleted():
     """The last file of the log is closed first, since it has the deletes. The reserve has room for what is kept."""
     with disk(96) as at, serving(*at.words()) as server:
         client, layer = server.client(), noise("layer")
-        image, blobs = pushed(client, layer=layer), [noise(number) for number in range(30)]
-        for data in blobs:
-            push(client, "acme/one", data)
+        image, texts = pushed(client, layer=layer), [push_index(client, "acme/one", index_of(number, MIB)) for number in range(30)]
         assert until(lambda: at.reserve() == RESERVE * MIB)
         with pulling(server, image, layer):
             at.fill()
             assert upload(client, noise("more")) == 507
-            for data in blobs[1:]:
-                assert delete(client, data) == 202
+            for text in texts[1:]:
+                assert client.ask("DELETE", text).status == 202
             at.fill()
             before = log_of(at.folder).length()
             server.process.send_signal(signal.SIGUSR1)
             assert until(lambda: is_log_shorter(at.folder, before - 24 * MIB)), (before, log_of(at.folder).length(), server.logged()[-2000:])
             assert until(lambda: at.free() > 20 * MIB)
             push(client, "acme/one", noise("more"))
-            check_all(server, image, layer, [blobs[0], noise("more")])
+            check_all(server, image, layer, [noise("more")])
         by_kill_of_both(server)
         with serving(*at.words()) as server:
-            check_all(server, image, layer, [blobs[0], noise("more")])
+            check_all(server, image, layer, [noise("more")])
+            assert server.client().ask("GET", texts[0]).body == index_of(0, MIB)
             by_signal(server)
+
+
+def a_deleted_blob_gives_back_its_room():
+    """At the next sweep, without a rewriting, since its content has a file of its own."""
+    with disk() as at, serving(*at.words()) as server:
+        client, layer = server.client(), noise("layer")
+        image, blobs = pushed(client, layer=layer), [noise(number) for number in range(8)]
+        for data in blobs:
+            push(client, "acme/one", data)
+        with pulling(server, image, layer):
+            at.fill()
+            assert upload(client, noise("more")) == 507
+            for data in blobs[1:]:
+                assert delete(client, data) == 202
+            assert until(lambda: at.free() > 6 * MIB), at.free()
+            push(client, "acme/one", noise("more"))
+            check_all(server, image, layer, [blobs[0], noise("more")])
+        by_signal(server)
 
 
 def a_rewriting_that_has_no_room_does_not_begin():
     with disk(64) as at, serving(*at.words()) as server:
         client, layer = server.client(), noise("layer")
-        image, blobs = pushed(client, layer=layer), [noise(number) for number in range(20)]
-        for data in blobs:
-            push(client, "acme/one", data)
+        image, texts = pushed(client, layer=layer), [push_index(client, "acme/one", index_of(number, MIB)) for number in range(20)]
         assert until(lambda: at.reserve() == RESERVE * MIB)
         at.fill()
         server.process.send_signal(signal.SIGUSR1)
         server.wait_for(r"was not rewritten: it needs 2\d{7} bytes on the disk, and may take \d{7}\n")
         assert not glob.glob(f"{at.folder}/owner-*/base.new") and at.free() > 0
-        check_all(server, image, layer, blobs)
-        assert delete(client, blobs.pop()) == 202
+        check_all(server, image, layer, [])
+        assert {client.ask("GET", text).status for text in texts} == {200} and client.ask("DELETE", texts[0]).status == 202
         by_signal(server)
 
 
@@ -343,7 +358,7 @@ def the_next_file_of_the_log_has_room():
             push(client, "acme/one", data)
         # A file that is longer than a MiB is closed before the next change is written.
         while log_of(at.folder).last.stat().st_size <= MIB:
-            push(client, "acme/two", noise(f"more {more}", 100_000))
+            push_index(client, "acme/two", index_of(f"more {more}", 100_000))
             more += 1
         before = log_of(at.folder).last
         with stopped(server.child()):
@@ -404,6 +419,7 @@ def main():
     tests = [
         its_own_uploads_never_fill_the_disk, another_program_fills_the_disk, (a_start_on_a_full_disk, by_signal),
         (a_start_on_a_full_disk, by_kill_of_both), a_signal_gives_back_the_room_of_what_was_deleted,
+        a_deleted_blob_gives_back_its_room,
         a_rewriting_that_has_no_room_does_not_begin, changes_wait_while_the_disk_fills, the_next_file_of_the_log_has_room,
         a_robot_is_revoked_on_a_full_disk,
         *((a_database_of_an_earlier_version_waits_for_room, name) for name in kept_folders.earlier_versions())]

@@ -35,7 +35,7 @@ def a_broken_off_upload_is_resumed(server):
 def a_broken_off_post_leaves_nothing(server):
     used = lambda: server.metric('registryd_tenant_used_bytes{tenant="other"}')
     line = server.socket()
-    line.sendall(head_of("POST", f"other/x/blobs/uploads/?digest={sha256(b'')}", Content_Length=9 * MIB) + b"x" * (2 * MIB))
+    line.sendall(head_of("POST", f"other/x/blobs/uploads/?digest={sha256(b'')}", Content_Length=9 * MIB) + b"x" * (5 * MIB))
     for _ in range(100):
         if used() > 0:
             break

@@ -55,16 +55,25 @@ def database_version(path):
         return int.from_bytes(file.read(64)[60:64], "big")
 
 
+def read(path):
+    with open(path, "rb") as file:
+        return file.read()
+
+
 def content_of(path):
-    """Returns the bytes of each file of a folder by its name, but for the reserve. The folder of the owner has the names of its files."""
+    """Returns the bytes of each file of a folder by its name, but for the reserve, and so those of contents. The folder of the owner has the
+    names of its files."""
     found = {}
     for name in sorted(set(os.listdir(path)) - {RESERVE}):
+        if name == "contents":
+            for tenant in os.listdir(f"{path}/{name}"):
+                found.update((f"{name}/{tenant}/{number}", read(f"{path}/{name}/{tenant}/{number}")) for number in os.listdir(f"{path}/{name}/{tenant}"))
+            continue
         if os.path.isdir(f"{path}/{name}"):
             assert without_number(name) not in found, "two owners"
             found[without_number(name)] = sorted(os.listdir(f"{path}/{name}"))
             continue
-        with open(f"{path}/{name}", "rb") as file:
-            found[name] = file.read()
+        found[name] = read(f"{path}/{name}")
     return found
 
 

@@ -7,7 +7,7 @@ import os, shutil, sqlite3
 from crash.paths import log_of
 from playing import play
 from restarts import by_kill_of_both, by_signal, database, folder, pulled, push, pushed, tags_of
-from server import MANIFEST, REGISTRYD, serving, sha256
+from server import MANIFEST, REGISTRYD, index_of, push_index, serving, sha256
 from statuses import check, ended
 
 # The file that a start with `--sync never` makes.
@@ -120,10 +120,9 @@ def manifests_that_the_store_lacks():
 
 def files_of_the_log_that_are_missing():
     """The last file, or all."""
-    large = os.urandom(1_200_000)
     with folder() as path:
         with serving("--data", path) as server:
-            push(server.client(), "acme/one", large)
+            push_index(server.client(), "acme/one", index_of(1, 1_200_000))
             pushed(server.client())
             by_signal(server)
         assert sorted(log_names(path)) == ["log.1", "log.2"]
@@ -140,12 +139,10 @@ def files_of_the_log_that_are_missing():
 
 
 def a_rewritten_log_is_not_older():
-    large = os.urandom(1_500_000)
     with folder() as path:
         with serving("--data", path) as server:
             client = server.client()
-            push(client, "acme/two", large)
-            assert client.ask("DELETE", f"/v2/acme/two/blobs/{sha256(large)}").status == 202
+            assert client.ask("DELETE", push_index(client, "acme/two", index_of(1, 1_500_000))).status == 202
             image = pushed(client)
             by_signal(server)
         for _ in range(2):

@@ -2,7 +2,7 @@
 """Types the commands of docs/BACKUP.md, "Backup", "Restore" and "A second machine on a copy": copies the folder of a registry that has ended,
 and that of one to which clients push, and starts registries on the copies. All that was acknowledged before a copy began has
 to be there, byte for byte."""
-import contextlib, os, random, shutil, signal, tempfile, threading, time
+import contextlib, os, random, re, shutil, signal, tempfile, threading, time
 
 from crash.paths import log_of
 from documented import Shell, blocks
@@ -16,8 +16,12 @@ TENANTS = ("acme=10000000000", "other=1000000000")
 REPOS = ("acme/raw", "other/raw/deep")
 REMOTE = {"RCLONE_CONFIG_STANDBY_TYPE": "alias"}
 HEADER = 32  # the length of a file of a log that has just been made
-# Copies one file after the other, slowly.
-SLOW_CP = 'cp() { for file in "${@:1:$#-1}"; do sleep 0.3; command cp "$file" "${@: -1}" || return; done; }\n'
+# Copies the files of a log one after the other, slowly, and contents (`cp -au`) as always.
+SLOW_CP = """cp() {
+    if [[ $1 = -* ]]; then command cp "$@"; return; fi
+    for file in "${@:1:$#-1}"; do sleep 0.3; command cp "$file" "${@: -1}" || return; done
+}
+"""
 
 
 def only(found):
@@ -158,7 +162,7 @@ def a_folder_is_copied_while_its_log_is_rewritten():
                 said = shell.type(SLOW_CP + copying)
                 asking.join()
                 assert until(lambda: log_of(registry).base != before, 60), "the log is not rewritten"
-                interrupted.append("No such file or directory" in said)
+                interrupted.append(bool(re.search(r"/(log|base)\.\d+': No such file or directory", said)))
             for _ in range(10):
                 busy.copy(copy)
                 with started(shell, blocks(DOCUMENT, "Restore")[1]) as client:

@@ -53,7 +53,9 @@ class Hostile(http.server.BaseHTTPRequestHandler):
         referrer = {"digest": HOSTILE, "media_type": HOSTILE, "artifact_type": None}
         tag = {"name": HOSTILE, "digest": HOSTILE, "media_type": HOSTILE, "referrers": [referrer], "more_referrers": True}
         state = {"version": HOSTILE, "time": 1, "started": 0, "durable": True, "slots": 1, "free_slots": 1, "uploads": 0, "folder": None, "store": {"verified": False},
-                 "collector": {"sweeps": 0, "freed": 0, "held": 0, "last": []}, "scrub": {"last": None, "damage": [{"file": HOSTILE, "byte": 7, "what": HOSTILE}]},
+                 "collector": {"sweeps": 0, "freed": 0, "held": 0, "last": []}, "scrub": {"last": None, "damage": [{"file": HOSTILE, "byte": 7, "what": HOSTILE}],
+                           "contents": {"files": 1, "read": 0, "bytes": 0, "damaged": 2,
+                                        "damage": [{"file": HOSTILE, "digest": HOSTILE, "what": HOSTILE, "repositories": [HOSTILE], "time": 1}]}},
                  "tenants": [{"name": HOSTILE, "used": 0, "quota": 0, "blobs": 0, "share": None, "repositories": 1}]}
         repos = {"more": False, "repositories": [{"name": HOSTILE, "manifests": 1, "tags": [tag], "more_tags": False}]}
         body = self.page if self.path == "/" else json.dumps(repos if "tenant" in self.path else state).encode()
@@ -78,7 +80,7 @@ def names_are_no_markup():
             dom = chromium("%s:%d" % fake.server_address, "--dump-dom")
             fake.shutdown()
         assert "<title>registryd</title>" in dom and "<img" not in dom, dom
-        assert shown(dom).count(HOSTILE) == 10, shown(dom)
+        assert shown(dom).count(HOSTILE) == 13, shown(dom)
         assert '<dt>Damage of the log</dt><dd class="bad">' in dom, dom
 
 

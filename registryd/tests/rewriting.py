@@ -5,28 +5,23 @@ import os, random, signal, time
 from crash.paths import log_of
 from playing import play, until
 from restarts import CONFIG, PATCH, by_kill_of_both, by_signal, folder, opened, pulled, push, pushed, tags_of
-from server import MANIFEST, Server, serving, sha256
+from server import MANIFEST, Server, index_of, push_index, serving, sha256
 
 MIB = 1 << 20
 
 
-def blob(number):
-    return random.Random(number).randbytes(MIB)
-
-
 def fill(client, repo, count):
-    """Pushes blobs of a MiB."""
+    """Pushes manifests of a MiB, whose bytes are in the log."""
     for number in range(count):
-        push(client, repo, blob(f"{repo} {number}"))
+        push_index(client, repo, index_of(f"{repo} {number}", MIB))
 
 
-def litter(client, count=2, repo="acme/litter"):
-    """Pushes blobs of a MiB, and deletes each at once. Each ends a file of the log, and its delete is in the next file: a rewriting leaves
-    out all but the last. It happens by itself only if less than this is needed."""
+def litter(client, count=2, repo="acme/litter", length=MIB):
+    """Pushes manifests of a MiB, and deletes each at once. Each ends a file of the log, and its delete is in the next file: a rewriting
+    leaves out all but the last. It happens by itself only if less than this is needed."""
     for number in range(count):
-        data = blob(number)
-        push(client, repo, data)
-        assert client.ask("DELETE", f"/v2/{repo}/blobs/{sha256(data)}").status == 202
+        at = push_index(client, repo, index_of(number, length))
+        assert client.ask("DELETE", at).status == 202
 
 
 def wait_for_base(path, before=None):
@@ -92,7 +87,8 @@ def everything_is_there_after_a_signal():
 
 
 def the_metrics_show_what_a_rewriting_saves():
-    """The length of the log is that of its files. The live bytes are those of the tenants' blobs and uploads, and not of deleted ones."""
+    """The length of the log is that of its files. The live bytes are those of the tenants' blobs and uploads, and not of deleted ones, nor
+    of manifests."""
     with folder() as path:
         with serving("--data", path) as server:
             def measures():
@@ -100,17 +96,18 @@ def the_metrics_show_what_a_rewriting_saves():
             client = server.client()
             for repo in ("acme/one", "other/one"):
                 fill(client, repo, 2)
+                push(client, repo, random.Random(repo).randbytes(MIB))
             assert client.ask("PATCH", opened(client), bytes(1000), PATCH).status == 202
-            live = 4 * MIB + 1000
-            assert measures() == [log_of(path).length(), live] and live < log_of(path).length(), (measures(), live)
+            live, kept = 2 * MIB + 1000, 4 * MIB
+            assert measures() == [log_of(path).length(), live] and kept < log_of(path).length() < kept + MIB, (measures(), live)
             tenants = [server.metric(f'registryd_tenant_used_bytes{{tenant="{name}"}}') for name in ("acme", "other", "poor")]
             assert sum(tenants) == live, tenants
             litter(client)
             log, after = measures()
-            assert log > live + 2 * MIB and after == live, (log, after, live)
+            assert log > kept + 2 * MIB and after == live, (log, after, live)
             rewrite(server, path)
             log, after = measures()
-            assert log == log_of(path).length() and after == live < log < live + MIB + (MIB >> 1), (log, after, live)
+            assert log == log_of(path).length() and after == live and kept < log < kept + MIB + (MIB >> 1), (log, after, live)
             by_signal(server)
 
 
@@ -130,10 +127,7 @@ def a_signal_closes_the_last_file_first():
     with folder() as path:
         with serving("--data", path) as server:
             image = pushed(server.client())
-            for number in range(2):
-                data = blob(number)[:MIB // 4]
-                push(server.client(), "acme/litter", data)
-                assert server.client().ask("DELETE", f"/v2/acme/litter/blobs/{sha256(data)}").status == 202
+            litter(server.client(), length=MIB // 4)
             for number in range(1, 3):
                 names, length = rewrite(server, path), log_of(path).length()
                 assert names == [f"base.{number}", f"log.{number + 1}"] and length < MIB >> 3, (names, length)

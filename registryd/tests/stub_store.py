@@ -2,8 +2,8 @@
 """A stub of blobd with faults for tests. It speaks the protocol of docs/PROTOCOL.md, stores manifests and blobs without
 hashing them, and writes a line `stub: COMMAND REPOSITORY` to standard error for each call. STUB_RULES is a JSON object with
 the keys `COMMAND REPOSITORY` or `COMMAND`. A rule may have the seconds before a call is made (`slow`) or after it (`late`), a
-status that is returned without making the call (`status`), a first number that replaces the one of the reply (`first`), and the
-number of the command's first calls that it is for (`times`). The rule `greeting` has the seconds before the stub greets."""
+status that is returned without making the call (`status`), a first number that replaces the one of the reply (`first`), the
+number of the command's first calls that it is for (`times`), and the number of its first calls that it is not for (`after`). The rule `greeting` has the seconds before the stub greets."""
 import collections, hashlib, json, os, struct, sys, threading, time
 
 GREETING = b"blobd\0\1\0"
@@ -120,7 +120,7 @@ class Stub:
         with self.lock:
             self.asked[command] += 1
             rule = {**self.rules.get(str(command), {}), **self.rules.get(f"{command} {repo}", {})}
-            return rule if self.asked[command] <= rule.get("times", self.asked[command]) else {}
+            return rule if rule.get("after", 0) < self.asked[command] <= rule.get("times", self.asked[command]) else {}
 
     def serve(self, requests, replies):
         """Serves one connection until it is closed."""

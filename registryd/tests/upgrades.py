@@ -42,13 +42,16 @@ def log_files(content):
 
 
 def check_changes(before, after):
-    """Checks that a start and an end changed what the page lists. No byte of the log is changed: a start adds to its last file."""
+    """Checks that a start and an end changed what the page lists. No byte of the log is changed: a start adds to its last file, or replaces all
+    files by a base."""
     before = dict(before)
     if FIRST_LOG in before:
         before["log.1"] = before.pop(FIRST_LOG)
     gone, made = set(before) - set(after), set(after) - set(before)
-    assert gone <= listed("removed"), gone
-    assert {re.sub(r"\.\d+$", ".N", name) for name in made} <= listed("made"), made
+    kinds = lambda names: {re.sub(r"^contents/.*", "contents", re.sub(r"\.\d+$", ".N", name)) for name in names}
+    assert kinds(gone) <= listed("removed"), gone
+    assert kinds(made) <= listed("made"), made
+    assert after["longest"] == b"16384\n" and any(name.startswith("contents/") for name in made), made
     last = max(log_files(before), key=lambda name: int(name.split(".")[1]))
     for name in set(before) - gone:
         is_same = after[name].startswith(before[name]) if name == last else after[name] == before[name]

@@ -95,7 +95,7 @@ def a_range_is_that_of_the_content_in_chunked_coding():
             assert client.ask("GET", at)["Range"] == "0-0"
         assert client.ask("PATCH", at, iter([b"12345", b"67890"]), chunked)["Range"] == "0-9"
         # If a long one is longer or shorter than its range, the bytes received before are kept, and the upload can be resumed.
-        for claimed, sent in ((2 * MIB, 3 * MIB), (3 * MIB, 2 * MIB + 5)):
+        for claimed, sent in ((6 * MIB, 9 * MIB), (9 * MIB, 6 * MIB + 5)):
             at = opened(client)
             long = {**chunked, "Content-Range": f"0-{claimed - 1}"}
             answer = client.ask("PATCH", at, iter([b"x" * MIB] * (sent // MIB) + [b"x" * (sent % MIB)] * (sent % MIB > 0)), long)

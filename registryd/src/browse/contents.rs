@@ -204,11 +204,13 @@ impl Visit {
     /// Reads the first bytes of a blob, at most `MOST_TEXT`, and returns them with its length. Returns `None` if it is not there.
     pub(super) async fn blob(&self, repo: &str, digest: &str) -> Result<Option<(u64, Bytes)>, Fault> {
         let store = &self.registry.store;
-        match store.fetch(repo, digest, Some((0, MOST_TEXT - 1))).await? {
+        let fetched = store.fetch(repo, digest, Some((0, MOST_TEXT - 1))).await?;
+        match self.registry.check_read(repo, digest, fetched) {
             Ok(FetchResult::Piece { size, bytes }) => Ok(Some((size, bytes))),
             Ok(FetchResult::LeasedBlob(leased)) => {
                 let (last, size) = (leased.size.min(MOST_TEXT).saturating_sub(1), leased.size);
-                Ok(Some((size, store.read_last(leased.number, digest, Some((0, last))).await??)))
+                let read = store.read_last(leased.number, digest, Some((0, last))).await?;
+                Ok(Some((size, self.registry.check_read(repo, digest, read)?)))
             }
             Err(refusal) => match Fault::from(refusal) {
                 fault if fault.is_unknown() => Ok(None),

@@ -1,6 +1,7 @@
-//! What a person calls: asks a registry that runs over its socket, and prints its reply.
+//! What a person calls: asks a registry that runs over its socket, and prints its reply, or reads a folder.
 use crate::control::commands::{Command, NewAccount, Reaching, RetentionCommand, RobotCommand};
 use crate::control::server::{PREVIEW, ROBOTS};
+use crate::folder::contents_list;
 use crate::metadata::clock::time_of_day;
 use crate::moving;
 use crate::operation::reload::read_text;
@@ -34,6 +35,7 @@ pub(crate) fn run(command: &Command) -> ExitCode {
 
 async fn make(command: &Command) -> Result<(), String> {
     match command {
+        Command::Contents(command) => contents_list::print_all(command),
         Command::Move(command) => moving::command::run(command).await,
         Command::Retention(command) => retention(command).await,
         Command::Robot(RobotCommand::Add(account)) => add(account).await,

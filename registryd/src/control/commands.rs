@@ -1,4 +1,4 @@
-//! The commands of the command line that ask a registry that runs.
+//! The commands of the command line. All but one ask a registry that runs.
 use crate::http::client::ip_of;
 use clap::{ArgGroup, Args, Subcommand, ValueEnum};
 use hyper::Uri;
@@ -11,9 +11,11 @@ const SOCKET: &str = "/var/lib/registryd/control";
 /// A day, in seconds.
 const DAY: u64 = 86_400;
 
-/// A command to a registry that runs.
+/// A command.
 #[derive(Clone, Debug, Subcommand)]
 pub(crate) enum Command {
+    /// List which file of a folder has which content
+    Contents(ContentsCommand),
     /// Move a tenant to another registry while it serves
     Move(MoveCommand),
     /// Show which tags rules would remove now
@@ -32,6 +34,16 @@ pub(crate) struct Reaching {
     /// Print JSON
     #[arg(long)]
     pub(super) json: bool,
+}
+
+/// A list of the contents that lie in files.
+#[derive(Clone, Debug, Args)]
+pub(crate) struct ContentsCommand {
+    /// Folder of --data, or a copy of it
+    pub(crate) folder: PathBuf,
+    /// Read the files, and compare them with their digests
+    #[arg(long)]
+    pub(crate) verify: bool,
 }
 
 /// A move of a tenant.

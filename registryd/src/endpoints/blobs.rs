@@ -8,6 +8,7 @@ use crate::http::in_flight::Reserved;
 use crate::http::ranges::{parts, requested_ranges, Part, RequestedRange, MAX_PLACE};
 use crate::http::responses::{empty, with_body, HandlerResult};
 use crate::store::calls::{FetchResult, LeasedBlob, MAX_FETCHED};
+use crate::store::frames::{Reason, Refusal};
 use hyper::{Body, StatusCode};
 use std::collections::VecDeque;
 use uuid::Uuid;
@@ -19,10 +20,14 @@ pub(super) fn headers_of<'h>(digest: &'h str, tag: &'h str, len: &'h str) -> [(&
     [OCTETS, ("Docker-Content-Digest", digest), ("ETag", tag), ("Accept-Ranges", "bytes"), ("Content-Length", len)]
 }
 
-/// end-2: returns the headers of a blob, with its length.
+/// end-2: returns the headers of a blob, with its length. One that was found damaged is taken for missing, so that a client that asks before
+/// it pushes sends it again.
 pub(super) async fn head(call: &Call, digest: &str) -> HandlerResult {
     call.registry.loose.ask(&call.repo, digest)?;
     let size = call.registry.store.stat(&call.repo, digest).await??;
+    if call.registry.damaged.has(digest) {
+        return Err(Refusal::of(Reason::BlobUnknown).into());
+    }
     // A client that finds a blob does not push it before the manifest.
     call.registry.moves.note_blob(&call.repo, digest);
     check_match(call, Some(digest))?;
@@ -82,7 +87,8 @@ async fn fetch(call: &Call, digest: &str, requested: RequestedRange) -> Result<(
         Some(asked) => asked,
         None => return Ok((FetchResult::LeasedBlob(store.lease(&call.repo, digest).await??), None)),
     };
-    let fetched = store.fetch(&call.repo, digest, range).await??;
+    let fetched = store.fetch(&call.repo, digest, range).await?;
+    let fetched = call.registry.check_read(&call.repo, digest, fetched)?;
     if let FetchResult::Piece { bytes, .. } = &fetched {
         reserved.shrink(bytes.len() as u64);
         return Ok((fetched, Some(reserved)));
@@ -114,7 +120,7 @@ async fn get_leased(call: &Call, digest: &str, requested: RequestedRange, leased
         0..=PIECE_LEN if has_most => short_body(call, leased, digest, start, end).await?,
         _ => {
             let spans = [Span::Content(start, end)].into();
-            Transfer::begin(&call.registry, leased, digest, spans, Pace::of(has_most))
+            Transfer::begin(call, leased, digest, spans, Pace::of(has_most)).await?
         }
     };
     slice.response(call, digest, body, Some(reserved))
@@ -142,7 +148,7 @@ async fn get_parts(call: &Call, digest: &str, ranges: &[RequestedRange]) -> Hand
     let (tag, len, media_type) = (entity_tag(digest), len.to_string(), format!("multipart/byteranges; boundary={boundary}"));
     let mut headers = headers_of(digest, &tag, &len);
     headers[0] = ("Content-Type", &media_type);
-    let body = Transfer::begin(&call.registry, leased, digest, spans, Pace::of(reserved.bytes() == most));
+    let body = Transfer::begin(call, leased, digest, spans, Pace::of(reserved.bytes() == most)).await?;
     let mut response = with_body(StatusCode::PARTIAL_CONTENT, &headers, body)?;
     response.extensions_mut().insert(reserved);
     call.note_blob_pull(digest, size);
@@ -208,7 +214,8 @@ pub(super) fn unsatisfiable(size: u64) -> HandlerResult {
 /// Reads the bytes of a leased blob from `start` to `end` exclusive, at most one piece, and releases the lease.
 async fn short_body(call: &Call, leased: LeasedBlob, digest: &str, start: u64, end: u64) -> Result<Body, Fault> {
     let range = (start < end).then(|| (start, end - 1));
-    let bytes = call.registry.store.read_last(leased.number, digest, range).await??;
+    let bytes = call.registry.store.read_last(leased.number, digest, range).await?;
+    let bytes = call.registry.check_read(&call.repo, digest, bytes)?;
     call.registry.metrics.sent(bytes.len());
     Ok(Body::from(bytes))
 }

@@ -3,7 +3,7 @@ use crate::auth::access::Caller;
 use crate::auth::rights::Right;
 use crate::endpoints::registry::Registry;
 use crate::endpoints::uploads;
-use crate::http::content::RequestContent;
+use crate::http::content::{RequestContent, LONG_PIECE_LEN};
 use crate::http::exchange::Exchange;
 use crate::http::fault::Fault;
 use crate::http::in_flight::{Holder, Reserved};
@@ -57,6 +57,16 @@ impl Call {
     /// Fails if the disk of the folder has no room for a change without content.
     pub(super) fn check_change(&self) -> Result<(), Fault> {
         self.registry.folder.as_ref().map_or(Ok(()), |folder| folder.room.check_change())
+    }
+
+    /// Returns the failure of a call with content that the store refused. A content that it cannot write to a file is refused as if
+    /// there were no memory.
+    pub(super) fn refused(&self, refusal: Refusal) -> Fault {
+        let folder = self.registry.folder.as_ref().filter(|_| refusal.reason == Reason::Memory);
+        match folder.map(|folder| folder.room.check_write(LONG_PIECE_LEN as u64)) {
+            Some(Err(fault)) => fault,
+            _ => refusal.into(),
+        }
     }
 
     /// Begins a call that may create the repository. If no tenant can have it, the store refuses the call.

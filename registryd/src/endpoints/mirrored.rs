@@ -151,9 +151,12 @@ fn hit(call: &Call, mirror: &Mirror, digest: &str, result: HandlerResult) -> Han
 /// end-2: returns a blob or a part of it. One that the store does not have is fetched, once for all who ask for it.
 pub(super) async fn blob(call: &Call, mirror: &Arc<Mirror>, digest: &str) -> HandlerResult {
     for _ in 0..LOOK_UPS {
-        match blobs::get(call, digest).await {
-            Err(fault) if fault.is_unknown() => {}
-            here => return hit(call, mirror, digest, here),
+        // One that was found damaged is fetched again.
+        if !call.registry.damaged.has(digest) {
+            match blobs::get(call, digest).await {
+                Err(fault) if fault.is_unknown() => {}
+                here => return hit(call, mirror, digest, here),
+            }
         }
         let fetch = mirror.join_fetch(&call.registry, &call.repo, digest);
         let progress = begun(&fetch).await;

@@ -2,6 +2,7 @@
 use crate::auth::access::{Access, Caller};
 use crate::browse::pages::Pages;
 use crate::events::reporter::{Recorder, Reporter};
+use crate::folder::damaged::DamagedContents;
 use crate::folder::disk_probe::DiskProbe;
 use crate::folder::files::Folder;
 use crate::folder::scrub::Scrub;
@@ -29,6 +30,7 @@ use crate::operation::tag_rules::Retention;
 use crate::signatures::checking::SignedTags;
 use crate::start::provenance::Provenance;
 use crate::store::client::Store;
+use crate::store::frames::{Reason, Refusal};
 use hyper::StatusCode;
 use std::collections::{BTreeMap, HashMap};
 use std::sync::Arc;
@@ -53,8 +55,10 @@ pub(crate) struct Registry {
     pub(crate) folder: Option<Folder>,
     /// The probes of its disk.
     pub(crate) disk_probe: Option<Arc<DiskProbe>>,
-    /// The reads of the log while clients are served.
+    /// The reads of the log and of contents while clients are served.
     pub(crate) scrub: Option<Arc<Scrub>>,
+    /// The contents that were found damaged.
+    pub(crate) damaged: Arc<DamagedContents>,
     /// The writers of a manifest take turns, each for the time of its call to the store. Readers take no turn. With immutable tags, the
     /// writers of a tag take turns too.
     pub(crate) turns: Turns,
@@ -150,6 +154,16 @@ impl Registry {
             found.insert(option.to_string(), lines);
         }
         found
+    }
+
+    /// Returns the result of a read of a blob. Logs and counts a content that is damaged.
+    pub(crate) fn check_read<T>(&self, repo: &str, digest: &str, read: Result<T, Refusal>) -> Result<T, Refusal> {
+        if let Err(Refusal { reason: Reason::Unreadable, .. }) = &read {
+            self.metrics.count_damaged_read();
+            self.damaged.add(digest);
+            tracing::error!(repository = repo, digest, "a read failed: the content is damaged: push it again");
+        }
+        read
     }
 
     /// Returns the reporter of the registry's own work, if there are receivers of events.

@@ -1,5 +1,7 @@
 //! The transfer of a leased blob to a client, in pieces.
+use crate::endpoints::call::Call;
 use crate::endpoints::registry::Registry;
+use crate::http::fault::Fault;
 use crate::store::calls::LeasedBlob;
 use crate::store::client::{Answer, StoreUnavailable};
 use crate::store::connection::WHOLE_LEN;
@@ -77,6 +79,7 @@ enum Piece {
 pub(super) struct Transfer {
     registry: Arc<Registry>,
     leased: LeasedBlob,
+    repo: String,
     digest: String,
     /// The spans from the next piece on.
     spans: VecDeque<Span>,
@@ -102,11 +105,41 @@ impl From<StoreUnavailable> for TransferError {
 impl Transfer {
     /// Begins a transfer, and returns the body that it fills. The lease is released after the last read, or if the client
     /// disconnects.
-    pub(super) fn begin(registry: &Arc<Registry>, leased: LeasedBlob, digest: &str, spans: VecDeque<Span>, pace: Pace) -> Body {
+    ///
+    /// # Errors
+    ///
+    /// Fails if the first read does, so that the client gets a status. The lease is released.
+    pub(super) async fn begin(
+        call: &Call,
+        leased: LeasedBlob,
+        digest: &str,
+        spans: VecDeque<Span>,
+        pace: Pace,
+    ) -> Result<Body, Fault> {
         let (sender, body) = Body::channel();
-        let (registry, digest, pieces) = (registry.clone(), digest.to_string(), VecDeque::new());
-        tokio::spawn(Transfer { registry, leased, digest, spans, pace, pieces }.send(sender).in_current_span());
-        body
+        let (registry, repo, digest, pieces) = (call.registry.clone(), call.repo.clone(), digest.to_string(), VecDeque::new());
+        let mut transfer = Transfer { registry, leased, repo, digest, spans, pace, pieces };
+        if let Err(fault) = transfer.read_first().await {
+            transfer.end().await;
+            return Err(fault);
+        }
+        tokio::spawn(transfer.send(sender).in_current_span());
+        Ok(body)
+    }
+
+    /// Begins the first reads, and waits for the first of them.
+    async fn read_first(&mut self) -> Result<(), Fault> {
+        for _ in 0..self.pace.reads_at_once {
+            self.read_next();
+        }
+        // In front of the first bytes of the blob may be a text.
+        let first = self.pieces.iter().position(|piece| matches!(piece, Piece::Read(_)));
+        let taken = first.map(|at| (at, std::mem::replace(&mut self.pieces[at], Piece::Text(Bytes::new()))));
+        if let Some((at, Piece::Read(read))) = taken {
+            let read = read.await.map_err(|_| StoreUnavailable)??;
+            self.pieces[at] = Piece::Text(self.registry.check_read(&self.repo, &self.digest, read)?);
+        }
+        Ok(())
     }
 
     /// Sends the bytes, and releases the lease after its last read.
@@ -117,6 +150,11 @@ impl Transfer {
             }
             sender.abort();
         }
+        self.end().await;
+    }
+
+    /// Waits for the reads in progress, and releases the lease.
+    async fn end(mut self) {
         for piece in self.pieces.drain(..) {
             if let Piece::Read(read) = piece {
                 let _ = read.await;
@@ -147,13 +185,13 @@ impl Transfer {
 
     /// Sends the bytes piece by piece. It holds no connection to the store while it waits for the client.
     async fn send_pieces(&mut self, sender: &mut Sender) -> Result<(), TransferError> {
-        for _ in 0..self.pace.reads_at_once {
-            self.read_next();
-        }
         while let Some(piece) = self.pieces.pop_front() {
             let bytes = match piece {
                 Piece::Text(text) => text,
-                Piece::Read(read) => read.await.map_err(|_| StoreUnavailable)??.map_err(TransferError::Refused)?,
+                Piece::Read(read) => {
+                    let read = read.await.map_err(|_| StoreUnavailable)??;
+                    self.registry.check_read(&self.repo, &self.digest, read).map_err(TransferError::Refused)?
+                }
             };
             self.read_next();
             let count = bytes.len();

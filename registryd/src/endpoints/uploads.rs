@@ -8,6 +8,7 @@ use crate::http::responses::{empty, HandlerResult};
 use crate::metadata::limits::Limit;
 use crate::metadata::names::{is_repository, tenant_of};
 use crate::metadata::open_uploads::{AppendingRequest, UploadInUse};
+use crate::operation::memory_reserve::is_short;
 use crate::store::calls::{MountResult, SlotUse};
 use crate::store::client::{Answer, StoreUnavailable};
 use crate::store::frames::{Reason, Refusal};
@@ -22,7 +23,8 @@ use uuid::Uuid;
 /// end-4, end-11: opens an upload, stores a blob in one request, or mounts one.
 pub(super) async fn open(call: &Call, content: &mut RequestContent) -> HandlerResult {
     let store = &call.registry.store;
-    if let Some(digest) = call.query("mount") {
+    // A content that was found damaged is not linked, but sent again.
+    if let Some(digest) = call.query("mount").filter(|digest| !call.registry.damaged.has(digest)) {
         return mount(call, &digest).await;
     }
     let digest = call.query("digest");
@@ -86,7 +88,8 @@ pub(super) async fn append(call: &Call, name: &str, content: &mut RequestContent
     let mut received = start;
     if !rest.is_empty() {
         adding.send();
-        received = call.registry.store.append(&call.repo, adding.upload.session, start, &rest).await??;
+        let appended = call.registry.store.append(&call.repo, adding.upload.session, start, &rest).await?;
+        received = appended.map_err(|refusal| call.refused(refusal))?;
         adding.accepted(received);
     }
     progress_response(call, StatusCode::ACCEPTED, &adding.upload.name, received)
@@ -221,12 +224,24 @@ async fn take_and_close(
     loose.end_link(&call.repo, digest, &closed);
     match closed? {
         Err(Refusal { reason: Reason::LimitReached, .. }) => Err(full_share(call).await?),
-        closed => {
-            let size = closed?;
+        Err(refusal) => Err(refused_close(call, refusal, digest)),
+        Ok(size) => {
+            call.registry.damaged.remove(digest);
             call.registry.moves.note_blob(&call.repo, digest);
             call.registry.cached.unmark(&call.repo, digest);
             call.record_blob_push(digest, size).await
         }
+    }
+}
+
+/// Returns the failure of a close that the store refused. Without memory or room for the content, it also refuses a digest by SHA-512 of a
+/// content in a file, of which it has the hash by SHA-256 alone.
+fn refused_close(call: &Call, refusal: Refusal, digest: &str) -> Fault {
+    let is_unhashed = refusal.reason == Reason::Memory && digest.starts_with("sha512:");
+    let fault = call.refused(refusal);
+    match is_unhashed && call.registry.folder.is_some() && fault.status() == StatusCode::SERVICE_UNAVAILABLE && !is_short() {
+        true => Fault::unhashed(),
+        false => fault,
     }
 }
 
@@ -252,6 +267,12 @@ impl AppendTask {
         AppendTask { limit: call.registry.store.limit, pieces, appended }
     }
 
+    /// Waits until the task has room for a piece, or takes no more of them.
+    async fn ready(&self) -> Result<(), StoreUnavailable> {
+        // Only this task sends, so the room stays.
+        timeout(self.limit, self.pieces.reserve()).await.map(drop).map_err(|_| StoreUnavailable)
+    }
+
     /// Sends a piece after the task has room for it. Returns false if the task takes no more pieces because one failed.
     /// Fails if the store makes no room in time; the task still appends the pieces that were sent if the store continues.
     async fn send(&self, piece: Vec<Bytes>) -> Result<bool, StoreUnavailable> {
@@ -260,10 +281,10 @@ impl AppendTask {
     }
 
     /// Waits until all pieces are appended, and returns the number of bytes that the session has received.
-    async fn end(self) -> Result<u64, Fault> {
+    async fn end(self, call: &Call) -> Result<u64, Fault> {
         drop(self.pieces);
         let appended = timeout(self.limit, self.appended).await.map_err(|_| StoreUnavailable)?;
-        Ok(appended.map_err(|_| StoreUnavailable)???)
+        appended.map_err(|_| StoreUnavailable)??.map_err(|refusal| call.refused(refusal))
     }
 }
 
@@ -282,7 +303,8 @@ impl Place {
 }
 
 /// Appends the content except its last piece, which it returns with its offset. Each piece has its offset, so that it fails
-/// if another request has appended to the upload. The next pieces are read and sent while one is hashed.
+/// if another request has appended to the upload. The next pieces are read and sent while one is hashed: no piece is read before
+/// there is room for it, so that one is sent and one waits or is read.
 ///
 /// If the client disconnects, or the content is longer or shorter than its range, the upload keeps the bytes received,
 /// except the last piece of such a range, and can be resumed.
@@ -294,17 +316,20 @@ async fn take_all_but_last(
 ) -> Result<(u64, Vec<Bytes>), Fault> {
     let mut sending: Option<AppendTask> = None;
     loop {
+        if let Some(sending) = &sending {
+            sending.ready().await?;
+        }
         let piece = content.next().await;
         if !piece.parts.is_empty() {
             adding.upload.begin();
         }
         let counted = place.count(&piece);
         if counted.is_err() || piece.then == Then::End {
-            let received = received(adding, sending, &place).await?;
+            let received = received(call, adding, sending, &place).await?;
             return counted.map(|()| (received, piece.parts));
         }
         if let Err(fault) = call.check_disk() {
-            received(adding, sending, &place).await?;
+            received(call, adding, sending, &place).await?;
             return Err(fault);
         }
         let is_taken = match piece.parts.is_empty() {
@@ -316,17 +341,22 @@ async fn take_all_but_last(
             }
         };
         if !is_taken || piece.then == Then::CutOff {
-            received(adding, sending, &place).await?;
+            received(call, adding, sending, &place).await?;
             return Err(if is_taken { Fault::cut_off() } else { StoreUnavailable.into() });
         }
     }
 }
 
 /// Waits until all sent pieces are appended, if any were sent. Returns the number of bytes that the upload has received.
-async fn received(adding: &mut AppendingRequest<'_>, sending: Option<AppendTask>, place: &Place) -> Result<u64, Fault> {
+async fn received(
+    call: &Call,
+    adding: &mut AppendingRequest<'_>,
+    sending: Option<AppendTask>,
+    place: &Place,
+) -> Result<u64, Fault> {
     match sending {
         Some(sending) => {
-            let received = sending.end().await?;
+            let received = sending.end(call).await?;
             adding.accepted(received);
             Ok(received)
         }

@@ -79,16 +79,36 @@ pub(crate) struct DiskRoom {
     shown: Mutex<(Level, Option<u64>)>,
 }
 
-/// Returns the number of bytes on the disk of a folder that this user may still write.
-fn free_bytes(path: &Path) -> io::Result<u64> {
+/// Returns what the system tells of the disk of a folder.
+fn statvfs_of(path: &Path) -> io::Result<libc::statvfs> {
     let path = CString::new(path.as_os_str().as_bytes())?;
     // SAFETY: zeros are a value of the struct, which has only numbers.
     let mut room: libc::statvfs = unsafe { std::mem::zeroed() };
     // SAFETY: the path ends with a zero byte, and `room` has room for the struct that the call writes.
     match unsafe { libc::statvfs(path.as_ptr(), &mut room) } {
-        0 => Ok(room.f_bavail.saturating_mul(room.f_frsize)),
+        0 => Ok(room),
         _ => Err(io::Error::last_os_error()),
     }
+}
+
+/// Returns the number of bytes on the disk of a folder that this user may still write.
+fn free_bytes(path: &Path) -> io::Result<u64> {
+    statvfs_of(path).map(|room| room.f_bavail.saturating_mul(room.f_frsize))
+}
+
+/// Returns the number of bytes of the disk of a folder, if that is known.
+pub(crate) fn length_of(path: &Path) -> Option<u64> {
+    statvfs_of(path).ok().map(|room| room.f_blocks.saturating_mul(room.f_frsize))
+}
+
+/// Returns the number of bytes on the disk of a folder that this user may still write, if that is known.
+pub(crate) fn free_on(path: &Path) -> Option<u64> {
+    free_bytes(path).ok()
+}
+
+/// Returns whether the disk of a folder can have no further file. A file system without a limit on files names none.
+fn has_all_files(path: &Path) -> bool {
+    statvfs_of(path).map_or(false, |room| room.f_files > 0 && room.f_favail == 0)
 }
 
 /// Makes a file that takes this number of bytes on the disk.
@@ -177,6 +197,16 @@ impl DiskRoom {
         match self.make() {
             true => Ok(()),
             false => Err(Fault::no_room()),
+        }
+    }
+
+    /// Fails if a content of this number of bytes may not have been written because the disk is full. The store has removed what it
+    /// wrote of it.
+    pub(crate) fn check_write(&self, bytes: u64) -> Result<(), Fault> {
+        let free = free_bytes(&self.path).unwrap_or(u64::MAX);
+        match free < self.floor().max(bytes.saturating_add(LEAST)) || has_all_files(&self.path) {
+            true => Err(Fault::disk_full(free, self.floor())),
+            false => Ok(()),
         }
     }
 
@@ -349,10 +379,21 @@ mod tests {
     }
 
     #[test]
+    fn a_write_can_have_failed_if_less_was_free() {
+        let folder = TestFolder::new();
+        let free = free_bytes(&folder.0).unwrap();
+        let room = folder.room(0, 0);
+        assert!(free <= length_of(&folder.0).unwrap() && free_on(&folder.0).is_some());
+        assert!(room.check_write(0).is_ok() && room.check_write(free).is_err() && room.check_write(u64::MAX).is_err());
+        assert!(folder.room(u64::MAX, 0).check_write(0).is_err());
+        assert!(!has_all_files(Path::new("/no/such/folder")));
+    }
+
+    #[test]
     fn a_folder_that_is_not_there_has_room() {
         let room = DiskRoom::new(PathBuf::from("/no/such/folder"), u64::MAX, 1);
         assert_eq!((room.free(), room.reserved()), (None, 0));
-        assert!(room.check_content().is_ok() && room.check_change().is_ok());
+        assert!(room.check_content().is_ok() && room.check_change().is_ok() && room.check_write(1).is_ok());
     }
 
     #[test]

@@ -16,10 +16,18 @@ pub(crate) struct Folder {
 /// The file by which the store is asked to rewrite its log.
 const REWRITE: &str = "rewrite";
 
-/// The file by which a start of the store goes on with what is left of a damaged log.
+/// The file by which a start of the store goes on without missing contents, and with what is left of a damaged log.
 const ACCEPT_LOSS: &str = "accept-loss";
 
-/// Lets the next start of the store go on with what is left of a damaged log. It removes the file.
+/// The file with the length of the longest content whose bytes are in the log. The store makes it when all longer ones have files.
+const LONGEST: &str = "longest";
+
+/// Returns whether the long contents of a folder have files.
+pub(crate) fn has_contents(path: &Path) -> bool {
+    path.join(LONGEST).exists()
+}
+
+/// Lets the next start of the store go on without missing contents and with what is left of a damaged log. It removes the file.
 pub(crate) fn accept_damage(path: &Path) -> io::Result<()> {
     std::fs::File::create(path.join(ACCEPT_LOSS)).map(drop)
 }
@@ -92,6 +100,9 @@ mod tests {
             std::fs::write(path.join(name), text).unwrap();
         }
         assert_eq!(log_length(&path), Some(8));
+        assert!(!has_contents(&path));
+        std::fs::write(path.join("longest"), "16384\n").unwrap();
+        assert!(has_contents(&path));
         let folder = folder_at(path.clone());
         assert!(!folder.is_rewriting_asked());
         folder.ask_for_rewriting().unwrap();

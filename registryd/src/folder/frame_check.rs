@@ -1,4 +1,4 @@
-//! Reads a closed file of the store's log, and finds out whether it is whole (docs/LOG.md).
+//! Reads a file of the store's log, finds out whether it is whole, and gives the payloads of its frames (docs/LOG.md).
 use std::fmt;
 use std::io::{self, Read};
 
@@ -26,6 +26,21 @@ impl fmt::Display for Damage {
     fn fmt(&self, text: &mut fmt::Formatter) -> fmt::Result {
         write!(text, "byte {}: {}", self.byte, self.what)
     }
+}
+
+/// What is done with the payloads of the frames of a file.
+pub(super) trait Payloads {
+    /// Takes the next bytes of the payload of a frame, of which it is not known yet whether it is whole.
+    fn add(&mut self, bytes: &[u8]);
+
+    /// Takes what was added since the last frame: the frame is whole.
+    fn end_frame(&mut self);
+}
+
+impl Payloads for () {
+    fn add(&mut self, _: &[u8]) {}
+
+    fn end_frame(&mut self) {}
 }
 
 /// Continues a sum over bytes.
@@ -97,7 +112,7 @@ impl<R: Read> Check<R> {
     }
 
     /// Reads a frame. Returns `false` at the end of the file.
-    fn read_frame(&mut self, buffer: &mut [u8]) -> Result<bool, Damage> {
+    fn read_frame(&mut self, buffer: &mut [u8], payloads: &mut impl Payloads) -> Result<bool, Damage> {
         let mut head = [0; HEAD];
         if matches!(self.fill(&mut head)?, Filled::Nothing) {
             return Ok(false);
@@ -115,11 +130,13 @@ impl<R: Read> Check<R> {
             }
             sum = sum_of(sum, piece);
             left -= piece.len() as u64;
+            payloads.add(piece);
         }
         let mut stated = [0; SUM as usize];
         if matches!(self.fill(&mut stated)?, Filled::Nothing) || word_of(&stated) != sum {
             return Err(self.damage("the sum of the frame is wrong"));
         }
+        payloads.end_frame();
         self.is_marked = length == 0 && synced == self.place;
         self.sum = sum;
         self.place += HEAD as u64 + length + SUM;
@@ -132,14 +149,49 @@ impl<R: Read> Check<R> {
 /// # Errors
 ///
 /// Fails with the first damage.
-pub(super) fn check(input: impl Read) -> Result<u64, Damage> {
+pub(super) fn check(input: impl Read, payloads: &mut impl Payloads) -> Result<u64, Damage> {
     let mut check = Check { input, id: 0, place: 0, sum: 0, is_marked: false };
     check.read_header()?;
     let mut buffer = vec![0; PIECE];
-    while check.read_frame(&mut buffer)? {}
+    while check.read_frame(&mut buffer, payloads)? {}
     match check.is_marked {
         true => Ok(check.id),
         false => Err(check.damage("the file has no mark at its end")),
+    }
+}
+
+/// Reads the last file of a log, to which a store may be writing, up to its last whole frame. Returns the id in its header.
+///
+/// # Errors
+///
+/// Fails if it has no header.
+pub(super) fn read_last(input: impl Read, payloads: &mut impl Payloads) -> Result<u64, Damage> {
+    let mut check = Check { input, id: 0, place: 0, sum: 0, is_marked: false };
+    check.read_header()?;
+    let mut buffer = vec![0; PIECE];
+    while let Ok(true) = check.read_frame(&mut buffer, payloads) {}
+    Ok(check.id)
+}
+
+/// Files of a log as a store writes them, for tests.
+#[cfg(test)]
+pub(super) mod encoding {
+    use super::*;
+
+    /// Returns a file with an id, and a frame for each payload. One without bytes is a mark.
+    pub(in crate::folder) fn file(id: u64, payloads: &[&[u8]]) -> Vec<u8> {
+        let mut file = [&MAGIC[..], &VERSION.to_le_bytes(), &id.to_le_bytes()].concat();
+        let mut sum = sum_of(BASIS, &file);
+        file.extend_from_slice(&sum.to_le_bytes());
+        for payload in payloads {
+            let place = file.len() as u64;
+            let mut head = [place, place, payload.len() as u64].map(u64::to_le_bytes).concat();
+            head.extend_from_slice(&sum_of(id, &head).to_le_bytes());
+            // The payload is summed in pieces of a multiple of eight bytes.
+            sum = sum_of(sum_of(sum, &head), payload);
+            file.extend_from_slice(&[&head[..], payload, &sum.to_le_bytes()].concat());
+        }
+        file
     }
 }
 
@@ -160,7 +212,35 @@ mod tests {
 
     #[test]
     fn the_example_of_the_document_is_whole() {
-        assert_eq!(check(&*example()), Ok(0x0123_4567_89ab_cdef));
+        assert_eq!(check(&*example(), &mut ()), Ok(0x0123_4567_89ab_cdef));
+    }
+
+    /// The payloads of whole frames, and the bytes after them.
+    #[derive(Default)]
+    struct Taken(Vec<String>, String);
+
+    impl Payloads for Taken {
+        fn add(&mut self, bytes: &[u8]) {
+            self.1.push_str(std::str::from_utf8(bytes).unwrap());
+        }
+
+        fn end_frame(&mut self) {
+            self.0.push(std::mem::take(&mut self.1));
+        }
+    }
+
+    #[test]
+    fn the_payloads_of_whole_frames_are_taken() {
+        let mut taken = Taken::default();
+        assert_eq!(check(&*example(), &mut taken), Ok(0x0123_4567_89ab_cdef));
+        assert_eq!(taken.0, ["hello, log", ""]);
+        assert_eq!(encoding::file(0x0123_4567_89ab_cdef, &[b"hello, log", b""]), example());
+        let cut = &encoding::file(9, &[b"first", b"second"])[..];
+        for (length, frames) in [(cut.len(), 2), (cut.len() - 1, 1), (32, 0)] {
+            let mut taken = Taken::default();
+            assert_eq!((read_last(&cut[..length], &mut taken), taken.0.len()), (Ok(9), frames));
+        }
+        assert!(read_last(&cut[..31], &mut ()).is_err());
     }
 
     #[test]
@@ -170,7 +250,7 @@ mod tests {
             for bit in 0..8 {
                 let mut bytes = whole.clone();
                 bytes[place] ^= 1 << bit;
-                let found = check(&*bytes).unwrap_err();
+                let found = check(&*bytes, &mut ()).unwrap_err();
                 let frame = [0, 32, 82].into_iter().rev().find(|start| *start <= place as u64).unwrap();
                 assert_eq!(found.byte, frame, "bit {bit} of byte {place}: {found}");
             }
@@ -181,7 +261,7 @@ mod tests {
     fn a_file_that_is_cut_is_found() {
         let whole = example();
         for length in 0..whole.len() {
-            assert!(check(&whole[..length]).is_err(), "{length}");
+            assert!(check(&whole[..length], &mut ()).is_err(), "{length}");
         }
     }
 }

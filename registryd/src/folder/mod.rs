@@ -1,13 +1,20 @@
 //! The folder of `--data`: its files, the room on its disk, and the looks at both while clients are served.
+mod content_file;
+mod content_scrub;
+pub(crate) mod contents_list;
+pub(crate) mod damaged;
 pub(crate) mod disk_probe;
 pub(crate) mod disk_room;
 pub(crate) mod file_system;
 pub(crate) mod files;
 mod frame_check;
 mod held_room;
+mod inventory;
 pub(crate) mod log_end;
+mod log_files;
 pub(crate) mod ownership;
 pub(crate) mod page_cache;
+mod records;
 pub(crate) mod scrub;
 pub(crate) mod unsynced;
 pub(crate) mod watcher;

@@ -1,18 +1,18 @@
-//! Reads the closed files of the store's log again, slowly, while clients are served. So damage of the disk is found before a start needs
-//! the files. Nothing is locked meanwhile.
-use crate::folder::frame_check::{check, Damage};
-use crate::folder::log_end::{is_of_log, number_of};
-use crate::folder::page_cache;
+//! Reads the closed files of the store's log again, slowly, while clients are served, and then the contents that lie in files. So damage of
+//! the disk is found before a start needs the files. Nothing is locked meanwhile.
+use crate::folder::content_scrub::ContentScrub;
+use crate::folder::damaged::DamagedContents;
+use crate::folder::frame_check::Damage;
+use crate::folder::log_files::{LogFiles, Reading};
 use crate::metadata::clock;
 use crate::operation::locks::guard_of;
 use crate::operation::metrics::Metrics;
 use prometheus::{IntCounter, IntGauge};
 use serde_json::{json, Value};
-use std::fs::File;
-use std::io::{self, Read};
+use std::io;
 use std::path::PathBuf;
 use std::sync::{Arc, Mutex};
-use std::time::{Duration, Instant};
+use std::time::Duration;
 
 /// The pause between two rounds.
 const REST: Duration = Duration::from_secs(10);
@@ -36,53 +36,27 @@ struct State {
     ended: Option<u64>,
 }
 
-/// Reads the closed files of a log round after round.
+/// Reads the closed files of a log and the contents round after round.
 pub(crate) struct Scrub {
     folder: PathBuf,
     mib_s: u64,
     state: Mutex<State>,
+    contents: ContentScrub,
     damaged: IntGauge,
     rounds: IntCounter,
 }
 
-/// A reader with a pace.
-struct Paced<R> {
-    input: R,
-    bytes_s: u64,
-    begun: Instant,
-    read: u64,
-}
-
-impl<R: Read> Read for Paced<R> {
-    fn read(&mut self, buffer: &mut [u8]) -> io::Result<usize> {
-        let count = self.input.read(buffer)?;
-        self.read += count as u64;
-        let due = Duration::from_secs_f64(self.read as f64 / self.bytes_s as f64);
-        std::thread::sleep(due.saturating_sub(self.begun.elapsed()));
-        Ok(count)
-    }
-}
-
-/// Returns the names of the closed files in a list of names, in order: the last base, and the segments after it up to the one before
-/// the last, also those that are not in the list.
-fn closed_files(names: &[String]) -> Vec<String> {
-    let numbers = |kind| names.iter().filter_map(move |name| number_of(name, kind));
-    let base = numbers("base").max().unwrap_or(0);
-    let last = numbers("log").max().unwrap_or(0);
-    let base_name = (base > 0).then(|| format!("base.{base}"));
-    base_name.into_iter().chain((base + 1..last).map(|number| format!("log.{number}"))).collect()
-}
-
 impl Scrub {
-    /// Makes a scrub of the log in a folder, and adds its metrics.
-    pub(crate) fn new(folder: PathBuf, mib_s: u64, metrics: &Metrics) -> Arc<Scrub> {
+    /// Makes a scrub of the log and the contents in a folder, and adds its metrics.
+    pub(crate) fn new(folder: PathBuf, mib_s: u64, digests: Arc<DamagedContents>, metrics: &Metrics) -> Arc<Scrub> {
         let help = "Closed files of the log in which damage was found.";
         let damaged = IntGauge::new("registryd_log_damaged_files", help).expect("a gauge's name");
-        let help = "Times that all closed files of the log were read again.";
+        let help = "Times that all closed files of the log and all contents in files were read again.";
         let rounds = IntCounter::new("registryd_scrubs_total", help).expect("a counter's name");
         metrics.add(Box::new(damaged.clone()));
         metrics.add(Box::new(rounds.clone()));
-        Arc::new(Scrub { folder, mib_s, state: Mutex::default(), damaged, rounds })
+        let contents = ContentScrub::new(folder.clone(), mib_s << 20, digests, metrics);
+        Arc::new(Scrub { folder, mib_s, state: Mutex::default(), contents, damaged, rounds })
     }
 
     /// Starts to read in a thread, which ends with the program.
@@ -95,51 +69,45 @@ impl Scrub {
         Ok(())
     }
 
-    /// Returns the names of the files in the folder that are of the log.
-    fn names(&self) -> Vec<String> {
-        let files = std::fs::read_dir(&self.folder).into_iter().flatten().flatten();
-        files.filter_map(|file| file.file_name().into_string().ok()).filter(|name| is_of_log(name)).collect()
-    }
-
     /// Returns whether a file is one of the closed files now.
     fn is_closed(&self, file: &str) -> bool {
-        closed_files(&self.names()).iter().any(|name| name == file)
+        LogFiles::in_folder(&self.folder).closed.iter().any(|name| name == file)
     }
 
-    /// Reads a file. Returns its id.
-    fn read(&self, file: &str) -> Result<u64, Damage> {
-        let at_open = |error: io::Error| Damage { byte: 0, what: format!("it cannot be opened: {error}") };
-        let input = File::open(self.folder.join(file)).map_err(at_open)?;
-        // A page that is cached would be read from memory.
-        page_cache::forget(&input);
-        let paced = Paced { input: &input, bytes_s: self.mib_s << 20, begun: Instant::now(), read: 0 };
-        let read = check(paced);
-        page_cache::forget(&input);
-        read
-    }
-
-    /// Reads all closed files.
+    /// Reads all closed files, and then all contents, unless a file of the log cannot be read. A rewriting may have replaced it.
     fn round(&self) {
-        let mut found = Vec::new();
+        if let Some((reading, last)) = self.read_log() {
+            match reading.finish(last.map(|name| self.folder.join(name)), self.mib_s << 20) {
+                Ok(inventory) => self.contents.round(&inventory),
+                Err(why) => tracing::debug!(%why, "the contents are not read in this round"),
+            }
+        }
+        guard_of(self.state.lock()).ended = Some(clock::time_of_day());
+        self.rounds.inc();
+    }
+
+    /// Reads all closed files. Returns what their records say, and the name of the last file, or `None` if one could not be read.
+    fn read_log(&self) -> Option<(Reading, Option<String>)> {
+        let LogFiles { closed, last } = LogFiles::in_folder(&self.folder);
+        let (mut reading, mut found, mut is_read) = (Reading::default(), Vec::new(), true);
         let mut wanted: Option<u64> = None;
-        for file in closed_files(&self.names()) {
-            let read = match (self.read(&file), wanted) {
+        for file in closed {
+            let read = match (reading.read_closed(&self.folder.join(&file), self.mib_s << 20), wanted) {
                 (Ok(id), Some(wanted)) if id != wanted => {
                     Err(Damage { byte: 0, what: "it is a file of another log, or out of order".to_string() })
                 }
                 (read, _) => read,
             };
             wanted = read.as_ref().ok().map(|id| id.wrapping_add(1)).or_else(|| wanted.map(|id| id.wrapping_add(1)));
+            is_read &= read.is_ok();
             // A rewriting may have replaced the file.
             if let Some(damage) = read.err().filter(|_| self.is_closed(&file)) {
                 self.note(&file, damage, &mut found);
             }
         }
-        let mut state = guard_of(self.state.lock());
         self.damaged.set(found.len() as i64);
-        state.found = found;
-        state.ended = Some(clock::time_of_day());
-        self.rounds.inc();
+        guard_of(self.state.lock()).found = found;
+        is_read.then(|| (reading, last))
     }
 
     /// Notes damage of this round, and logs it if it was not found before.
@@ -161,23 +129,17 @@ impl Scrub {
         let state = guard_of(self.state.lock());
         let shown = |one: &Found| json!({ "file": one.file, "byte": one.damage.byte, "what": one.damage.what, "time": one.time });
         let damage: Vec<Value> = state.found.iter().map(shown).collect();
-        json!({ "mib_s": self.mib_s, "rounds": self.rounds.get(), "last": state.ended, "damage": damage })
+        let contents = self.contents.json();
+        json!({ "mib_s": self.mib_s, "rounds": self.rounds.get(), "last": state.ended, "damage": damage, "contents": contents })
     }
 }
 
 #[cfg(test)]
 mod tests {
     use super::*;
-
-    #[test]
-    fn the_last_file_is_not_closed() {
-        let closed = |names: &[&str]| closed_files(&names.iter().map(|name| name.to_string()).collect::<Vec<_>>());
-        assert_eq!(closed(&["log.1"]), [""; 0]);
-        assert_eq!(closed(&["log.3", "log.1", "log.2"]), ["log.1", "log.2"]);
-        assert_eq!(closed(&["base.4", "base.2", "log.7", "log.3"]), ["base.4", "log.5", "log.6"]);
-        assert_eq!(closed(&["base.4"]), ["base.4"]);
-        assert_eq!(closed(&[]), [""; 0]);
-    }
+    use crate::database::test_folder::TestFolder;
+    use crate::folder::frame_check::encoding::file;
+    use crate::folder::records::encoding::{notes, record};
 
     #[test]
     fn a_round_finds_damage_and_forgets_what_was_mended() {
@@ -186,7 +148,7 @@ mod tests {
         for name in ["log.1", "log.2", "log.3"] {
             std::fs::write(folder.join(name), "no log").unwrap();
         }
-        let scrub = Scrub::new(folder.clone(), 100, &Metrics::new());
+        let scrub = Scrub::new(folder.clone(), 100, Arc::default(), &Metrics::new());
         scrub.round();
         assert_eq!((scrub.damaged.get(), scrub.rounds.get()), (2, 1));
         assert_eq!(scrub.json()["damage"][0]["file"], "log.1");
@@ -198,10 +160,27 @@ mod tests {
     }
 
     #[test]
-    fn a_reader_keeps_its_pace() {
-        let begun = Instant::now();
-        let mut paced = Paced { input: &[0; 3000][..], bytes_s: 10_000, begun, read: 0 };
-        paced.read_to_end(&mut Vec::new()).unwrap();
-        assert!(begun.elapsed() >= Duration::from_millis(300));
+    fn contents_are_read_if_the_log_is_whole() {
+        let folder = TestFolder::new();
+        // By `printf abc | sha256sum`.
+        let digest = "sha256:ba7816bf8f01cfea414140de5dae2223b00361a396177a9cb410ff61f20015ad";
+        let records = [record(2, "acme/web", "", 7, b""), record(14, "acme", digest, 7, &notes(&[3]))].concat();
+        let put = |name: &str, bytes: &[u8]| std::fs::write(folder.0.join(name), bytes).unwrap();
+        put("log.1", &file(70, &[&records, b""]));
+        put("log.2", &file(71, &[]));
+        let scrub = Scrub::new(folder.0.clone(), 100, Arc::default(), &Metrics::new());
+        scrub.round();
+        let state = scrub.json();
+        let found = |state: &Value| (state["damage"].as_array().unwrap().len(), state["contents"]["damaged"].as_u64());
+        assert_eq!((found(&state), &state["contents"]["damage"][0]["file"]), ((0, Some(1)), &json!("contents/acme/7")));
+        // What was found stays while the log is damaged.
+        put("log.1", b"no log");
+        scrub.round();
+        assert_eq!(found(&scrub.json()), (1, Some(1)));
+        std::fs::create_dir_all(folder.0.join("contents/acme")).unwrap();
+        put("contents/acme/7", b"abc");
+        put("log.1", &file(70, &[&records, b""]));
+        scrub.round();
+        assert_eq!((found(&scrub.json()), scrub.rounds.get()), ((0, Some(0)), 3));
     }
 }

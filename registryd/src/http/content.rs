@@ -11,12 +11,18 @@ use hyper::{Body, Response, StatusCode};
 use std::sync::Arc;
 use std::time::Duration;
 
-/// The maximum length of a piece. A request holds the pieces that are being sent, one that waits, and one that is being
-/// read.
+/// The maximum length of a piece. A request holds the piece that is being sent, and one that waits or is being read.
 pub(crate) const PIECE_LEN: usize = WHOLE_LEN;
+
+/// The maximum length of a piece of a long content. The store syncs each piece, which costs less for each byte of a longer one. No request
+/// may have a longer body (docs/PROTOCOL.md).
+pub(crate) const LONG_PIECE_LEN: usize = 4 << 20;
 
 /// The maximum number of bytes of a request that are held in memory.
 pub(crate) const HELD_LEN: u64 = 4 * PIECE_LEN as u64;
+
+/// The same with long pieces: two of them, and what the server has read ahead.
+const LONG_HELD_LEN: u64 = 2 * LONG_PIECE_LEN as u64 + PIECE_LEN as u64;
 
 /// The longest manifest, in bytes (the specification asks for at least 4 MiB).
 pub(crate) const MAX_MANIFEST: usize = 4_194_304;
@@ -56,6 +62,7 @@ pub(crate) struct RequestContent {
     /// The length of the content, if the client sent it.
     pub(crate) len: Option<u64>,
     rest: Bytes,
+    piece_len: usize,
     is_awaited: bool,
     is_begun: bool,
     metrics: Metrics,
@@ -69,8 +76,8 @@ impl RequestContent {
     /// Makes the content of a request. If `is_awaited`, the client sends nothing before a 100 response (RFC 9110, 10.1.1).
     pub(crate) fn new(body: Body, is_awaited: bool, metrics: Metrics) -> RequestContent {
         let len = body.size_hint().exact();
-        let (rest, exchange, reserved) = (Bytes::new(), None, None);
-        RequestContent { body, len, rest, is_awaited, is_begun: false, metrics, exchange, reserved, is_short: false }
+        let (rest, piece_len, exchange, reserved) = (Bytes::new(), PIECE_LEN, None, None);
+        RequestContent { body, len, rest, piece_len, is_awaited, is_begun: false, metrics, exchange, reserved, is_short: false }
     }
 
     /// Adds the exchange, whose connection is notified of waits for the body.
@@ -83,10 +90,15 @@ impl RequestContent {
         self.len != Some(0)
     }
 
-    /// Reserves the memory for the pieces.
+    /// Reserves the memory for the pieces. They are long ones if the content is, and there is memory for them.
     pub(crate) async fn reserve(&mut self, memory: &Arc<Memory>, holder: &Holder) -> Result<(), Fault> {
-        let bytes = self.len.unwrap_or(u64::MAX).min(HELD_LEN);
-        self.reserved = Some(memory.reserve(holder, bytes).await?);
+        let len = self.len.unwrap_or(u64::MAX);
+        if let Some(reserved) = (len > HELD_LEN).then(|| memory.try_reserve_long(holder, len.min(LONG_HELD_LEN))).flatten() {
+            self.reserved = Some(reserved);
+            self.piece_len = LONG_PIECE_LEN;
+            return Ok(());
+        }
+        self.reserved = Some(memory.reserve(holder, len.min(HELD_LEN)).await?);
         Ok(())
     }
 
@@ -121,10 +133,10 @@ impl RequestContent {
         }
     }
 
-    /// Returns the next piece. Only the last is shorter than `PIECE_LEN`.
+    /// Returns the next piece. Only the last is shorter than the others.
     pub(crate) async fn next(&mut self) -> Piece {
         let mut parts = Vec::new();
-        let mut room = PIECE_LEN;
+        let mut room = self.piece_len;
         loop {
             let count = room.min(self.rest.len());
             if count > 0 {
@@ -220,6 +232,28 @@ mod tests {
         assert_eq!(lens(content_of(3)).await, (vec![3], Then::End));
         assert_eq!(lens(content_of(PIECE_LEN)).await, (vec![PIECE_LEN], Then::End));
         assert_eq!(lens(content_of(2 * PIECE_LEN + 1)).await, (vec![PIECE_LEN, PIECE_LEN, 1], Then::End));
+    }
+
+    #[tokio::test]
+    async fn long_content_is_cut_into_long_pieces_while_few_requests_have_some() {
+        let (memory, without_files) = (Memory::new(1 << 30, 1, true), Memory::new(1 << 30, 1, false));
+        let holder = Holder { sharer: 0, connection: None };
+        let begun_in = |memory: &Arc<Memory>, len: u64| {
+            let (memory, holder) = (memory.clone(), holder.clone());
+            async move {
+                let mut content = RequestContent::new(Body::from(vec![1; 3 << 20]), false, Metrics::new());
+                content.len = Some(len);
+                content.reserve(&memory, &holder).await.unwrap();
+                content.piece_len
+            }
+        };
+        let begun = |len| begun_in(&memory, len);
+        assert_eq!(begun_in(&without_files, u64::MAX).await, PIECE_LEN);
+        assert_eq!((begun(HELD_LEN).await, begun(HELD_LEN + 1).await), (PIECE_LEN, LONG_PIECE_LEN));
+        let mut held: Vec<Reserved> = (0..4).map(|_| memory.try_reserve_long(&holder, 1).unwrap()).collect();
+        assert_eq!(begun(u64::MAX).await, PIECE_LEN);
+        held.pop();
+        assert_eq!(begun(u64::MAX).await, LONG_PIECE_LEN);
     }
 
     #[tokio::test]

@@ -137,6 +137,12 @@ impl Fault {
             .with_detail(json!({ "free": free, "minimum": min_free }))
     }
 
+    /// The store hashed the content by SHA-256 as it came, wrote it to a file, and does not read it again.
+    pub(crate) fn unhashed() -> Fault {
+        let message = "the store has hashed the content by SHA-256 alone: close the upload with its digest by sha256";
+        Fault::new(StatusCode::BAD_REQUEST, "UNSUPPORTED", message).with_detail(json!({ "algorithms": ["sha256"] }))
+    }
+
     /// The disk of the folder has no room for a change.
     pub(crate) fn no_room() -> Fault {
         let message = "the disk of the registry is full: only reads are served";
@@ -325,7 +331,8 @@ impl From<Refusal> for Fault {
             Reason::Busy => soon("TOOMANYREQUESTS", "another request is appending to the upload"),
             Reason::RepoInUse => Fault::new(StatusCode::CONFLICT, "DENIED", "the repository is in use"),
             Reason::Unreadable => {
-                Fault::new(StatusCode::INTERNAL_SERVER_ERROR, "UNSUPPORTED", "the store cannot read the content")
+                let message = "the content is damaged on the disk of the registry: push it again";
+                Fault::new(StatusCode::INTERNAL_SERVER_ERROR, "UNSUPPORTED", message)
             }
             Reason::WeightSpent | Reason::Other(_) => {
                 Fault::new(StatusCode::INTERNAL_SERVER_ERROR, "UNSUPPORTED", "the store sent an unexpected reply")

@@ -9,7 +9,7 @@ use crate::operation::memory_reserve::is_short;
 use std::collections::{HashMap, VecDeque};
 use std::sync::{Arc, Mutex, MutexGuard};
 use std::time::{Duration, Instant};
-use tokio::sync::oneshot;
+use tokio::sync::{oneshot, OwnedSemaphorePermit, Semaphore};
 use tokio::time::timeout;
 
 /// The maximum time for which a request waits for memory.
@@ -20,6 +20,10 @@ const LOOK_REST: Duration = Duration::from_millis(250);
 
 /// The maximum number of requests of one sharer that wait.
 const MOST_WAITING: usize = 1024;
+
+/// The maximum number of requests at once that hold long pieces, if contents lie in files. Each takes a connection to the store whose buffer
+/// grows to the longest body. In memory, a longer piece costs no less.
+const LONG_AT_ONCE: usize = 4;
 
 /// The pace below which a client may be disconnected, in bytes a second.
 const SLOW_PACE: u64 = 16 << 10;
@@ -73,13 +77,18 @@ enum Entered {
 }
 
 /// A limit on the bytes of requests and responses in memory.
-pub(crate) struct Memory(Mutex<State>);
+pub(crate) struct Memory {
+    state: Mutex<State>,
+    /// The permits of requests that hold long pieces.
+    long: Arc<Semaphore>,
+}
 
 /// Bytes that a request may hold. Dropping this returns them.
 pub(crate) struct Reserved {
     bytes: u64,
     number: u64,
     memory: Arc<Memory>,
+    _long: Option<OwnedSemaphorePermit>,
 }
 
 impl State {
@@ -180,14 +189,16 @@ impl State {
 }
 
 impl Memory {
-    /// Makes a limit of `total` bytes for a number of sharers.
-    pub(crate) fn new(total: u64, sharers: usize) -> Arc<Memory> {
+    /// Makes a limit of `total` bytes for a number of sharers. Only if contents lie in files, some requests hold long pieces.
+    pub(crate) fn new(total: u64, sharers: usize, is_on_disk: bool) -> Arc<Memory> {
         let sharers = (0..sharers).map(|_| Sharer::default()).collect();
-        Arc::new(Memory(Mutex::new(State { total, used: 0, sharers, last: 0, by_number: HashMap::new(), next_number: 0 })))
+        let state = State { total, used: 0, sharers, last: 0, by_number: HashMap::new(), next_number: 0 };
+        let long = Semaphore::new(if is_on_disk { LONG_AT_ONCE } else { 0 });
+        Arc::new(Memory { state: Mutex::new(state), long: Arc::new(long) })
     }
 
     fn state(&self) -> MutexGuard<'_, State> {
-        guard_of(self.0.lock())
+        guard_of(self.state.lock())
     }
 
     /// Reserves bytes of which a request can do with fewer, if its sharer holds little and none of its requests waits.
@@ -196,8 +207,16 @@ impl Memory {
         let is_free = state.sharers[holder.sharer].waiting.is_empty() && state.has_plenty(holder.sharer, bytes);
         (is_free && !is_short()).then(|| {
             let number = state.take(holder.clone(), bytes);
-            Reserved { bytes, number, memory: self.clone() }
+            Reserved { bytes, number, memory: self.clone(), _long: None }
         })
+    }
+
+    /// Reserves bytes as `try_reserve` does, if few requests hold long pieces.
+    pub(crate) fn try_reserve_long(self: &Arc<Self>, holder: &Holder, bytes: u64) -> Option<Reserved> {
+        let permit = self.long.clone().try_acquire_owned().ok()?;
+        let mut reserved = self.try_reserve(holder, bytes)?;
+        reserved._long = Some(permit);
+        Some(reserved)
     }
 
     /// Reserves bytes for a request, in turn after those of its sharer that wait.
@@ -247,7 +266,7 @@ impl Memory {
         }
         if state.sharers[holder.sharer].waiting.is_empty() && state.has_room(holder.sharer, bytes) {
             let number = state.take(holder.clone(), bytes);
-            return Some(Entered::Reserved(Reserved { bytes, number, memory: self.clone() }));
+            return Some(Entered::Reserved(Reserved { bytes, number, memory: self.clone(), _long: None }));
         }
         let waiting = &mut state.sharers[holder.sharer].waiting;
         if waiting.len() >= MOST_WAITING {
@@ -266,7 +285,7 @@ impl Memory {
         let granted = self.state().grant();
         for (Waiting { bytes, sender, .. }, number) in granted {
             // Bytes of a request that no longer waits are returned here, so the lock must be free.
-            drop(sender.send(Reserved { bytes, number, memory: self.clone() }));
+            drop(sender.send(Reserved { bytes, number, memory: self.clone(), _long: None }));
         }
     }
 }
@@ -312,7 +331,7 @@ mod tests {
 
     #[tokio::test]
     async fn a_sharer_leaves_bytes_for_the_others() {
-        let memory = Memory::new(100, 3);
+        let memory = Memory::new(100, 3, true);
         let mine = now(&memory, 0, 50).await;
         assert!(mine.is_some() && now(&memory, 0, 1).await.is_none());
         let other = now(&memory, 1, 25).await;
@@ -326,7 +345,7 @@ mod tests {
 
     #[tokio::test]
     async fn a_reservation_shrinks() {
-        let memory = Memory::new(100, 1);
+        let memory = Memory::new(100, 1, true);
         let mut reserved = now(&memory, 0, 50).await.unwrap();
         reserved.shrink(10);
         assert_eq!((reserved.bytes(), memory.state().sharers[0].held), (10, 10));
@@ -336,7 +355,7 @@ mod tests {
 
     #[tokio::test]
     async fn requests_wait_in_turn_and_the_sharer_with_fewest_bytes_is_first() {
-        let memory = Memory::new(90, 2);
+        let memory = Memory::new(90, 2, true);
         let (mine, second) = (now(&memory, 0, 30).await.unwrap(), now(&memory, 1, 30).await.unwrap());
         let (holder, other) = (of(0), of(1));
         let mut greedy = Box::pin(memory.reserve(&holder, 20));
@@ -355,7 +374,7 @@ mod tests {
 
     #[tokio::test]
     async fn a_request_that_leaves_the_queue_leaves_nothing() {
-        let memory = Memory::new(100, 1);
+        let memory = Memory::new(100, 1, true);
         let mine = now(&memory, 0, 50).await.unwrap();
         assert!(now(&memory, 0, 50).await.is_none());
         let holder = of(0);
@@ -368,7 +387,7 @@ mod tests {
 
     #[tokio::test]
     async fn bytes_ahead_are_for_sharers_that_hold_little() {
-        let memory = Memory::new(800, 2);
+        let memory = Memory::new(800, 2, true);
         let first = memory.reserve_between(&of(0), 10, 150).await.unwrap();
         let second = memory.reserve_between(&of(0), 10, 150).await.unwrap();
         assert_eq!((first.bytes(), second.bytes()), (150, 10));
@@ -381,7 +400,7 @@ mod tests {
         let later = |seconds| begun + Duration::from_secs(seconds);
         let connection = || Arc::new(Connection::new(([127, 0, 0, 1], 1).into(), Duration::from_secs(60)));
         let (slow, slower, quick, other) = (connection(), connection(), connection(), connection());
-        let memory = Memory::new(700, 2);
+        let memory = Memory::new(700, 2, true);
         let mut reserved = Vec::new();
         for (sharer, connection) in [(0, &slow), (0, &slower), (0, &quick), (1, &other)] {
             connection.begin_request();

@@ -143,12 +143,13 @@ impl Drop for Ending<'_> {
     }
 }
 
-/// Fetches a blob, unless the store has it.
+/// Fetches a blob, unless the store has it undamaged.
 async fn fetch(mirror: &Arc<Mirror>, registry: &Arc<Registry>, key: &Key, spool: &Spool) {
     let (repo, digest) = (key.0.as_str(), key.1.as_str());
     let _permit = mirror.fetch_permits.acquire().await;
     // Another fetch may have ended after the store was asked.
-    if let Ok(Ok(_)) = registry.store.stat(repo, digest).await {
+    let is_stored = matches!(registry.store.stat(repo, digest).await, Ok(Ok(_)));
+    if is_stored && !registry.damaged.has(digest) {
         spool.change(|progress| {
             progress.head = Some(Head::IsStored);
             progress.is_stored = Some(true);

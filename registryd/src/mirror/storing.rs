@@ -131,6 +131,7 @@ impl<'r> Storing<'r> {
         registry.loose.end_link(repo, digest, &closed);
         drop(turn);
         if let Ok(Ok(_)) = closed {
+            registry.damaged.remove(digest);
             self.forget();
             if !registry.cached.has(repo, digest) {
                 // The mark was taken for one without content meanwhile.

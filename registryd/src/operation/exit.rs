@@ -54,8 +54,9 @@ impl Failure {
             (Some(7), _) => (7, "another process has the folder of --data: end that one, or let it go on"),
             (Some(8), _) => (
                 8,
-                "the log in the folder of --data is damaged, or is no log of this version: restore a backup, or go on with \
-                     what is left with --accept-loss, or with what is before the byte that blobd names with --accept-loss-after",
+                "the log in the folder of --data is damaged, or is no log of this version, or a content is missing: restore a \
+                     backup, or go on with what is left with --accept-loss, or with what is before the byte that blobd names \
+                     with --accept-loss-after",
             ),
             (Some(9), _) => (9, "the log cannot be written any more: make room or replace the disk, and start again"),
             (Some(10), _) => (

@@ -94,6 +94,7 @@ struct Inner {
     database: IntGauge,
     free: IntGauge,
     reserve: IntGauge,
+    damaged_reads: IntCounter,
     commits: Commits,
     syncs: Syncs,
 }
@@ -124,10 +125,11 @@ impl Metrics {
             durable: gauge("registryd_durable", "1 if a change is on the disk before its reply, 0 otherwise."),
             verified: gauge("registryd_store_verified", "1 if a record names the store's program as proved, 0 otherwise."),
             log: gauge("registryd_log_bytes", "Length of the log of the store, in bytes."),
-            live: gauge("registryd_live_bytes", "Bytes of the blobs and uploads of all tenants, which the log has to keep."),
+            live: gauge("registryd_live_bytes", "Bytes of the blobs and uploads of all tenants."),
             database: gauge("registryd_database_bytes", "Length of the database of tags, in bytes."),
             free: gauge("registryd_free_bytes", "Bytes that are free on the disk of the folder."),
             reserve: gauge("registryd_reserve_bytes", "Bytes of the reserve, which is given up on a full disk."),
+            damaged_reads: counter("registryd_damaged_reads_total", "Reads of blobs that failed because the content is damaged."),
             commits: Commits::new(),
             syncs: Syncs::new(),
             registry,
@@ -175,6 +177,11 @@ impl Metrics {
         self.0.sent.inc_by(bytes as u64);
     }
 
+    /// Counts a read of a damaged content.
+    pub(crate) fn count_damaged_read(&self) {
+        self.0.damaged_reads.inc();
+    }
+
     pub(super) fn count_sweep(&self, swept: &SweepResult) {
         self.0.sweeps.inc();
         self.0.freed.inc_by(swept.freed);
@@ -220,9 +227,10 @@ impl Metrics {
 
     /// Adds the metrics of a folder, and returns the counter of the database's transactions.
     pub(crate) fn add_folder(&self, is_durable: bool) -> Commits {
-        let Inner { registry, durable, log, live, database, free, reserve, commits, syncs, .. } = &*self.0;
+        let Inner { registry, durable, log, live, database, free, reserve, damaged_reads, commits, syncs, .. } = &*self.0;
         durable.set(i64::from(is_durable));
-        let all: [Box<dyn prometheus::core::Collector>; 9] = [
+        let all: [Box<dyn prometheus::core::Collector>; 10] = [
+            Box::new(damaged_reads.clone()),
             Box::new(log.clone()),
             Box::new(live.clone()),
             Box::new(database.clone()),

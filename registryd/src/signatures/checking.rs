@@ -149,7 +149,8 @@ impl Case<'_> {
 
     /// Returns a payload, unless it is not there or too long.
     async fn payload(self, registry: &Registry, digest: &str) -> Result<Option<Bytes>, Fault> {
-        match registry.store.fetch(self.repo, digest, Some((0, MAX_PAYLOAD - 1))).await? {
+        let fetched = registry.store.fetch(self.repo, digest, Some((0, MAX_PAYLOAD - 1))).await?;
+        match registry.check_read(self.repo, digest, fetched) {
             Ok(FetchResult::Piece { size, bytes }) => Ok(Some(bytes).filter(|_| size <= MAX_PAYLOAD)),
             // A piece that is not longer than a payload is never leased.
             Ok(FetchResult::LeasedBlob(leased)) => {

@@ -1,4 +1,5 @@
 //! The resources of the machine: what the tenants together may take of them, and what a start needs.
+use crate::folder::{disk_room, files};
 use crate::start::default_shares::default_share;
 use crate::start::tenants::Tenant;
 use std::fs::read_to_string;
@@ -21,16 +22,25 @@ fn total_of(text: &str) -> Option<u64> {
     Some(line.trim().strip_suffix("kB")?.trim().parse::<u64>().ok()? << 10)
 }
 
-/// Warns if the tenants together may take more slots or more memory than there are.
-pub(super) fn warn_of_sums(tenants: &[Tenant], slots: u32) {
+/// Warns if the tenants together may take more slots than there are, or more memory, or, with a folder, more of its disk.
+pub(super) fn warn_of_sums(tenants: &[Tenant], slots: u32, folder: Option<&Path>) {
     let default = default_share(slots, tenants.len()).unwrap_or_else(|| u64::from(slots));
     let shares = tenants.iter().map(|tenant| tenant.share.unwrap_or(default)).sum::<u64>();
     if shares > u64::from(slots) {
         tracing::warn!(shares, slots, "the shares together exceed the slots: one tenant can take those of another");
     }
-    let quotas = tenants.iter().map(|tenant| tenant.quota).sum::<u64>();
-    if let Some(memory) = memory().filter(|memory| quotas > *memory) {
-        tracing::warn!(quotas, memory, "the quotas together exceed the memory: the store can run out of memory");
+    let quotas = tenants.iter().map(|tenant| tenant.quota).fold(0, u64::saturating_add);
+    match folder {
+        Some(folder) => {
+            if let Some(disk) = disk_room::length_of(folder).filter(|disk| quotas > *disk) {
+                tracing::warn!(quotas, disk, "the quotas together exceed the disk: one tenant can fill it");
+            }
+        }
+        None => {
+            if let Some(memory) = memory().filter(|memory| quotas > *memory) {
+                tracing::warn!(quotas, memory, "the quotas together exceed the memory: the store can run out of memory");
+            }
+        }
     }
 }
 
@@ -68,10 +78,21 @@ fn available_memory() -> Option<u64> {
     available_on_machine().into_iter().chain(limit).min()
 }
 
-/// Warns if a log is longer than the available memory, in which the store keeps what it reads.
-pub(crate) fn warn_of_memory(log_bytes: u64) {
-    if let Some(available) = available_memory().filter(|available| log_bytes > *available) {
-        tracing::warn!(log_bytes, available, "the log is longer than the available memory: the start may run out of it");
+/// Warns if a start may not have what it needs for the log in a folder, if there is one. The store keeps small contents of the log in
+/// memory. If the log has long ones too, it writes them to files.
+pub(crate) fn warn_of_log(log_bytes: u64, folder: Option<&Path>) {
+    match folder.filter(|folder| log_bytes > 0 && !files::has_contents(folder)) {
+        Some(folder) => {
+            tracing::info!(log_bytes, "the long contents of the log are written to files, if it has some");
+            if let Some(free) = disk_room::free_on(folder).filter(|free| log_bytes > *free) {
+                tracing::warn!(log_bytes, free, "the disk may lack room for files of the contents of the log");
+            }
+        }
+        None => {
+            if let Some(available) = available_memory().filter(|available| log_bytes > *available) {
+                tracing::warn!(log_bytes, available, "the log is longer than the available memory: the start may run out of it");
+            }
+        }
     }
 }
 

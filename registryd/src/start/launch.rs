@@ -9,6 +9,7 @@ use crate::events::delivery;
 use crate::events::queue::Queue;
 use crate::events::receivers::ReceiversFile;
 use crate::events::reporter::Recorder;
+use crate::folder::damaged::DamagedContents;
 use crate::folder::disk_probe::DiskProbe;
 use crate::folder::disk_room::DiskRoom;
 use crate::folder::files::Folder;
@@ -199,16 +200,17 @@ pub(crate) async fn start(options: &Options, files: Files, address: SocketAddr) 
     let opened = open_folder(options, &room).await?;
     // It may lie in the folder.
     let control = options.control.as_deref().map(ControlSocket::bind).transpose()?;
-    capacity::warn_of_sums(&options.tenants(), options.slots);
+    capacity::warn_of_sums(&options.tenants(), options.slots, options.data.as_deref());
     let (store, child) = default_shares::start_store(options, writer.clone()).await?;
     let (child, recovered) = recover(&store, child, opened).await?;
     let Tables { uploads, repositories, manifests, loose_blobs, robots, pulls_since, cached, moves, database } =
         Tables::new(recovered, &writer, &queue, options.limits())?;
     let is_tls = options.tls_cert.is_some();
+    let damaged = Arc::<DamagedContents>::default();
     let recorder =
         |(file, queue): (Arc<ReceiversFile>, &Arc<Queue>)| Recorder::new(file, queue.clone(), address, is_tls, writer.clone());
     let registry = Arc::new(Registry {
-        memory: Memory::new(options.memory_in_flight, store.sharers()),
+        memory: Memory::new(options.memory_in_flight, store.sharers(), options.data.is_some()),
         store,
         access: Access { robots, ..access },
         uploads,
@@ -219,7 +221,8 @@ pub(crate) async fn start(options: &Options, files: Files, address: SocketAddr) 
         moves: Moves::new(&options.tenant_names(), writer.clone(), moves),
         folder: options.data.clone().zip(room).map(|(path, room)| Folder::new(path, room)),
         disk_probe: options.data.as_deref().map(|path| Arc::new(DiskProbe::new(path))),
-        scrub: options.data.clone().and_then(|path| Some(Scrub::new(path, options.scrub_pace()?, &metrics))),
+        scrub: options.data.clone().and_then(|path| Some(Scrub::new(path, options.scrub_pace()?, damaged.clone(), &metrics))),
+        damaged,
         turns: Default::default(),
         metrics,
         sweep_requests: Default::default(),

@@ -140,7 +140,7 @@ pub(crate) struct Options {
     pub(super) delete_listed: bool,
     /// Keep all data in this folder
     #[arg(long, value_name = "DIR")]
-    pub(super) data: Option<PathBuf>,
+    pub(crate) data: Option<PathBuf>,
     /// Use the folder on any kind of file system
     #[arg(long, requires = "data")]
     pub(super) any_file_system: bool,
@@ -153,7 +153,7 @@ pub(crate) struct Options {
     /// Drop what a log or database has lost and start
     #[arg(long, requires = "data")]
     pub(super) accept_loss: bool,
-    /// Read the log again at this pace [default: 4]; 0: never
+    /// Read all files again at this pace [default: 4]; 0: never
     #[arg(long, value_name = "N", requires = "data", value_parser = clap::value_parser!(u64).range(..=1 << 20))]
     pub(super) scrub_mib_s: Option<u64>,
     /// Accept no content if less is free [default: 67108864]

@@ -1,7 +1,8 @@
 //! The calls to the store, one function for each command, and their results.
 
-use crate::store::appending::{append_on, append_request, range_of};
+use crate::store::appending::{append_on, append_request, len_of, range_of};
 use crate::store::client::{Answer, NoReply, Store, StoreUnavailable};
+use crate::store::connection::WHOLE_LEN;
 use crate::store::frames::{Command, Reply, Request};
 use crate::store::undo::Undo;
 use bytes::Bytes;
@@ -92,7 +93,8 @@ impl Store {
             }
         }
         while let Some(piece) = pieces.recv().await {
-            let mut pooled = self.take(self.sharer(repo), Instant::now() + self.limit).await?;
+            let is_long = len_of(&piece) > WHOLE_LEN as u64;
+            let mut pooled = self.take(self.sharer(repo), is_long, Instant::now() + self.limit).await?;
             match append_on(&mut pooled, repo, number, received, piece, pieces).await {
                 Ok(Ok(reply)) => received = reply.first,
                 Ok(Err(refusal)) => return Ok(Err(refusal)),

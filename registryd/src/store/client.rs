@@ -2,7 +2,8 @@
 use crate::database::writer::Writer;
 use crate::metadata::names::tenant_of;
 use crate::operation::exit::Failure;
-use crate::store::connection::{Frame, PeerEnds, StoreConnection, PIPE_LEN};
+use crate::store::appending::len_of;
+use crate::store::connection::{Frame, PeerEnds, StoreConnection, PIPE_LEN, WHOLE_LEN};
 use crate::store::frames::{Command, Refusal, Reply, Request};
 use crate::store::pool::{ConnectionPool, PoolError, PooledConnection};
 use crate::store::undo::{undo_on, Undo};
@@ -161,9 +162,9 @@ impl Store {
         self.end_notice.notify_one();
     }
 
-    /// Takes a connection for a sharer, if one is available in time.
-    pub(super) async fn take(&self, sharer: usize, end: Instant) -> Result<PooledConnection, StoreUnavailable> {
-        match timeout_at(end, self.pool.take(sharer)).await {
+    /// Takes a connection for a sharer, if one is available in time. `is_long` is whether it carries a body longer than `WHOLE_LEN`.
+    pub(super) async fn take(&self, sharer: usize, is_long: bool, end: Instant) -> Result<PooledConnection, StoreUnavailable> {
+        match timeout_at(end, self.pool.take(sharer, is_long)).await {
             Ok(Ok(pooled)) => Ok(pooled),
             Ok(Err(PoolError::Closed)) => Err(StoreUnavailable),
             Ok(Err(PoolError::TooManyWait)) | Err(_) => {
@@ -194,7 +195,8 @@ impl Store {
         undo: Undo,
     ) -> Result<Vec<connection::ReplyResult>, NoReply> {
         let end = Instant::now() + limit;
-        let mut pooled = self.take(sharer, end).await.map_err(|StoreUnavailable| NoReply::NotMade)?;
+        let is_long = requests.iter().any(|request| len_of(request.body) > WHOLE_LEN as u64);
+        let mut pooled = self.take(sharer, is_long, end).await.map_err(|StoreUnavailable| NoReply::NotMade)?;
         let frames: Vec<Frame> = requests.iter().map(Frame::from).collect();
         let mut call = Box::pin(async move { (pooled.exchange(&frames).await, pooled) });
         match timeout_at(end, &mut call).await {

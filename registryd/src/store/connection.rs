@@ -83,6 +83,8 @@ pub(super) struct StoreConnection {
     from: AsyncFd<File>,
     /// The capacity of the smaller pipe, in bytes.
     pub(super) room: usize,
+    /// Whether it has carried a body longer than `WHOLE_LEN`. The store keeps a buffer of that length for it.
+    pub(super) is_wide: bool,
 }
 
 /// The other side's ends of the pipes: one to read requests, one to write replies.
@@ -96,7 +98,7 @@ impl StoreConnection {
     pub(super) fn new() -> io::Result<(StoreConnection, PeerEnds)> {
         let (requests, to, room) = pipe()?;
         let (from, replies, back) = pipe()?;
-        let connection = StoreConnection { to: nonblocking(to)?, from: nonblocking(from)?, room: room.min(back) };
+        let connection = StoreConnection { to: nonblocking(to)?, from: nonblocking(from)?, room: room.min(back), is_wide: false };
         Ok((connection, PeerEnds { requests, replies }))
     }
 

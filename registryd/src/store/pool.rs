@@ -24,7 +24,13 @@ pub(super) enum PoolError {
 struct Sharer {
     /// The number of connections that it has.
     held: usize,
-    waiting: VecDeque<oneshot::Sender<PooledConnection>>,
+    waiting: VecDeque<WaitingCall>,
+}
+
+/// A call that waits for a connection.
+struct WaitingCall {
+    is_long: bool,
+    sender: oneshot::Sender<PooledConnection>,
 }
 
 struct State {
@@ -42,6 +48,14 @@ impl State {
     /// half of them, `n` sharers leave one share as large as theirs, and the last connection goes to a sharer that has none.
     fn may_take(&self, sharer: usize) -> bool {
         self.sharers[sharer].held < self.idle.len()
+    }
+
+    /// Takes an idle connection. One that has carried a long body serves the next long one if it can, so that few become wide.
+    fn pop(&mut self, is_long: bool) -> Option<StoreConnection> {
+        let same = self.idle.iter().rposition(|connection| connection.is_wide == is_long);
+        let mut connection = self.idle.remove(same.or_else(|| self.idle.len().checked_sub(1))?);
+        connection.is_wide |= is_long;
+        Some(connection)
     }
 
     /// Returns the waiting sharer that may get a connection and has the fewest. Sharers with equally many take turns.
@@ -76,8 +90,9 @@ impl ConnectionPool {
         guard_of(self.0.lock())
     }
 
-    /// Takes a connection for a sharer after it may get one. Waiting calls of a sharer are served in order.
-    pub(super) async fn take(self: &Arc<Self>, sharer: usize) -> Result<PooledConnection, PoolError> {
+    /// Takes a connection for a sharer after it may get one. Waiting calls of a sharer are served in order. `is_long` is whether
+    /// the call has a long body.
+    pub(super) async fn take(self: &Arc<Self>, sharer: usize, is_long: bool) -> Result<PooledConnection, PoolError> {
         let receiver = {
             let mut state = self.state();
             if state.is_closed {
@@ -85,20 +100,20 @@ impl ConnectionPool {
             }
             // A sharer that waits and may get a connection got one when the last was returned, so this call overtakes none.
             if state.sharers[sharer].waiting.is_empty() && state.may_take(sharer) {
-                if let Some(connection) = state.idle.pop() {
+                if let Some(connection) = state.pop(is_long) {
                     state.sharers[sharer].held += 1;
                     return Ok(PooledConnection { connection: Some(connection), is_clean: true, sharer, pool: self.clone() });
                 }
             }
             let waiting = &mut state.sharers[sharer].waiting;
             if waiting.len() >= MOST_WAITING {
-                waiting.retain(|sender| !sender.is_closed());
+                waiting.retain(|call| !call.sender.is_closed());
             }
             if waiting.len() >= MOST_WAITING {
                 return Err(PoolError::TooManyWait);
             }
             let (sender, receiver) = oneshot::channel();
-            waiting.push_back(sender);
+            waiting.push_back(WaitingCall { is_long, sender });
             receiver
         };
         receiver.await.map_err(|_| PoolError::Closed)
@@ -107,12 +122,16 @@ impl ConnectionPool {
     /// Gives idle connections to waiting sharers that may get one.
     fn hand_out(self: &Arc<Self>, state: &mut State) {
         while let Some(sharer) = state.next() {
-            let (connection, sender) = match (state.idle.pop(), state.sharers[sharer].waiting.pop_front()) {
-                (Some(connection), Some(sender)) => (connection, sender),
-                _ => return,
+            let WaitingCall { is_long, sender: call } = match state.sharers[sharer].waiting.pop_front() {
+                Some(call) => call,
+                None => return,
+            };
+            let connection = match state.pop(is_long) {
+                Some(connection) => connection,
+                None => return,
             };
             let pooled = PooledConnection { connection: Some(connection), is_clean: true, sharer, pool: self.clone() };
-            match sender.send(pooled) {
+            match call.send(pooled) {
                 Ok(()) => {
                     state.sharers[sharer].held += 1;
                     state.last = sharer;
@@ -185,7 +204,7 @@ mod tests {
     }
 
     async fn soon(pool: &Arc<ConnectionPool>, sharer: usize) -> Option<PooledConnection> {
-        tokio::time::timeout(Duration::from_millis(50), pool.take(sharer)).await.ok()?.ok()
+        tokio::time::timeout(Duration::from_millis(50), pool.take(sharer, false)).await.ok()?.ok()
     }
 
     #[tokio::test]
@@ -207,13 +226,30 @@ mod tests {
         let last = soon(&pool, 0).await;
         assert!(last.is_none());
         let (greedy, modest) = (pool.clone(), pool.clone());
-        let greedy = tokio::spawn(async move { greedy.take(0).await });
+        let greedy = tokio::spawn(async move { greedy.take(0, false).await });
         tokio::task::yield_now().await;
         drop(second);
         let modest = soon(&modest, 1).await;
         assert!(modest.is_some());
         drop((mine, modest));
         assert!(greedy.await.unwrap().is_ok());
+    }
+
+    #[tokio::test]
+    async fn long_bodies_have_lines_of_their_own_while_there_are_others() {
+        let pool = pool_of(5, 1);
+        let is_wide = |pooled: &PooledConnection| pooled.connection.as_ref().unwrap().is_wide;
+        let (long, short) = (pool.take(0, true).await.unwrap(), pool.take(0, false).await.unwrap());
+        assert_eq!((is_wide(&long), is_wide(&short)), (true, false));
+        drop((short, long));
+        let (short, long) = (pool.take(0, false).await.unwrap(), pool.take(0, true).await.unwrap());
+        assert_eq!((is_wide(&short), is_wide(&long)), (false, true));
+        drop((short, long));
+        let wide = |pool: &Arc<ConnectionPool>| pool.state().idle.iter().filter(|connection| connection.is_wide).count();
+        assert_eq!(wide(&pool), 1);
+        let two = [pool.take(0, true).await.unwrap(), pool.take(0, true).await.unwrap()];
+        drop(two);
+        assert_eq!(wide(&pool), 2);
     }
 
     #[tokio::test]
@@ -226,6 +262,6 @@ mod tests {
         let mut pooled = soon(&pool, 0).await.unwrap();
         pooled.begin().unwrap();
         drop(pooled);
-        assert_eq!(pool.take(0).await.err(), Some(PoolError::Closed));
+        assert_eq!(pool.take(0, false).await.err(), Some(PoolError::Closed));
     }
 }

@@ -9,6 +9,9 @@ from server import INDEX, MANIFEST, sha256, sha512
 
 DOCKER = "application/vnd.docker.distribution.manifest.v2+json"
 
+# The greatest length of a content that the store hashes by SHA-512.
+LONGEST = 16_384
+
 # Bounds for what a client keeps.
 MOST_BLOBS, MOST_MANIFESTS, MOST_UPLOADS = 16, 8, 5
 
@@ -110,7 +113,7 @@ class Raw(Asker):
     def closes(self, _, upload=None):
         upload = upload or self.rng.choice(self.uploads())
         body, headers = self.grows(upload)
-        digest = self.rng.choice([sha256, sha256, sha256, sha512])(upload.sent)
+        digest = self.rng.choice([sha256, sha256, sha256, sha512 if len(upload.sent) <= LONGEST else sha256])(upload.sent)
         self.facts.keeps(digest, upload.sent)
         upload.ending = digest
         change, begun = self.facts.change(), time.monotonic()
