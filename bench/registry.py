@@ -1,8 +1,9 @@
 #!/usr/bin/env python3
 """Measures pushes, pulls and small requests of registryd and of Debian's docker-registry, with the same clients in turn:
-bench/registry.py [--runs N] [--with-unswept | --with-least] [MEASURE..]. It needs a built blobd, and the packages skopeo
+bench/registry.py [--runs N] [--data] [--with-unswept | --with-least] [MEASURE..]. It needs a built blobd, and the packages skopeo
 and docker-registry. The collector sweeps without a pause. The output has for each measure the median wall time of the
-clients in seconds, its ratio to docker-registry's, and the processor time of each server's programs. With --with-unswept
+clients in seconds, its ratio to docker-registry's, and the processor time of each server's programs. With --data registryd
+keeps everything in a folder on the same disk as docker-registry, and syncs before it replies. With --with-unswept
 the other server is a registryd that does not sweep. With --with-least it is a minimal program, and the measure is one blob:
 with these clients, no server that hashes a blob and keeps it in memory is faster."""
 import argparse, hashlib, http.client, json, os, random, shutil, signal, socket, statistics, subprocess, sys, tempfile, time
@@ -234,11 +235,13 @@ def measured(make, play):
 def main():
     options = argparse.ArgumentParser(description=__doc__)
     options.add_argument("--runs", type=int, default=3)
+    options.add_argument("--data", action="store_true")
     others = options.add_mutually_exclusive_group()
     others.add_argument("--with-unswept", action="store_true")
     others.add_argument("--with-least", action="store_true")
     options.add_argument("measures", nargs="*", metavar="MEASURE", help=" | ".join(MEASURES))
     options = options.parse_args()
+    ours = Kept if options.data else Ours
     other = Unswept if options.with_unswept else Least if options.with_least else Theirs
     if options.with_least:
         options.measures = ["a blob of 200 MiB"]
@@ -247,7 +250,7 @@ def main():
             sys.exit(f"bench/registry.py: cannot find {program}: run apt-get install {program}")
     print(f"{'':44} {'ours':>8} {'theirs':>8} {'ratio':>6}   {'processor time':>16}   memory, MiB")
     for name in options.measures or MEASURES:
-        runs = [(measured(Ours, MEASURES[name]), measured(other, MEASURES[name])) for _ in range(options.runs)]
+        runs = [(measured(ours, MEASURES[name]), measured(other, MEASURES[name])) for _ in range(options.runs)]
         for part in runs[0][0][0]:
             wall = [statistics.median(run[side][0][part][0] for run in runs) for side in (0, 1)]
             cpu = [statistics.median(run[side][0][part][1] for run in runs) for side in (0, 1)]
