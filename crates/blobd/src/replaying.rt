@@ -3,7 +3,7 @@ ghost use Rattle.std.specs.Prelude.{◌≡◌, [], IfOk};
 ghost use Rattle.segmented_disk.specs.Views.{starting};
 
 use crate::contents::{Contents, copied};
-use crate::serve_fault::ServeFault;
+use crate::serve_fault::{ReplayFault, ServeFault};
 use blob_store::{Desk, Naming, StartedLog, Store};
 use durable_log::{CommitError, IdleDevice};
 use locked_book::{Step, StoreLog};
@@ -29,26 +29,26 @@ pub type FolderDisk = SegmentedDisk<FileDisk, NextSegments>;
 pub type FolderLog<S> = StartedLog<S, FolderDisk>;
 
 /// Returns the fault if the read of a file ended by itself, and not at a record.
-fn read_fault<I>(file: FolderFile, input: &Noting<I>, ending: Ending) -> Option<ServeFault> {
+fn read_fault<I>(file: FolderFile, input: &Noting<I>, ending: Ending) -> Option<ReplayFault> {
     match ending {
-        Ending::Failed(kind) => Some(ServeFault::Read(file, input.error(kind))),
-        Ending::Memory => Some(ServeFault::Memory),
+        Ending::Failed(kind) => Some(ReplayFault::Read(file, input.error(kind))),
+        Ending::Memory => Some(ReplayFault::Memory),
         Ending::TooLong => {
             let error = io::Error::from(ErrorKind::FileTooLarge);
-            Some(ServeFault::Read(file, error))
+            Some(ReplayFault::Read(file, error))
         }
         Ending::End | Ending::Torn | Ending::Damaged(_) | Ending::Refused => None,
     }
 }
 
 /// Returns the fault for a record that was not replayed.
-fn record_fault(place: LogPlace, fault: Option<Fault>) -> ServeFault {
+fn record_fault(place: LogPlace, fault: Option<Fault>) -> ReplayFault {
     match fault {
         Some(fault) => match fault.cause {
-            Cause::Memory => ServeFault::Memory,
-            cause => ServeFault::Record { place, cause },
+            Cause::Memory => ReplayFault::Memory,
+            cause => ReplayFault::Record { place, cause },
         },
-        None => ServeFault::Record {
+        None => ReplayFault::Record {
             place,
             cause: Cause::Malformed,
         },
@@ -60,7 +60,7 @@ fn fault_of<I, W: Wait, S: Naming, O: ChangeSink>(
     start: LogPlace,
     input: &Noting<I>,
     replayed: Replayed<'_, W, S, O>,
-) -> ServeFault {
+) -> ReplayFault {
     let read = replayed.read();
     let fault = replayed.into_replay().into_fault();
     let place = LogPlace {
@@ -82,13 +82,13 @@ fn replay_file<'s, W: Wait, S: Naming, O: ChangeSink>(
     replay: Replay<'s, W, S, O>,
     buffer: &mut Vec<u8>,
     segment: &mut Segment,
-) -> Result<Replayed<'s, W, S, O>, ServeFault>
+) -> Result<Replayed<'s, W, S, O>, ReplayFault>
     ensures { IfOk result (λ r. r.id ≡ segment.old.id) }
 {
     let (name, id, start) = (segment.name, segment.id, segment.place(0));
     let mut input = match segment.frames(host, folder, work) {
         Ok(input) => input,
-        Err(error) => return Err(ServeFault::of_read(name, error)),
+        Err(error) => return Err(ReplayFault::of_read(name, error)),
     };
     let replayed = replay_log(replay, &mut input, buffer, id)?;
     if !replayed.is_whole() {
@@ -105,7 +105,7 @@ fn replay_files<'s, W: Wait, S: Naming, O: ChangeSink>(
     replay: Replay<'s, W, S, O>,
     buffer: &mut Vec<u8>,
     segments: &mut [Segment],
-) -> Result<Replay<'s, W, S, O>, ServeFault> {
+) -> Result<Replay<'s, W, S, O>, ReplayFault> {
     let mut replay = replay;
     for segment in segments {
         let replayed = replay_file(host, folder, work, replay, buffer, segment)?;
@@ -178,7 +178,7 @@ fn replay_with_desk<W: Wait, S: Naming, O: KnowsOpen>(
     log: OpenLog,
     next: NextSegments,
     observer: O,
-) -> Result<(FolderLog<S>, LeftContents), ServeFault>
+) -> Result<(FolderLog<S>, LeftContents), ReplayFault>
     requires written { device.written ≡ [] }
     requires durable { device.durable ≡ [] }
     requires folder { next ≡ starting log.last.id }
@@ -210,13 +210,13 @@ fn replay_with_desk<W: Wait, S: Naming, O: KnowsOpen>(
     } = last;
     match continue_on_file(alloc, replayed, file, next, before) {
         Ok(started) => Ok((started, left)),
-        Err(ContinueError::Disk(DiskError::Memory)) => Err(ServeFault::Memory),
-        Err(ContinueError::Disk(error)) => Err(ServeFault::Log(CommitError::Disk(error))),
+        Err(ContinueError::Disk(DiskError::Memory)) => Err(ReplayFault::Memory),
+        Err(ContinueError::Disk(error)) => Err(ReplayFault::Log(CommitError::Disk(error))),
         Err(ContinueError::Unfinished) => {
             let error = io::Error::from(ErrorKind::UnexpectedEof);
-            Err(ServeFault::Read(name, error))
+            Err(ReplayFault::Read(name, error))
         }
-        Err(ContinueError::Differs) => Err(ServeFault::Log(CommitError::Closed)),
+        Err(ContinueError::Differs) => Err(ReplayFault::Log(CommitError::Closed)),
     }
 }
 
@@ -262,5 +262,8 @@ pub fn replay_contents<W: Wait, S: Naming>(
         rt, host, folder, alloc, store, desk, device, log, next, observer,
     );
     store.settle(rt, desks);
-    started
+    match started {
+        Ok(started) => Ok(started),
+        Err(fault) => Err(ServeFault::from(fault)),
+    }
 }
