@@ -1,0 +1,40 @@
+-- Contents that are read in part.
+use Rattle.std.proofs.Common.{◌≡◌, ◌<◌, ◌∙◌, ℕ, Bool, true, false, List, [], ◌∷◌, length, refl, sym, ltb-true, arith}
+use Rattle.std.specs.Prelude.{◌&&◌, nat_lt}
+use Rattle.std.proofs.lemmas.Bool.{false≢true}
+use Rattle.content_files.specs.Notes.{is_read}
+use Rattle.spec_lib.specs.Texts.{Text}
+use Rattle.unread_contents.specs.Unread.{AgreeWhereRead, IsReadAs}
+
+-- a content is read as itself
+pub read_itself : (x : Text) → IsReadAs x x
+read_itself [] = tt
+read_itself (b ∷ bytes) = (λ _. refl, read_itself bytes)
+
+-- a content that is read keeps its length
+pub read_length : (x y : Text) → IsReadAs x y → length x ≡ length y
+read_length [] [] h = refl
+read_length [] (b ∷ y) h = absurd h
+read_length (a ∷ x) [] h = absurd h
+read_length (a ∷ x) (b ∷ y) h = let rest = read_length x y h.1 in omega arith
+
+-- a content of which all was read is the same
+pub read_all : (x y : Text) → IsReadAs x y → is_read x ≡ true → x ≡ y
+read_all [] [] h all = refl
+read_all [] (b ∷ y) h all = absurd h
+read_all (a ∷ x) [] h all = absurd h
+read_all (a ∷ x) (b ∷ y) h all = by (nat_lt a 256) refl all (read_all x y h.1)
+  where
+    by : (t : Bool) → nat_lt a 256 ≡ t → (t && is_read x) ≡ true → (is_read x ≡ true → x ≡ y) → a ∷ x ≡ b ∷ y
+    by true is rest later = λ i. h.0 (ltb-true a 256 is) i ∷ later rest i
+    by false is rest later = absurd (false≢true rest)
+
+-- what is known of one content agrees
+pub known_agree : (x y z : Text) → IsReadAs x z → IsReadAs y z → AgreeWhereRead x y
+known_agree [] [] z p q = tt
+known_agree [] (b ∷ y) [] p q = absurd q
+known_agree [] (b ∷ y) (c ∷ z) p q = absurd p
+known_agree (a ∷ x) [] [] p q = absurd p
+known_agree (a ∷ x) [] (c ∷ z) p q = absurd q
+known_agree (a ∷ x) (b ∷ y) [] p q = absurd p
+known_agree (a ∷ x) (b ∷ y) (c ∷ z) p q = (λ one other. p.0 one ∙ sym (q.0 other), known_agree x y z p.1 q.1)

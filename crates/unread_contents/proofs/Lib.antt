@@ -1,0 +1,4 @@
+pub mod Blobs
+pub mod Commands
+pub mod Contents
+pub mod Sweeps
