@@ -1,6 +1,6 @@
 -- Stored blobs and the same with their contents read: lookups, changes, and sums over all of them.
-use Rattle.std.proofs.Common.{◌≡◌, ◌≢◌, ◌∙◌, ℕ, ◌+◌, Bool, true, false, cond, List, [], ◌∷◌, length, map, filter, Option, Some, None, is_some, refl, sym, ap, subst, arith, inl, inr}
-use Rattle.std.specs.Option.{option_map, option_map_or}
+use Rattle.std.proofs.Common.{◌≡◌, ◌∙◌, ℕ, Bool, true, false, cond, List, [], ◌∷◌, length, map, filter, Option, Some, None, is_some, refl, sym, ap, subst, arith, inl, inr}
+use Rattle.std.specs.Option.{option_map}
 use Rattle.std.specs.declared.cmp.Ordering.{Ordering}
 use Rattle.std.specs.declared.cmp.Ordering.TheVariants.{Less, Equal, Greater}
 use Rattle.std.specs.Ordering.{eq_by_cmp}
@@ -16,7 +16,6 @@ use Rattle.spec_lib.proofs.Rows.{entries-empty}
 use Rattle.spec_lib.proofs.Sums.{get-remove_same, insert-remove, insert_back}
 use Rattle.store_model.specs.Catalog.{Resident}
 use Rattle.unread_contents.specs.Unread.{AreContentsUpTo, AreReadBlobs, IsReadAs, IsReadBlob}
-use Rattle.unread_contents.proofs.Contents.{read_itself}
 
 abbrev pub Blobs : Type 0
 Blobs = FinMap text_cmp Resident

@@ -1,5 +1,5 @@
 -- A history of a store with contents on disk, step for step, is one of the store that has read them.
-use Rattle.std.proofs.Common.{◌≡◌, ◌≢◌, ◌∙◌, ℕ, Bool, true, false, List, [], ◌∷◌, ◌++◌, Option, Result, Ok, Err, refl, sym, ap, subst, inl, inr}
+use Rattle.std.proofs.Common.{◌≡◌, ◌∙◌, ℕ, Bool, true, false, List, [], ◌∷◌, ◌++◌, Option, Result, Ok, Err, refl, sym, ap, subst, inl, inr}
 use Rattle.blob_digest.specs.declared.range.ByteRange.{ByteRange}
 use Rattle.blob_digest.specs.declared.refusal.Refusal.{Refusal}
 use Rattle.blob_digest.specs.declared.refusal.Refusal.TheVariants.{Memory}
@@ -9,14 +9,14 @@ use Rattle.store_model.specs.Amounts.{add_amounts}
 use Rattle.store_model.specs.Catalog.{Catalog, HandRecord, Tenant}
 use Rattle.store_model.specs.Commands
 use Rattle.store_model.specs.Commands.{Outcome}
-use Rattle.store_model.specs.Histories.{AreSteps, CommandCall, FinishCall, IsStep, IsUncountable, MayLeadTo, PutBackCall, State, Step, SweepCall, TakeCall}
-use Rattle.store_model.specs.HistoryIsolation.{AreOwnReplies, is_step_of, uploads_of_history}
+use Rattle.store_model.specs.Histories.{AreSteps, CommandCall, FinishCall, IsUncountable, MayLeadTo, PutBackCall, State, Step, SweepCall, TakeCall}
+use Rattle.store_model.specs.HistoryIsolation.{AreOwnReplies, uploads_of_history}
 use Rattle.store_model.specs.Runs.{Answer, Command, outcome, takes_memory}
 use Rattle.store_model.specs.declared.swept.Swept.{Swept}
 use Rattle.store_model.specs.Sweep.{IsSweep}
 use Rattle.unread_contents.specs.Unread.{AreHistoriesUpTo, AreStepsUpTo, IsReadAs}
 use Rattle.unread_contents.proofs.Blobs.{AreRead, Blobs}
-use Rattle.unread_contents.proofs.Commands.{AreAnswers, AreBoth, AreOutcomes, Equal, command_read, finish_read, put_back_read, take_read, with}
+use Rattle.unread_contents.proofs.Commands.{AreAnswers, AreOutcomes, Equal, command_read, finish_read, put_back_read, take_read, with}
 use Rattle.unread_contents.proofs.Pairs.{answers_step, full, same_amounts, same_owner, same_reply, same_uploads}
 use Rattle.unread_contents.proofs.Sweeps.{some_read_sweep}
 

@@ -2,5 +2,8 @@ pub mod Blobs
 pub mod Commands
 pub mod Contents
 pub mod Histories
+pub mod Isolated
 pub mod Pairs
+pub mod Soundness
 pub mod Sweeps
+pub mod Theorems

@@ -1,6 +1,5 @@
 -- Steps that are the same but for the contents of leases have the same owner, request and uploads.
-use Rattle.std.proofs.Common.{◌≡◌, ◌∙◌, ℕ, Bool, true, false, cond, List, [], ◌∷◌, ◌++◌, Ok, Err, refl, sym, ap, subst, inl, inr}
-use Rattle.std.specs.Prelude.{filter}
+use Rattle.std.proofs.Common.{◌≡◌, ◌∙◌, ℕ, Bool, true, false, cond, List, [], ◌∷◌, Ok, Err, refl, sym, ap, subst, inl, inr}
 use Rattle.spec_lib.specs.Texts.{Text}
 use Rattle.store_model.specs.Catalog.{Catalog, Tenant}
 use Rattle.store_model.specs.Histories.{CommandCall, FinishCall, PutBackCall, State, Step, SweepCall, TakeCall, step_amounts}

@@ -1,5 +1,5 @@
 -- A sweep of a catalog is also one of the catalog with its contents read.
-use Rattle.std.proofs.Common.{◌≡◌, ◌∙◌, ℕ, ◌+◌, Bool, true, false, cond, not, [], Option, Some, None, refl, sym, ap, subst}
+use Rattle.std.proofs.Common.{◌≡◌, ◌∙◌, Bool, true, false, cond, not, [], Option, Some, None, refl, sym, ap, subst}
 use Rattle.std.specs.Prelude.{◌&&◌, is_none}
 use Rattle.std.specs.Option.{option_map, option_map_or}
 use Rattle.std.specs.FinMap.{entries, get}
@@ -10,7 +10,7 @@ use Rattle.store_model.specs.declared.swept.Swept.{Swept}
 use Rattle.store_model.proofs.Commands.SomeSweep.{left_bytes}
 use Rattle.unread_contents.specs.Unread.{AreReadBlobs, IsReadAs, IsReadBlob}
 use Rattle.unread_contents.proofs.Blobs.{AreFilled, AreRead, Blobs, entries_read, filled, known_at, none_known, read_at, some_filled, sum_read}
-use Rattle.unread_contents.proofs.Commands.{AreBoth, with}
+use Rattle.unread_contents.proofs.Commands.{with}
 
 -- the bytes of a blob, or none
 abbrev bytes_in : Option Resident → Text

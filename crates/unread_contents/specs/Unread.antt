@@ -2,7 +2,7 @@
 use Rattle.std.specs.Prelude.{◌≡◌, ◌<◌, ◌⊎◌, ℕ, true, List, [], ◌∷◌, ◌++◌, Option, Some, None, Ok}
 use Rattle.std.specs.FinMap as fmap
 use Rattle.blob_digest.specs.Digests.{is_digest_of}
-use Rattle.spec_lib.specs.Texts.{Text, text_cmp}
+use Rattle.spec_lib.specs.Texts.{Text}
 use Rattle.store_model.specs.Catalog.{Catalog, Resident}
 use Rattle.store_model.specs.Histories.{CommandCall, LeadsTo, State, Step, initial_state}
 use Rattle.store_model.specs.HistoryIsolation.{AreOwnReplies, catalog_after_requests, isolated_steps, requests_of, steps_of, uploads_of_history}
