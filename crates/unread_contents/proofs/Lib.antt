@@ -1,6 +1,7 @@
 pub mod Blobs
 pub mod Commands
 pub mod Contents
+pub mod Examples
 pub mod Histories
 pub mod Isolated
 pub mod Pairs
