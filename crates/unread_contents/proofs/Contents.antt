@@ -1,10 +1,10 @@
 -- Contents that are read in part.
 use Rattle.std.proofs.Common.{◌≡◌, ◌∙◌, Bool, true, false, [], ◌∷◌, length, refl, sym, ltb-true, arith}
 use Rattle.std.specs.Prelude.{◌&&◌, nat_lt}
-use Rattle.std.proofs.lemmas.Bool.{false≢true}
+use Rattle.std.proofs.lemmas.Bool.{and_parts, false≢true}
 use Rattle.content_files.specs.Notes.{is_read}
 use Rattle.spec_lib.specs.Texts.{Text}
-use Rattle.unread_contents.specs.Unread.{AgreeWhereRead, IsReadAs}
+use Rattle.unread_contents.specs.Unread.{AgreeWhereRead, IsReadAs, ReadContentsAreTheSame}
 
 -- a content is read as itself
 pub read_itself : (x : Text) → IsReadAs x x
@@ -38,3 +38,22 @@ known_agree (a ∷ x) [] [] p q = absurd p
 known_agree (a ∷ x) [] (c ∷ z) p q = absurd q
 known_agree (a ∷ x) (b ∷ y) [] p q = absurd p
 known_agree (a ∷ x) (b ∷ y) (c ∷ z) p q = (λ one other. p.0 one ∙ sym (q.0 other), known_agree x y z p.1 q.1)
+
+-- contents that agree are as long, and the same if both were read
+agree_length : (x y : Text) → AgreeWhereRead x y → length x ≡ length y
+agree_length [] [] h = refl
+agree_length [] (b ∷ y) h = absurd h
+agree_length (a ∷ x) [] h = absurd h
+agree_length (a ∷ x) (b ∷ y) h = let rest = agree_length x y h.1 in omega arith
+
+agree_read : (x y : Text) → AgreeWhereRead x y → is_read x ≡ true → is_read y ≡ true → x ≡ y
+agree_read [] [] h p q = refl
+agree_read [] (b ∷ y) h p q = absurd h
+agree_read (a ∷ x) [] h p q = absurd h
+agree_read (a ∷ x) (b ∷ y) h p q =
+    let one = and_parts (nat_lt a 256) (is_read x) p in
+    let other = and_parts (nat_lt b 256) (is_read y) q in
+    λ i. h.0 (ltb-true a 256 one.0) (ltb-true b 256 other.0) i ∷ agree_read x y h.1 one.1 other.1 i
+
+pub read_contents_are_the_same : ReadContentsAreTheSame
+read_contents_are_the_same x y h = (agree_length x y h, agree_read x y h)

@@ -26,7 +26,7 @@ use Rattle.store_model.proofs.Commands.Opening.{Sound-opening}
 use Rattle.store_model.proofs.Commands.Runs.{Sound-run}
 use Rattle.store_model.proofs.Examples.Digests.{abc, abc_bytes, abc_named}
 use Rattle.store_model.proofs.Examples.Sweeps.{is_only}
-use Rattle.unread_contents.specs.Unread.{AgreeWhereRead, AreReadBlobs, HaveTheirDigests, IsFairOnDisk, IsIsolatedUpTo, IsReadAs, IsReadCatalog}
+use Rattle.unread_contents.specs.Unread.{AgreeWhereRead, AreReadBlobs, HaveTheirDigests, IsFairAsRead, IsFairOnDisk, AreUploadsOf, IsIsolatedUpTo, IsReadAs, IsReadCatalog}
 use Rattle.unread_contents.proofs.Blobs.{AreRead, read_insert}
 use Rattle.unread_contents.proofs.Theorems.{tenants_are_isolated_on_disk}
 
@@ -140,30 +140,55 @@ collides none =
     both : NoCollision ((abc, unread_bytes) ∷ (abc, abc_bytes) ∷ [])
     both = subst NoCollision (λ i. stored_with unread_bytes i ++ uploaded i) none
 
--- here the content on disk and the one that is pushed again are the same
-abbrev pairs : List (Text × Text)
-pairs = (abc, abc_bytes) ∷ (abc, abc_bytes) ∷ []
+abbrev one_pair : List (Text × Text)
+one_pair = (abc, abc_bytes) ∷ []
 
-same_content : (d content : Text) → Contains pairs (d, content) → abc_bytes ≡ content
-same_content d content (zero, lt, is) = ap (λ (p : Text × Text). p.1) is
-same_content d content (suc zero, lt, is) = ap (λ (p : Text × Text). p.1) is
-same_content d content (suc (suc n), lt, is) = absurd (omega arith)
+abbrev two_pairs : List (Text × Text)
+two_pairs = (abc, abc_bytes) ∷ (abc, abc_bytes) ∷ []
 
-pub fair : IsFairOnDisk known full 0 steps (state first_leased 3 3)
+the_content : (d content : Text) → Contains two_pairs (d, content) → abc_bytes ≡ content
+the_content d content (zero, lt, is) = ap (λ (p : Text × Text). p.1) is
+the_content d content (suc zero, lt, is) = ap (λ (p : Text × Text). p.1) is
+the_content d content (suc (suc n), lt, is) = absurd (omega arith)
+
+the_upload : (d content : Text) → Contains one_pair (d, content) → abc_bytes ≡ content
+the_upload d content (zero, lt, is) = ap (λ (p : Text × Text). p.1) is
+the_upload d content (suc n, lt, is) = absurd (omega arith)
+
+-- the one upload is the stored content, as far as that was read
+one_upload : AreUploadsOf known one_pair
+one_upload = record {
+  no_collision = λ d a b first second. sym (the_upload d a first) ∙ the_upload d b second;
+  stored = λ d content b found there.
+      subst (IsReadAs b.bytes) (the_upload d content there)
+      (subst (λ (y : Resident). IsReadAs y.bytes abc_bytes) (is_only (record { bytes = unread_bytes; condemned = false; lent = was_leased (get opened.residents abc) }) d b found).1 bytes_read);
+}
+
+pub fair : IsFairOnDisk known 0 steps (state first_leased 3 3)
 fair = record {
   on_disk = refl;
-  read = full_read;
-  digests = full_digests;
   sound = known_sound;
   run = run;
-  no_collision = subst NoCollision (sym (λ i. stored_with abc_bytes i ++ uploaded i)) (λ d a b first second. sym (same_content d a first) ∙ same_content d b second);
+  uploads = subst (AreUploadsOf known) (sym uploaded) one_upload;
+  own_replies = (λ own. tt, (λ own. tt, (λ own. tt, tt)));
+}
+
+-- the content on disk and the one that is pushed again are the same
+pub fair_as_read : IsFairAsRead known full 0 steps (state first_leased 3 3)
+fair_as_read = record {
+  on_disk = refl;
+  sound = known_sound;
+  read = full_read;
+  digests = full_digests;
+  run = run;
+  no_collision = subst NoCollision (sym (λ i. stored_with abc_bytes i ++ uploaded i)) (λ d a b first second. sym (the_content d a first) ∙ the_content d b second);
   own_replies = (λ own. tt, (λ own. tt, (λ own. tt, tt)));
 }
 
 -- ---- the conclusion
 
 pub first_alone : IsIsolatedUpTo AgreeWhereRead known known 0 steps (state first_leased 3 3)
-first_alone = tenants_are_isolated_on_disk known full 0 steps (state first_leased 3 3) fair
+first_alone = tenants_are_isolated_on_disk known 0 steps (state first_leased 3 3) fair
 
 -- the tenant's isolated history returns the content that was not read
 leases_alone : isolated_outcome known (Lease one abc) ≡ Ok (Bytes unread_bytes, with_leased known abc (record { bytes = unread_bytes; condemned = false; lent = false }))

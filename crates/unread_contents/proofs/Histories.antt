@@ -3,15 +3,21 @@ use Rattle.std.proofs.Common.{◌≡◌, ◌∙◌, ℕ, Bool, true, false, List
 use Rattle.blob_digest.specs.declared.range.ByteRange.{ByteRange}
 use Rattle.blob_digest.specs.declared.refusal.Refusal.{Refusal}
 use Rattle.blob_digest.specs.declared.refusal.Refusal.TheVariants.{Memory}
-use Rattle.std.specs.Prelude.{◌⊎◌}
+use Rattle.std.specs.Prelude.{◌⊎◌, if◌then◌else◌}
 use Rattle.spec_lib.specs.Texts.{Text}
 use Rattle.store_model.specs.Amounts.{add_amounts}
 use Rattle.store_model.specs.Catalog.{Catalog, HandRecord, Tenant}
 use Rattle.store_model.specs.Commands
 use Rattle.store_model.specs.Commands.{Outcome}
 use Rattle.store_model.specs.Histories.{AreSteps, CommandCall, FinishCall, IsUncountable, MayLeadTo, PutBackCall, State, Step, SweepCall, TakeCall}
-use Rattle.store_model.specs.HistoryIsolation.{AreOwnReplies, uploads_of_history}
-use Rattle.store_model.specs.Runs.{Answer, Command, outcome, takes_memory}
+use Rattle.store_model.specs.HistoryIsolation.{AreOwnReplies, uploads_of_history, uploads_of_step}
+use Rattle.store_model.specs.Noninterference.{close_content, uploaded_pair, uploads_of_command}
+use Rattle.store_model.specs.Sessions.{hand_content}
+use Rattle.blob_digest.specs.Vouched.{has_digest}
+use Rattle.blob_digest.specs.Digests.{is_digest_of}
+use Rattle.std.specs.List.{AllByRecursion}
+use Rattle.store_model.specs.Commands.{is_named}
+use Rattle.store_model.specs.Runs.{Answer, Close, Command, outcome, takes_memory}
 use Rattle.store_model.specs.declared.swept.Swept.{Swept}
 use Rattle.store_model.specs.Sweep.{IsSweep}
 use Rattle.unread_contents.specs.Unread.{AreHistoriesUpTo, AreStepsUpTo, IsReadAs}
@@ -115,6 +121,36 @@ module _ (s : State) (r : Blobs) (read : AreRead s.catalog.residents r) (on_disk
   reached (PutBackCall h reply) = put_back_reached h reply
   reached (FinishCall h d reply) = finish_reached h d reply
 
+-- ---- uploads
+
+-- the content of an upload has the digest, as far as it was read
+abbrev pub HasItsDigest : Text × Text → Type 0
+HasItsDigest upload = has_digest upload.0 upload.1 ≡ true
+
+both_named : (xs ys : List (Text × Text)) → AllByRecursion HasItsDigest xs → AllByRecursion HasItsDigest ys → AllByRecursion HasItsDigest (xs ++ ys)
+both_named [] ys p q = q
+both_named (x ∷ xs) ys p q = (p.0, both_named xs ys p.1 q)
+
+module _ (C : Catalog) (on_disk : C.contents.on_disk ≡ true) where
+  pair_named : (d : Text) (x : Result Text Refusal) → AllByRecursion HasItsDigest (uploaded_pair C.contents d x)
+  pair_named d (Err e) = tt
+  pair_named d (Ok content) = by (is_named C.contents d content) (sym (ap (λ x. if x then has_digest d content else is_digest_of d content) on_disk))
+    where
+      by : (b : Bool) → has_digest d content ≡ b → AllByRecursion HasItsDigest (if b then (d, content) ∷ [] else [])
+      by true is = (is, tt)
+      by false is = tt
+
+  command_named : (command : Command) → AllByRecursion HasItsDigest (uploads_of_command C command)
+  command_named (Close r n d g b) = pair_named d (close_content C r n b)
+  command_named command = tt
+
+  step_named : (step : Step) → AllByRecursion HasItsDigest (uploads_of_step C step)
+  step_named (CommandCall command reply) = command_named command
+  step_named (FinishCall h d reply) = pair_named d (Ok (hand_content h))
+  step_named (SweepCall swept) = tt
+  step_named (TakeCall r n g len reply) = tt
+  step_named (PutBackCall h reply) = tt
+
 -- ---- a history
 
 -- The history with its contents read: its run, with the same uploads, and with own replies of a tenant if the other has them.
@@ -126,6 +162,7 @@ pub record Played (s : State) (r : Blobs) (steps : List Step) (s' : State) (old 
   pub on_disk : s'.catalog.contents.on_disk ≡ true
   pub same : AreHistoriesUpTo IsReadAs steps others
   pub uploads : uploads_of_history (full s r) others (full s' blobs) run ≡ uploads_of_history s steps s' old
+  pub named : AllByRecursion HasItsDigest (uploads_of_history s steps s' old)
   pub own : (ts : List Tenant) (t : ℕ) → AreOwnReplies ts t s steps s' old → AreOwnReplies ts t (full s r) others (full s' blobs) run
 
 pub played : (steps : List Step) (s : State) (r : Blobs) (s' : State) → AreRead s.catalog.residents r → s.catalog.contents.on_disk ≡ true → (run : AreSteps s steps s') → Played s r steps s' run
@@ -137,6 +174,7 @@ played [] s r s' read on_disk run = record {
   on_disk = ap (λ (x : State). x.catalog.contents.on_disk) run ∙ on_disk;
   same = tt;
   uploads = refl;
+  named = tt;
   own = λ ts t own. tt;
 }
 played (step ∷ steps) s r s' read on_disk run =
@@ -151,5 +189,6 @@ played (step ∷ steps) s r s' read on_disk run =
       on_disk = p.on_disk;
       same = (k.same, p.same);
       uploads = λ i. same_uploads s.catalog r step k.other k.same i ++ p.uploads i;
+      named = both_named (uploads_of_step s.catalog step) (uploads_of_history mid steps s' run.2) (step_named s.catalog on_disk step) p.named;
       own = λ ts t own. (λ is. same_reply s r step k.other k.same (own.0 (same_owner ts t step k.other k.same ∙ is)), p.own ts t own.1);
     }

@@ -8,3 +8,4 @@ pub mod Pairs
 pub mod Soundness
 pub mod Sweeps
 pub mod Theorems
+pub mod Uploads

@@ -25,25 +25,18 @@ has_its_digest d b f is named digest = by (is_read f.bytes) (is_read b.bytes) re
     by false true read was = absurd (true≢false (sym was ∙ ap is_read (read_all b.bytes f.bytes is.content was) ∙ read))
     by false false read was = sym (ap (λ x. if x then is_digest_of d b.bytes else is_digest_text d) was) ∙ named
 
-module _ (C : Catalog) (r : Blobs) (on_disk : C.contents.on_disk ≡ true) (read : AreRead C.residents r) (digests : HaveTheirDigests (with C r)) (sound : Sound C) where
-  named : (d : Text) (content : Text) → is_named C.contents d content ≡ has_digest d content
-  named d content = ap (λ x. if x then has_digest d content else is_digest_of d content) on_disk
-
-  content_read : (d : Text) (f : Resident) → get r d ≡ Some f → is_named C.contents d f.bytes ≡ true
-  content_read d f found =
-      let k = known_at (get C.residents d) (get r d) (read d) f found in
-      named d f.bytes ∙ has_its_digest d k.0 f k.2 (sym (named d k.0.bytes) ∙ sound.lawful.content d k.0 k.1) (digests d f found)
-
+module _ (C : Catalog) (r : Blobs) (on_disk : C.contents.on_disk ≡ true) (read : AreRead C.residents r) (sound : Sound C) where
   link_read : (l : Link) → set.contains C.links l ≡ true → WellFormedLink (with C r) l
   link_read l there =
       let old = sound.lawful.links l there in
       let k = read_at (get C.residents l.1) (get r l.1) (read l.1) old.kept.0 old.kept.1 in
       record { repo = old.repo; kept = (k.0, k.1, ap (λ (x : Resident). x.condemned) k.2.rest ∙ old.kept.2) }
 
-  sound_with : Sound (with C r)
-  sound_with = record {
+  -- if the contents have the digests that they are stored under
+  pub sound_with : ((d : Text) (f : Resident) → get r d ≡ Some f → is_named C.contents d f.bytes ≡ true) → Sound (with C r)
+  sound_with content = record {
     lawful = record {
-      content = content_read;
+      content = content;
       links = link_read;
       manifests = sound.lawful.manifests;
       sessions = sound.lawful.sessions;
@@ -62,6 +55,15 @@ module _ (C : Catalog) (r : Blobs) (on_disk : C.contents.on_disk ≡ true) (read
     };
   }
 
+  pub named : (d content : Text) → is_named C.contents d content ≡ has_digest d content
+  named d content = ap (λ x. if x then has_digest d content else is_digest_of d content) on_disk
+
+  content_read : HaveTheirDigests (with C r) → (d : Text) (f : Resident) → get r d ≡ Some f → is_named C.contents d f.bytes ≡ true
+  content_read digests d f found =
+      let k = known_at (get C.residents d) (get r d) (read d) f found in
+      named d f.bytes ∙ has_its_digest d k.0 f k.2 (sym (named d k.0.bytes) ∙ sound.lawful.content d k.0 k.1) (digests d f found)
+
 pub read_catalogs_are_sound : ReadCatalogsAreSound
 read_catalogs_are_sound C F on_disk read digests sound =
-    subst (λ X. Sound X) (sym read.rest) (sound_with C F.residents on_disk read.residents digests sound)
+    let known : HaveTheirDigests (with C F.residents) = subst (λ X. HaveTheirDigests X) read.rest digests in
+    subst (λ X. Sound X) (sym read.rest) (sound_with C F.residents on_disk read.residents sound (content_read C F.residents on_disk read.residents sound known))

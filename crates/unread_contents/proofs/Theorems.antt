@@ -1,18 +1,20 @@
 -- The theorems about stores that have not read their contents.
-use Rattle.std.proofs.Common.{◌≡◌, ◌∙◌, ℕ, List, ◌++◌, refl, sym, ap, subst}
+use Rattle.std.proofs.Common.{◌≡◌, ◌∙◌, ℕ, List, ◌++◌, refl, sym, ap, subst, true}
 use Rattle.store_model.specs.Catalog.{Catalog}
 use Rattle.store_model.specs.Histories.{LeadsTo, State, Step, initial_state}
-use Rattle.store_model.specs.HistoryIsolation.{StepRequest, catalog_after_requests, isolated_steps, requests_of, steps_of}
+use Rattle.store_model.specs.HistoryIsolation.{AreOwnReplies, StepRequest, catalog_after_requests, isolated_steps, requests_of, steps_of, uploads_of_history}
 use Rattle.store_model.specs.Noninterference.{NoCollision, tenant_view}
 use Rattle.store_model.specs.Restarts.{IsIsolatedFrom, stored_contents}
 use Rattle.store_model.proofs.Durable.Restarts.{tenants_are_isolated_from}
-use Rattle.unread_contents.specs.Unread.{AreHistoriesUpTo, AreViewsUpTo, HistoriesAreRead, IsFairOnDisk, IsIsolatedUpTo, IsReadAs, TenantsAreIsolatedOnDisk, TenantsReadTheirContents}
-use Rattle.unread_contents.proofs.Blobs.{Blobs}
+use Rattle.unread_contents.specs.Unread.{AgreeWhereRead, AreHistoriesUpTo, AreViewsUpTo, HistoriesAreRead, IsIsolatedUpTo, IsReadAs, TenantsAreIsolatedOnDisk, TenantsReadTheirContents}
+use Rattle.unread_contents.proofs.Blobs.{AreRead, Blobs}
 use Rattle.unread_contents.proofs.Commands.{AreBoth, with}
 use Rattle.unread_contents.proofs.Histories.{Played, played}
 use Rattle.unread_contents.proofs.Isolated.{both, requests_read, view_read}
 use Rattle.unread_contents.proofs.Pairs.{full, histories_agree, same_owners, same_requests, views_agree}
 use Rattle.unread_contents.proofs.Soundness.{read_catalogs_are_sound}
+use Rattle.unread_contents.proofs.Uploads.{reads_itself, uploads_filled}
+use Rattle.store_model.specs.Invariant.{Sound}
 
 pub histories_are_read : HistoriesAreRead
 histories_are_read C F steps s on_disk read run =
@@ -26,7 +28,10 @@ histories_are_read C F steps s on_disk read run =
       totals = refl;
     }
 
-module _ (C : Catalog) (r : Blobs) (t : ℕ) (steps : List Step) (s : State) (fair : IsFairOnDisk C (with C r) t steps s) where
+-- ---- a tenant, by the history with contents read
+
+module _ (C : Catalog) (r : Blobs) (t : ℕ) (steps : List Step) (s : State) (read : AreRead C.residents r) (on_disk : C.contents.on_disk ≡ true) (sound : Sound (with C r)) (run : LeadsTo C steps s)
+    (no_collision : NoCollision (stored_contents (with C r) ++ uploads_of_history (initial_state C) steps s run)) (own_replies : AreOwnReplies C.tenants t (initial_state C) steps s run) where
   -- the tenant's steps, and its requests
   abbrev own : List Step
   own = steps_of C.tenants t steps
@@ -35,12 +40,12 @@ module _ (C : Catalog) (r : Blobs) (t : ℕ) (steps : List Step) (s : State) (fa
   asked = requests_of own
 
   -- the history with contents read isolates the tenant
-  alone_of : (p : Played (initial_state C) r steps s fair.run) → IsIsolatedFrom (with C r) t p.others (full s p.blobs)
-  alone_of p = tenants_are_isolated_from (with C r) t p.others (full s p.blobs) (read_catalogs_are_sound C (with C r) fair.on_disk fair.read fair.digests fair.sound)
-      (record { run = p.run; no_collision = subst (λ us. NoCollision (stored_contents (with C r) ++ us)) (sym p.uploads) fair.no_collision }) (p.own C.tenants t fair.own_replies)
+  alone_of : (p : Played (initial_state C) r steps s run) → IsIsolatedFrom (with C r) t p.others (full s p.blobs)
+  alone_of p = tenants_are_isolated_from (with C r) t p.others (full s p.blobs) sound
+      (record { run = p.run; no_collision = subst (λ us. NoCollision (stored_contents (with C r) ++ us)) (sym p.uploads) no_collision }) (p.own C.tenants t own_replies)
 
-  isolated_as_read : Played (initial_state C) r steps s fair.run → IsIsolatedUpTo IsReadAs C (with C r) t steps s
-  isolated_as_read p =
+  as_played : Played (initial_state C) r steps s run → IsIsolatedUpTo IsReadAs C (with C r) t steps s
+  as_played p =
       let k = alone_of p in
       let others : List Step = steps_of C.tenants t p.others in
       let same : AreHistoriesUpTo IsReadAs own others = same_owners C.tenants t steps p.others p.same in
@@ -52,20 +57,28 @@ module _ (C : Catalog) (r : Blobs) (t : ℕ) (steps : List Step) (s : State) (fa
         tenant_view = subst (AreViewsUpTo IsReadAs (tenant_view s.catalog t)) view (view_read s.catalog (with s.catalog p.blobs) t (both s.catalog p.blobs p.read p.on_disk));
       }
 
-  isolated_with : IsIsolatedUpTo IsReadAs C (with C r) t steps s
-  isolated_with = isolated_as_read (played steps (initial_state C) r s fair.read.residents fair.on_disk fair.run)
+  isolated_as_read : IsIsolatedUpTo IsReadAs C (with C r) t steps s
+  isolated_as_read = as_played (played steps (initial_state C) r s read on_disk run)
+
+  isolated_alone : IsIsolatedUpTo AgreeWhereRead C C t steps s
+  isolated_alone =
+      let alone = requests_read asked C (with C r) (both C r read on_disk) in
+      record {
+        replies = histories_agree own (isolated_steps C asked) (isolated_steps (with C r) asked) isolated_as_read.replies alone.0;
+        tenant_view = views_agree (tenant_view s.catalog t) (tenant_view (catalog_after_requests C asked) t) (tenant_view (catalog_after_requests (with C r) asked) t)
+        isolated_as_read.tenant_view (view_read (catalog_after_requests C asked) (catalog_after_requests (with C r) asked) t alone.1);
+      }
 
 pub tenants_read_their_contents : TenantsReadTheirContents
 tenants_read_their_contents C F t steps s fair =
-    subst (λ X. IsFairOnDisk C X t steps s → IsIsolatedUpTo IsReadAs C X t steps s) (sym fair.read.rest) (λ f. isolated_with C F.residents t steps s f) fair
+    subst (λ X. Sound X → NoCollision (stored_contents X ++ uploads_of_history (initial_state C) steps s fair.run) → IsIsolatedUpTo IsReadAs C X t steps s) (sym fair.read.rest)
+    (λ sound no_collision. isolated_as_read C F.residents t steps s fair.read.residents fair.on_disk sound fair.run no_collision fair.own_replies)
+    (read_catalogs_are_sound C F fair.on_disk fair.read fair.digests fair.sound) fair.no_collision
+
+-- ---- without what lies on the disk
 
 pub tenants_are_isolated_on_disk : TenantsAreIsolatedOnDisk
-tenants_are_isolated_on_disk C F t steps s fair =
-    let asked : List StepRequest = requests_of (steps_of C.tenants t steps) in
-    let k = tenants_read_their_contents C F t steps s fair in
-    let now : AreBoth C F = record { read = fair.read; on_disk = fair.on_disk } in
-    let alone = requests_read asked C F now in
-    record {
-      replies = histories_agree (steps_of C.tenants t steps) (isolated_steps C asked) (isolated_steps F asked) k.replies alone.0;
-      tenant_view = views_agree (tenant_view s.catalog t) (tenant_view (catalog_after_requests C asked) t) (tenant_view (catalog_after_requests F asked) t) k.tenant_view (view_read (catalog_after_requests C asked) (catalog_after_requests F asked) t alone.1);
-    }
+tenants_are_isolated_on_disk C t steps s fair =
+    let p = played steps (initial_state C) C.residents s (reads_itself C.residents) fair.on_disk fair.run in
+    let k = uploads_filled C fair.on_disk fair.sound (uploads_of_history (initial_state C) steps s fair.run) p.named fair.uploads in
+    isolated_alone C k.blobs t steps s k.read fair.on_disk k.sound fair.run k.no_collision fair.own_replies

@@ -1,6 +1,8 @@
 -- A store that has not read its files knows of a stored content only its length. Its histories are those of the store that has read all of them.
-use Rattle.std.specs.Prelude.{◌≡◌, ◌<◌, ◌⊎◌, ℕ, true, List, [], ◌∷◌, ◌++◌, Option, Some, None, Ok}
+use Rattle.std.specs.Prelude.{◌≡◌, ◌<◌, ◌⊎◌, ℕ, true, List, [], ◌∷◌, ◌++◌, Option, Some, None, Ok, length}
+use Rattle.std.specs.List.{Contains}
 use Rattle.std.specs.FinMap as fmap
+use Rattle.content_files.specs.Notes.{is_read}
 use Rattle.blob_digest.specs.Digests.{is_digest_of}
 use Rattle.spec_lib.specs.Texts.{Text}
 use Rattle.store_model.specs.Catalog.{Catalog, Resident}
@@ -101,26 +103,49 @@ HistoriesAreRead = (C F : Catalog) (steps : List Step) (s : State) → C.content
 abbrev pub ReadCatalogsAreSound : Type 0
 ReadCatalogsAreSound = (C F : Catalog) → C.contents.on_disk ≡ true → IsReadCatalog C F → HaveTheirDigests F → Sound C → Sound F
 
--- The steps lead from the catalog C on disk to a state; F is C with its contents read, which have their digests. No two contents
--- of F and of the uploads differ and have the same digest. No reply to the tenant is one that others may cause.
-pub record IsFairOnDisk (C F : Catalog) (t : ℕ) (steps : List Step) (s : State) : Type 0 where
-  pub on_disk : C.contents.on_disk ≡ true
-  pub read : IsReadCatalog C F
-  pub digests : HaveTheirDigests F
-  pub sound : Sound C
-  pub run : LeadsTo C steps s
-  pub no_collision : NoCollision (stored_contents F ++ uploads_of_history (initial_state C) steps s run)
-  pub own_replies : AreOwnReplies C.tenants t (initial_state C) steps s run
-
 -- a tenant's steps and its view at the end are those of its isolated history from the catalog D, but for contents, which are related
 pub record IsIsolatedUpTo (related : Text → Text → Type 0) (C D : Catalog) (t : ℕ) (steps : List Step) (s : State) : Type 0 where
   pub replies : AreHistoriesUpTo related (steps_of C.tenants t steps) (isolated_steps D (requests_of (steps_of C.tenants t steps)))
   pub tenant_view : AreViewsUpTo related (tenant_view s.catalog t) (tenant_view (catalog_after_requests D (requests_of (steps_of C.tenants t steps))) t)
 
+-- ---- isolation
+
+-- No two uploads have different contents with the same digest, and an upload of a stored digest is the stored content, where that was read.
+pub record AreUploadsOf (C : Catalog) (uploads : List (Text × Text)) : Type 0 where
+  pub no_collision : NoCollision uploads
+  pub stored : (digest content : Text) (b : Resident) → fmap.get C.residents digest ≡ Some b → Contains uploads (digest, content) → IsReadAs b.bytes content
+
+-- The steps lead from a sound catalog on disk to a state; their uploads don't collide, and no reply to the tenant is one that others may cause.
+pub record IsFairOnDisk (C : Catalog) (t : ℕ) (steps : List Step) (s : State) : Type 0 where
+  pub on_disk : C.contents.on_disk ≡ true
+  pub sound : Sound C
+  pub run : LeadsTo C steps s
+  pub uploads : AreUploadsOf C (uploads_of_history (initial_state C) steps s run)
+  pub own_replies : AreOwnReplies C.tenants t (initial_state C) steps s run
+
 -- A tenant's replies and its view at the end are those of its isolated history, but for bytes that were not read in one of both.
 abbrev pub TenantsAreIsolatedOnDisk : Type 0
-TenantsAreIsolatedOnDisk = (C F : Catalog) (t : ℕ) (steps : List Step) (s : State) → IsFairOnDisk C F t steps s → IsIsolatedUpTo AgreeWhereRead C C t steps s
+TenantsAreIsolatedOnDisk = (C : Catalog) (t : ℕ) (steps : List Step) (s : State) → IsFairOnDisk C t steps s → IsIsolatedUpTo AgreeWhereRead C C t steps s
 
--- A tenant's replies and its view at the end are those of its isolated history from the store that has read its contents, but for bytes that were not read.
+-- ---- isolation, and what lies on the disk
+
+-- The steps lead from a sound catalog on disk to a state; F is this catalog with its contents read, which have their digests. No two contents
+-- of F and of the uploads differ and have the same digest, and no reply to the tenant is one that others may cause.
+pub record IsFairAsRead (C F : Catalog) (t : ℕ) (steps : List Step) (s : State) : Type 0 where
+  pub on_disk : C.contents.on_disk ≡ true
+  pub sound : Sound C
+  pub read : IsReadCatalog C F
+  pub digests : HaveTheirDigests F
+  pub run : LeadsTo C steps s
+  pub no_collision : NoCollision (stored_contents F ++ uploads_of_history (initial_state C) steps s run)
+  pub own_replies : AreOwnReplies C.tenants t (initial_state C) steps s run
+
+-- A tenant's replies and its view at the end are those of its isolated history with all contents read, but for bytes that were not read.
 abbrev pub TenantsReadTheirContents : Type 0
-TenantsReadTheirContents = (C F : Catalog) (t : ℕ) (steps : List Step) (s : State) → IsFairOnDisk C F t steps s → IsIsolatedUpTo IsReadAs C F t steps s
+TenantsReadTheirContents = (C F : Catalog) (t : ℕ) (steps : List Step) (s : State) → IsFairAsRead C F t steps s → IsIsolatedUpTo IsReadAs C F t steps s
+
+-- ---- contents that agree where they were read
+
+-- contents that agree where both were read are as long, and the same if all of both was read
+abbrev pub ReadContentsAreTheSame : Type 0
+ReadContentsAreTheSame = (one other : Text) → AgreeWhereRead one other → (length one ≡ length other) × (is_read one ≡ true → is_read other ≡ true → one ≡ other)
