@@ -75,16 +75,19 @@ AreFilled bytes m n = (d : Text) → get n d ≡ option_map (filled bytes d) (ge
 pub some_filled : (bytes : Text → Text) (m : Blobs) → (n : Blobs) × AreFilled bytes m n
 some_filled bytes = map_induct nat_list_cmp_total exact_bytes (λ m. (n : Blobs) × AreFilled bytes m n)
     (empty, λ d. get-empty text_cmp d ∙ sym (ap (option_map (filled bytes d)) (get-empty text_cmp d)))
-    (λ m k v none rest. (insert rest.0 k (filled bytes k v), λ d. elim (cases_key nat_list_cmp_total exact_bytes d k) [
-      | inl e ↦
-          ap (get (insert rest.0 k (filled bytes k v))) e
-          ∙ get-insert_at nat_list_cmp_total exact_bytes rest.0 k (filled bytes k v)
-          ∙ sym (ap (λ q. option_map (filled bytes q) (get (insert m k v) q)) e ∙ ap (option_map (filled bytes k)) (get-insert_at nat_list_cmp_total exact_bytes m k v))
-      | inr differ ↦
-          get-insert_other nat_list_cmp_total exact_bytes rest.0 k (filled bytes k v) d differ
-          ∙ rest.1 d
-          ∙ sym (ap (option_map (filled bytes d)) (get-insert_other nat_list_cmp_total exact_bytes m k v d differ))
-    ]))
+    (λ m k v none rest. (
+      insert rest.0 k (filled bytes k v),
+      λ d. elim (cases_key nat_list_cmp_total exact_bytes d k) [
+        | inl e ↦
+            ap (get (insert rest.0 k (filled bytes k v))) e
+            ∙ get-insert_at nat_list_cmp_total exact_bytes rest.0 k (filled bytes k v)
+            ∙ sym (ap (λ q. option_map (filled bytes q) (get (insert m k v) q)) e ∙ ap (option_map (filled bytes k)) (get-insert_at nat_list_cmp_total exact_bytes m k v))
+        | inr differ ↦
+            get-insert_other nat_list_cmp_total exact_bytes rest.0 k (filled bytes k v) d differ
+            ∙ rest.1 d
+            ∙ sym (ap (option_map (filled bytes d)) (get-insert_other nat_list_cmp_total exact_bytes m k v d differ))
+      ],
+    ))
 
 -- ---- entries
 
@@ -114,9 +117,9 @@ none_left n all =
 -- the rest of the blobs, without one of them
 rest_read : (m n : Blobs) (k : Text) (b : Resident) → get m k ≡ None → AreRead (insert m k b) n → AreRead m (remove n k)
 rest_read m n k b none all d = elim (cases_key nat_list_cmp_total exact_bytes d k) [
-    | inl e ↦ subst (λ q. AreReadBlobs (get m q) (get (remove n k) q)) (sym e) (subst (λ o. AreReadBlobs o (get (remove n k) k)) (sym none) (subst (AreReadBlobs None) (sym (get-remove_same nat_list_cmp_total exact_bytes n k)) tt))
-    | inr differ ↦ subst (λ o. AreReadBlobs o (get (remove n k) d)) (get-insert_other nat_list_cmp_total exact_bytes m k b d differ) (subst (AreReadBlobs (get (insert m k b) d)) (sym (get-remove_other nat_list_cmp_total exact_bytes n k d differ)) (all d))
-  ]
+  | inl e ↦ subst (λ q. AreReadBlobs (get m q) (get (remove n k) q)) (sym e) (subst (λ o. AreReadBlobs o (get (remove n k) k)) (sym none) (subst (AreReadBlobs None) (sym (get-remove_same nat_list_cmp_total exact_bytes n k)) tt))
+  | inr differ ↦ subst (λ o. AreReadBlobs o (get (remove n k) d)) (get-insert_other nat_list_cmp_total exact_bytes m k b d differ) (subst (AreReadBlobs (get (insert m k b) d)) (sym (get-remove_other nat_list_cmp_total exact_bytes n k d differ)) (all d))
+]
 
 grown : (m : Blobs) (k : Text) (b : Resident) → get m k ≡ None → ((n : Blobs) → AreRead m n → AreReadEntries (entries m) (entries n)) → (n : Blobs) → AreRead (insert m k b) n → AreReadEntries (entries (insert m k b)) (entries n)
 grown m k b none rest n all =

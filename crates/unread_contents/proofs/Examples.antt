@@ -1,10 +1,10 @@
 -- A store on disk restarts, and another tenant pushes a content again that the store has not read. The premises hold, those of `laws::restarts` do not.
-use Rattle.std.proofs.Common.{◌≡◌, ◌∙◌, ℕ, ◌<◌, ◌≤◌, true, false, List, [], ◌∷◌, ◌++◌, get_or, Some, None, Ok, refl, sym, ap, subst, arith}
+use Rattle.std.proofs.Common.{◌≡◌, ◌∙◌, ℕ, true, false, List, [], ◌∷◌, ◌++◌, get_or, None, Ok, refl, sym, ap, subst, arith}
 use Prim.Native.Nat.{zero, suc}
 use Rattle.std.specs.Prelude.{codes}
-use Rattle.std.specs.List.{AllByRecursion, Contains}
+use Rattle.std.specs.List.{Contains}
 use Rattle.std.specs.List.Sorted.{IsStrictlySortedBy}
-use Rattle.std.specs.FinMap.{empty, entries-insert, get, get-empty, get-insert, insert, len-entries}
+use Rattle.std.specs.FinMap.{empty, entries-insert, get, get-empty, get-insert, len-entries}
 use Rattle.std.specs.Cmp.Lexicographic.{nat_list_cmp_total}
 use Rattle.content_files.specs.Notes.{unread}
 use Rattle.blob_digest.specs.Digests.{is_digest_of}
@@ -19,9 +19,9 @@ use Rattle.store_model.specs.Commands.{was_leased, with_leased, with_new_session
 use Rattle.store_model.specs.Histories.{CommandCall, LeadsTo, State, Step, initial_state}
 use Rattle.store_model.specs.HistoryIsolation.{isolated_steps, requests_of, steps_of, uploads_of_history}
 use Rattle.store_model.specs.Invariant.{Sound}
-use Rattle.store_model.specs.Noninterference.{NoCollision, close_content, isolated_outcome, uploaded_pair}
+use Rattle.store_model.specs.Noninterference.{NoCollision, isolated_outcome}
 use Rattle.store_model.specs.Restarts.{stored_contents}
-use Rattle.store_model.specs.Runs.{Bytes, Close, CommandEvent, Event, IsRun, Lease, Number, Start, outcome}
+use Rattle.store_model.specs.Runs.{Bytes, Close, CommandEvent, Event, Lease, Number, Start, outcome}
 use Rattle.store_model.proofs.Commands.Opening.{Sound-opening}
 use Rattle.store_model.proofs.Commands.Runs.{Sound-run}
 use Rattle.store_model.proofs.Examples.Digests.{abc, abc_bytes, abc_named}

@@ -23,6 +23,7 @@ use Rattle.store_model.specs.Sweep.{IsSweep}
 use Rattle.unread_contents.specs.Unread.{AreHistoriesUpTo, AreStepsUpTo, IsReadAs}
 use Rattle.unread_contents.proofs.Blobs.{AreRead, Blobs}
 use Rattle.unread_contents.proofs.Commands.{AreAnswers, AreOutcomes, Equal, command_read, finish_read, put_back_read, take_read, with}
+use Rattle.unread_contents.proofs.Lists.{both_all}
 use Rattle.unread_contents.proofs.Pairs.{answers_step, full, same_amounts, same_owner, same_reply, same_uploads}
 use Rattle.unread_contents.proofs.Sweeps.{some_read_sweep}
 
@@ -127,10 +128,6 @@ module _ (s : State) (r : Blobs) (read : AreRead s.catalog.residents r) (on_disk
 abbrev pub HasItsDigest : Text × Text → Type 0
 HasItsDigest upload = has_digest upload.0 upload.1 ≡ true
 
-both_named : (xs ys : List (Text × Text)) → AllByRecursion HasItsDigest xs → AllByRecursion HasItsDigest ys → AllByRecursion HasItsDigest (xs ++ ys)
-both_named [] ys p q = q
-both_named (x ∷ xs) ys p q = (p.0, both_named xs ys p.1 q)
-
 module _ (C : Catalog) (on_disk : C.contents.on_disk ≡ true) where
   pair_named : (d : Text) (x : Result Text Refusal) → AllByRecursion HasItsDigest (uploaded_pair C.contents d x)
   pair_named d (Err e) = tt
@@ -189,6 +186,6 @@ played (step ∷ steps) s r s' read on_disk run =
       on_disk = p.on_disk;
       same = (k.same, p.same);
       uploads = λ i. same_uploads s.catalog r step k.other k.same i ++ p.uploads i;
-      named = both_named (uploads_of_step s.catalog step) (uploads_of_history mid steps s' run.2) (step_named s.catalog on_disk step) p.named;
+      named = both_all HasItsDigest (uploads_of_step s.catalog step) (uploads_of_history mid steps s' run.2) (step_named s.catalog on_disk step) p.named;
       own = λ ts t own. (λ is. same_reply s r step k.other k.same (own.0 (same_owner ts t step k.other k.same ∙ is)), p.own ts t own.1);
     }

@@ -4,6 +4,7 @@ pub mod Contents
 pub mod Examples
 pub mod Histories
 pub mod Isolated
+pub mod Lists
 pub mod Pairs
 pub mod Soundness
 pub mod Sweeps

@@ -8,7 +8,7 @@ use Rattle.store_model.specs.Restarts.{IsIsolatedFrom, stored_contents}
 use Rattle.store_model.proofs.Durable.Restarts.{tenants_are_isolated_from}
 use Rattle.unread_contents.specs.Unread.{AgreeWhereRead, AreHistoriesUpTo, AreViewsUpTo, HistoriesAreRead, IsIsolatedUpTo, IsReadAs, TenantsAreIsolatedOnDisk, TenantsReadTheirContents}
 use Rattle.unread_contents.proofs.Blobs.{AreRead, Blobs}
-use Rattle.unread_contents.proofs.Commands.{AreBoth, with}
+use Rattle.unread_contents.proofs.Commands.{with}
 use Rattle.unread_contents.proofs.Histories.{Played, played}
 use Rattle.unread_contents.proofs.Isolated.{both, requests_read, view_read}
 use Rattle.unread_contents.proofs.Pairs.{full, histories_agree, same_owners, same_requests, views_agree}
@@ -66,7 +66,7 @@ module _ (C : Catalog) (r : Blobs) (t : ℕ) (steps : List Step) (s : State) (re
       record {
         replies = histories_agree own (isolated_steps C asked) (isolated_steps (with C r) asked) isolated_as_read.replies alone.0;
         tenant_view = views_agree (tenant_view s.catalog t) (tenant_view (catalog_after_requests C asked) t) (tenant_view (catalog_after_requests (with C r) asked) t)
-        isolated_as_read.tenant_view (view_read (catalog_after_requests C asked) (catalog_after_requests (with C r) asked) t alone.1);
+            isolated_as_read.tenant_view (view_read (catalog_after_requests C asked) (catalog_after_requests (with C r) asked) t alone.1);
       }
 
 pub tenants_read_their_contents : TenantsReadTheirContents

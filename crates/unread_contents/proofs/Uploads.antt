@@ -1,7 +1,6 @@
 -- If the uploads of a history do not collide, the stored contents can be replaced by the uploads of their digests.
-use Rattle.std.proofs.Common.{◌≡◌, ◌∙◌, ℕ, ◌+◌, ◌<◌, Bool, true, false, cond, List, [], ◌∷◌, ◌++◌, length, map, Option, Some, None, refl, sym, ap, subst, arith, inl, inr}
+use Rattle.std.proofs.Common.{◌≡◌, ◌∙◌, Bool, true, false, cond, List, [], ◌∷◌, ◌++◌, map, Option, Some, None, refl, sym, ap, subst, arith, inl, inr}
 use Prim.Native.Nat.{zero, suc}
-use Rattle.std.specs.Prelude.{slice_index_or}
 use Rattle.std.specs.Option.{option_map, option_map_or}
 use Rattle.std.specs.declared.cmp.Ordering.{Ordering}
 use Rattle.std.specs.declared.cmp.Ordering.TheVariants.{Less, Equal, Greater}
@@ -10,8 +9,7 @@ use Rattle.std.specs.Ordering.{eq_by_cmp, is_eq}
 use Rattle.std.specs.List.{AllByRecursion, Contains}
 use Rattle.std.specs.Cmp.Lexicographic.{nat_list_cmp_total}
 use Rattle.std.specs.FinMap.Entries.{by_order}
-use Rattle.std.specs.FinMap.{entries, entries-insert, find, get, insert, put}
-use Rattle.std.proofs.lemmas.Bool.{true≢false, false≢true}
+use Rattle.std.specs.FinMap.{entries, entries-insert, find, get, put}
 use Rattle.std.proofs.lemmas.Map.Lookups.{exact_bytes}
 use Rattle.spec_lib.specs.Texts.{Text, text_cmp}
 use Rattle.spec_lib.proofs.Maps.{cases_key, get-insert_at, get-insert_other, map_induct}
@@ -23,32 +21,18 @@ use Rattle.store_model.specs.Invariant.{Sound}
 use Rattle.store_model.specs.Noninterference.{NoCollision}
 use Rattle.store_model.specs.Restarts.{stored_contents}
 use Rattle.unread_contents.specs.Unread.{AreReadBlobs, AreUploadsOf, IsReadAs}
-use Rattle.unread_contents.proofs.Blobs.{AreFilled, AreRead, Blobs, filled, known_at, some_filled}
+use Rattle.unread_contents.proofs.Blobs.{AreFilled, AreRead, Blobs, filled, some_filled}
 use Rattle.unread_contents.proofs.Commands.{with}
 use Rattle.unread_contents.proofs.Contents.{read_itself}
 use Rattle.unread_contents.proofs.Histories.{HasItsDigest}
+use Rattle.unread_contents.proofs.Lists.{all_contain, both_all, contain_all}
 use Rattle.unread_contents.proofs.Soundness.{named, sound_with}
 
--- ---- lists
-
--- a property of all elements is one of each element that the list contains
-all_contain : {A : Type 0} (P : A → Type 0) (xs : List A) → AllByRecursion P xs → (x : A) → Contains xs x → P x
-all_contain P [] all x (k, lt, is) = absurd (omega arith)
-all_contain P (y ∷ ys) all x (zero, lt, is) = subst P is all.0
-all_contain P (y ∷ ys) all x (suc k, lt, is) = all_contain P ys all.1 x (k, omega arith, is)
-
-both_all : {A : Type 0} (P : A → Type 0) (xs ys : List A) → AllByRecursion P xs → AllByRecursion P ys → AllByRecursion P (xs ++ ys)
-both_all P [] ys p q = q
-both_all P (x ∷ xs) ys p q = (p.0, both_all P xs ys p.1 q)
+-- ---- lists of uploads
 
 -- a list whose contents a function determines has no collision
 determined : (content : Text → Text) (pairs : List (Text × Text)) → AllByRecursion (λ p. content p.0 ≡ p.1) pairs → NoCollision pairs
 determined content pairs all d a b one other = sym (all_contain (λ p. content p.0 ≡ p.1) pairs all (d, a) one) ∙ all_contain (λ p. content p.0 ≡ p.1) pairs all (d, b) other
-
--- a property of each element that the list contains is one of all elements
-contain_all : {A : Type 0} (P : A → Type 0) (xs : List A) → ((x : A) → Contains xs x → P x) → AllByRecursion P xs
-contain_all P [] each = tt
-contain_all P (x ∷ xs) each = (each x (zero, omega arith, refl), contain_all P xs (λ y there. let lt = there.1 in each y (suc there.0, omega arith, there.2)))
 
 -- the content that is found under a digest is contained
 found_contains : (us : List (Text × Text)) (d w : Text) → find text_cmp d us ≡ Some w → Contains us (d, w)
