@@ -26,7 +26,7 @@ use Rattle.store_model.proofs.Commands.Opening.{Sound-opening}
 use Rattle.store_model.proofs.Commands.Runs.{Sound-run}
 use Rattle.store_model.proofs.Examples.Digests.{abc, abc_bytes, abc_named}
 use Rattle.store_model.proofs.Examples.Sweeps.{is_only}
-use Rattle.unread_contents.specs.Unread.{AgreeWhereRead, AreReadBlobs, HaveTheirDigests, IsFairAsRead, IsFairOnDisk, AreUploadsOf, IsIsolatedUpTo, IsReadAs, IsReadCatalog}
+use Rattle.unread_contents.specs.Unread.{AgreeWhereRead, AreReadBlobs, HaveTheirDigests, IsFairAsRead, IsFairOnDisk, NoCollisionOnDisk, IsIsolatedUpTo, IsReadAs, IsReadCatalog}
 use Rattle.unread_contents.proofs.Blobs.{AreRead, read_insert}
 use Rattle.unread_contents.proofs.Theorems.{tenants_are_isolated_on_disk}
 
@@ -156,7 +156,7 @@ the_upload d content (zero, lt, is) = ap (λ (p : Text × Text). p.1) is
 the_upload d content (suc n, lt, is) = absurd (omega arith)
 
 -- the one upload is the stored content, as far as that was read
-one_upload : AreUploadsOf known one_pair
+one_upload : NoCollisionOnDisk known one_pair
 one_upload = record {
   no_collision = λ d a b first second. sym (the_upload d a first) ∙ the_upload d b second;
   stored = λ d content b found there.
@@ -169,7 +169,7 @@ fair = record {
   on_disk = refl;
   sound = known_sound;
   run = run;
-  uploads = subst (AreUploadsOf known) (sym uploaded) one_upload;
+  uploads = subst (NoCollisionOnDisk known) (sym uploaded) one_upload;
   own_replies = (λ own. tt, (λ own. tt, (λ own. tt, tt)));
 }
 

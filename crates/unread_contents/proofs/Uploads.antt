@@ -20,7 +20,7 @@ use Rattle.store_model.specs.Commands.{is_named}
 use Rattle.store_model.specs.Invariant.{Sound}
 use Rattle.store_model.specs.Noninterference.{NoCollision}
 use Rattle.store_model.specs.Restarts.{stored_contents}
-use Rattle.unread_contents.specs.Unread.{AreReadBlobs, AreUploadsOf, IsReadAs}
+use Rattle.unread_contents.specs.Unread.{AreReadBlobs, NoCollisionOnDisk, IsReadAs}
 use Rattle.unread_contents.proofs.Blobs.{AreFilled, AreRead, Blobs, filled, some_filled}
 use Rattle.unread_contents.proofs.Commands.{with}
 use Rattle.unread_contents.proofs.Contents.{read_itself}
@@ -101,7 +101,7 @@ pub record AreFilledBy (C : Catalog) (uploads : List (Text × Text)) : Type 0 wh
   pub sound : Sound (with C blobs)
   pub no_collision : NoCollision (stored_contents (with C blobs) ++ uploads)
 
-module _ (C : Catalog) (on_disk : C.contents.on_disk ≡ true) (sound : Sound C) (uploads : List (Text × Text)) (all_named : AllByRecursion HasItsDigest uploads) (are : AreUploadsOf C uploads) where
+module _ (C : Catalog) (on_disk : C.contents.on_disk ≡ true) (sound : Sound C) (uploads : List (Text × Text)) (all_named : AllByRecursion HasItsDigest uploads) (are : NoCollisionOnDisk C uploads) where
   -- the upload of a digest, or the stored content
   abbrev bytes : Text → Text
   bytes d = option_map_or (λ w. w) (find text_cmp d uploads) (option_map_or (λ (b : Resident). b.bytes) (get C.residents d) [])

@@ -113,7 +113,7 @@ pub record IsIsolatedUpTo (related : Text → Text → Type 0) (C D : Catalog) (
   pub tenant_view : AreViewsUpTo related (tenant_view s.catalog t) (tenant_view (catalog_after_requests D (requests_of (steps_of C.tenants t steps))) t)
 
 -- No two uploads have different contents with the same digest. An upload of a stored digest has the bytes of the stored content that were read.
-pub record AreUploadsOf (C : Catalog) (uploads : List (Text × Text)) : Type 0 where
+pub record NoCollisionOnDisk (C : Catalog) (uploads : List (Text × Text)) : Type 0 where
   pub no_collision : NoCollision uploads
   pub stored : (digest content : Text) (b : Resident) → fmap.get C.residents digest ≡ Some b → Contains uploads (digest, content) → IsReadAs b.bytes content
 
@@ -123,7 +123,7 @@ pub record IsFairOnDisk (C : Catalog) (t : ℕ) (steps : List Step) (s : State) 
   pub on_disk : C.contents.on_disk ≡ true
   pub sound : Sound C
   pub run : LeadsTo C steps s
-  pub uploads : AreUploadsOf C (uploads_of_history (initial_state C) steps s run)
+  pub uploads : NoCollisionOnDisk C (uploads_of_history (initial_state C) steps s run)
   pub own_replies : AreOwnReplies C.tenants t (initial_state C) steps s run
 
 -- A tenant's replies and its view at the end are those of its isolated history, but for bytes that were not read in one of both.
