@@ -24,12 +24,13 @@ Blobs = FinMap text_cmp Resident
 abbrev pub AreRead : Blobs → Blobs → Type 0
 AreRead m n = (digest : Text) → AreReadBlobs (get m digest) (get n digest)
 
--- the blob of which a read one is known
+-- a blob has one with its content read
 pub read_at : (o p : Option Resident) → AreReadBlobs o p → (b : Resident) → o ≡ Some b → (f : Resident) × (p ≡ Some f) × IsReadBlob b f
 read_at None p h b is = absurd cc
 read_at (Some k) None h b is = absurd h
 read_at (Some k) (Some f) h b is = (f, refl, let same : k ≡ b = cc in subst (λ x. IsReadBlob x f) same h)
 
+-- a blob with its content read has the one that is known
 pub known_at : (o p : Option Resident) → AreReadBlobs o p → (f : Resident) → p ≡ Some f → (b : Resident) × (o ≡ Some b) × IsReadBlob b f
 known_at None None h f is = absurd cc
 known_at None (Some g) h f is = absurd h
@@ -97,6 +98,7 @@ AreReadEntries [] [] = Unit {0}
 AreReadEntries (e ∷ es) (f ∷ fs) = (e.0 ≡ f.0) × IsReadBlob e.1 f.1 × AreReadEntries es fs
 AreReadEntries es fs = ⊥
 
+-- an entry that is put into both
 put_read : (k : Text) (b f : Resident) → IsReadBlob b f → (es fs : List (Text × Resident)) → AreReadEntries es fs → AreReadEntries (put text_cmp k b es) (put text_cmp k f fs)
 put_read k b f is [] [] h = (refl, is, tt)
 put_read k b f is [] (y ∷ fs) h = absurd h
@@ -109,6 +111,7 @@ put_read k b f is (x ∷ es) (y ∷ fs) h = subst (λ q. AreReadEntries (put tex
     by Equal rest = (refl, is, h.2)
     by Greater rest = (refl, h.1, rest)
 
+-- the empty map has no other read form
 none_left : (n : Blobs) → AreRead empty n → AreReadEntries [] (entries n)
 none_left n all =
     let is : n ≡ empty = same_map nat_list_cmp_total exact_bytes n empty (λ d. none_read (get empty d) (get n d) (all d) (get-empty text_cmp d) ∙ sym (get-empty text_cmp d)) in
@@ -121,6 +124,7 @@ rest_read m n k b none all d = elim (cases_key nat_list_cmp_total exact_bytes d 
   | inr differ ↦ subst (λ o. AreReadBlobs o (get (remove n k) d)) (get-insert_other nat_list_cmp_total exact_bytes m k b d differ) (subst (AreReadBlobs (get (insert m k b) d)) (sym (get-remove_other nat_list_cmp_total exact_bytes n k d differ)) (all d))
 ]
 
+-- the entries with one blob more
 grown : (m : Blobs) (k : Text) (b : Resident) → get m k ≡ None → ((n : Blobs) → AreRead m n → AreReadEntries (entries m) (entries n)) → (n : Blobs) → AreRead (insert m k b) n → AreReadEntries (entries (insert m k b)) (entries n)
 grown m k b none rest n all =
     let at = read_at (get (insert m k b) k) (get n k) (all k) b (get-insert_at nat_list_cmp_total exact_bytes m k b) in
@@ -129,6 +133,7 @@ grown m k b none rest n all =
     (subst (λ fs. AreReadEntries (put text_cmp k b (entries m)) fs) (sym (entries-insert nat_list_cmp_total (remove n k) k at.0) ∙ ap entries back)
     (put_read k b at.0 at.2 (entries m) (entries (remove n k)) (rest (remove n k) (rest_read m n k b none all))))
 
+-- the entries of both have the same keys, in the same order
 pub entries_read : (m n : Blobs) → AreRead m n → AreReadEntries (entries m) (entries n)
 entries_read = map_induct nat_list_cmp_total exact_bytes (λ m. (n : Blobs) → AreRead m n → AreReadEntries (entries m) (entries n))
     (λ n all. subst (λ es. AreReadEntries es (entries n)) (sym (entries-empty text_cmp Resident)) (none_left n all))

@@ -44,13 +44,16 @@ Equal x y = x ≡ y
 
 -- ---- lines of an outcome
 
+-- a check that is the same for both
 line : {A X : Type 0} (related : A → A → Type 0) (x : Result X Refusal) (f g : X → Outcome A) → ((a : X) → AreOutcomes related (f a) (g a)) → AreOutcomes related (x >>= f) (x >>= g)
 line related (Ok a) f g h = h a
 line related (Err e) f g h = refl
 
+-- a check that reads the stored blobs, with the same result
 same_line : {A X : Type 0} (related : A → A → Type 0) (x y : Result X Refusal) → x ≡ y → (f g : X → Outcome A) → ((a : X) → AreOutcomes related (f a) (g a)) → AreOutcomes related (x >>= f) (y >>= g)
 same_line related x y e f g h = subst (λ z. AreOutcomes related (x >>= f) (z >>= g)) e (line related x f g h)
 
+-- a choice that is the same for both
 either : {A : Type 0} (related : A → A → Type 0) (b : Bool) (x y x' y' : Outcome A) → AreOutcomes related x x' → AreOutcomes related y y' → AreOutcomes related (if b then x else y) (if b then x' else y')
 either related true x y x' y' p q = p
 either related false x y x' y' p q = q
@@ -60,12 +63,14 @@ abbrev pub AreAnswers : Command → Answer → Answer → Type 0
 AreAnswers (runs.Lease r d) a b = (one : Text) × (other : Text) × (a ≡ runs.Bytes one) × (b ≡ runs.Bytes other) × IsReadAs one other
 AreAnswers command a b = a ≡ b
 
+-- results as answers
 answers : {A : Type 0} (f : A → Answer) (x y : Outcome A) → AreOutcomes Equal x y → AreOutcomes Equal (map_outcome f x) (map_outcome f y)
 answers f (Ok x) (Ok y) h = (ap f h.0, h.1)
 answers f (Ok x) (Err e) h = h
 answers f (Err e) (Ok y) h = h
 answers f (Err e) (Err d) h = h
 
+-- the content of a lease as an answer
 leased : (r d : Text) (x y : Outcome Text) → AreOutcomes IsReadAs x y → AreOutcomes (AreAnswers (runs.Lease r d)) (map_outcome runs.Bytes x) (map_outcome runs.Bytes y)
 leased r d (Ok x) (Ok y) h = ((x.0, y.0, refl, refl, h.0), h.1)
 leased r d (Ok x) (Err e) h = h
@@ -80,6 +85,7 @@ module _ (C : Catalog) (r : Blobs) (read : AreRead C.residents r) (on_disk : C.c
   kept : (X : Catalog) → X.residents ≡ C.residents → X.contents ≡ C.contents → AreBoth X (with X r)
   kept X same rules = record { read = record { residents = subst (λ m. AreRead m r) (sym same) read; rest = refl }; on_disk = ap (λ (x : ContentRules). x.on_disk) rules ∙ on_disk }
 
+  -- a command that reads alone
   readings : {A : Type 0} (f : A → Answer) (x : Result A Refusal) → AreOutcomes Equal (reading_outcome f C x) (reading_outcome f F x)
   readings f (Ok a) = (refl, kept C refl refl)
   readings f (Err e) = refl
@@ -233,6 +239,7 @@ module _ (C : Catalog) (r : Blobs) (read : AreRead C.residents r) (on_disk : C.c
   pub leases_read : (crowded : Bool) (repo d : Text) → AreOutcomes IsReadAs (Commands.lease crowded C repo d) (Commands.lease crowded F repo d)
   leases_read crowded repo d = line IsReadAs (Commands.tenant C repo) _ _ (λ t. linked_lease crowded d (Commands.check_link C repo d))
 
+  -- any of them
   pub command_read : (crowded : Bool) (command : Command) → AreOutcomes (AreAnswers command) (outcome crowded C command) (outcome crowded F command)
   command_read crowded (runs.Start repo) = answers runs.Number _ _ (start_read repo)
   command_read crowded (runs.Status repo n) = readings runs.Number (Commands.status C repo n)
@@ -247,6 +254,7 @@ module _ (C : Catalog) (r : Blobs) (read : AreRead C.residents r) (on_disk : C.c
   command_read crowded (runs.RemoveRepo repo) = answers (λ _. runs.Done) _ _ (remove_repo_read repo)
   command_read crowded (runs.Lease repo d) = leased repo d _ _ (leases_read crowded repo d)
 
+  -- the same without the errors that others may cause
   pub isolated_read : (command : Command) → AreOutcomes (AreAnswers command) (isolated_outcome C command) (isolated_outcome F command)
   isolated_read (runs.Close repo n d g b) = answers runs.Number _ _ (close_read always_has_slot (λ _. refl) repo n d g b)
   isolated_read command = command_read false command

@@ -19,6 +19,7 @@ full s r = record { catalog = with s.catalog r; totals = s.totals }
 
 -- ---- one step
 
+-- a command with its two answers
 pub answers_step : (command : Command) (a b : Answer) → AreAnswers command a b → AreStepsUpTo IsReadAs (CommandCall command (Ok a)) (CommandCall command (Ok b))
 answers_step (runs.Lease r d) a b h = inr (record {
   repo = r;
@@ -50,6 +51,7 @@ step_uploads C r (TakeCall repo n g len reply) = refl
 step_uploads C r (PutBackCall h reply) = refl
 step_uploads C r (FinishCall h d reply) = refl
 
+-- the uploads do not depend on stored blobs
 pub same_uploads : (C : Catalog) (r : Blobs) (x y : Step) → AreStepsUpTo IsReadAs x y → uploads_of_step (with C r) y ≡ uploads_of_step C x
 same_uploads C r x y (inl e) = ap (uploads_of_step (with C r)) (sym e) ∙ step_uploads C r x
 same_uploads C r x y (inr l) = ap (uploads_of_step (with C r)) l.second ∙ sym (ap (uploads_of_step C) l.first)
@@ -65,12 +67,14 @@ own_reply s r (PutBackCall h (Err e)) own = own
 own_reply s r (FinishCall h d (Ok n)) own = tt
 own_reply s r (FinishCall h d (Err e)) own = own
 
+-- a reply that others did not cause is still one
 pub same_reply : (s : State) (r : Blobs) (x y : Step) → AreStepsUpTo IsReadAs x y → IsOwnReply s x → IsOwnReply (full s r) y
 same_reply s r x y (inl e) own = subst (IsOwnReply (full s r)) e (own_reply s r x own)
 same_reply s r x y (inr l) own = subst (IsOwnReply (full s r)) (sym l.second) tt
 
 -- ---- lists of steps
 
+-- a tenant has the same steps of both
 pub same_owners : (ts : List Tenant) (t : ℕ) (xs ys : List Step) → AreHistoriesUpTo IsReadAs xs ys → AreHistoriesUpTo IsReadAs (steps_of ts t xs) (steps_of ts t ys)
 same_owners ts t [] [] h = tt
 same_owners ts t [] (y ∷ ys) h = absurd h
@@ -102,6 +106,7 @@ same_requests (x ∷ xs) (y ∷ ys) h = by h.0 (same_requests xs ys h.1)
 
 -- ---- two histories of which a third one has read the contents
 
+-- two leases
 both_leases : (x y z : Step) → AreLeases IsReadAs x z → AreLeases IsReadAs y z → AreStepsUpTo AgreeWhereRead x y
 both_leases x y z p q =
     let same : CommandCall (Lease p.repo p.digest) (Ok (Bytes p.other)) ≡ CommandCall (Lease q.repo q.digest) (Ok (Bytes q.other)) = sym p.second ∙ q.second in

@@ -3,6 +3,7 @@ use Rattle.std.proofs.Common.{◌≡◌, ◌∙◌, ℕ, List, ◌++◌, refl, s
 use Rattle.store_model.specs.Catalog.{Catalog}
 use Rattle.store_model.specs.Histories.{LeadsTo, State, Step, initial_state}
 use Rattle.store_model.specs.HistoryIsolation.{AreOwnReplies, StepRequest, catalog_after_requests, isolated_steps, requests_of, steps_of, uploads_of_history}
+use Rattle.store_model.specs.Invariant.{Sound}
 use Rattle.store_model.specs.Noninterference.{NoCollision, tenant_view}
 use Rattle.store_model.specs.Restarts.{IsIsolatedFrom, stored_contents}
 use Rattle.store_model.proofs.Durable.Restarts.{tenants_are_isolated_from}
@@ -14,7 +15,6 @@ use Rattle.unread_contents.proofs.Isolated.{both, requests_read, view_read}
 use Rattle.unread_contents.proofs.Pairs.{full, histories_agree, same_owners, same_requests, views_agree}
 use Rattle.unread_contents.proofs.Soundness.{read_catalogs_are_sound}
 use Rattle.unread_contents.proofs.Uploads.{reads_itself, uploads_filled}
-use Rattle.store_model.specs.Invariant.{Sound}
 
 pub histories_are_read : HistoriesAreRead
 histories_are_read C F steps s on_disk read run =
@@ -44,6 +44,7 @@ module _ (C : Catalog) (r : Blobs) (t : ℕ) (steps : List Step) (s : State) (re
   alone_of p = tenants_are_isolated_from (with C r) t p.others (full s p.blobs) sound
       (record { run = p.run; no_collision = subst (λ us. NoCollision (stored_contents (with C r) ++ us)) (sym p.uploads) no_collision }) (p.own C.tenants t own_replies)
 
+  -- so the history itself does, but for bytes that were not read
   as_played : Played (initial_state C) r steps s run → IsIsolatedUpTo IsReadAs C (with C r) t steps s
   as_played p =
       let k = alone_of p in
@@ -60,6 +61,7 @@ module _ (C : Catalog) (r : Blobs) (t : ℕ) (steps : List Step) (s : State) (re
   isolated_as_read : IsIsolatedUpTo IsReadAs C (with C r) t steps s
   isolated_as_read = as_played (played steps (initial_state C) r s read on_disk run)
 
+  -- and its isolated history may begin with the contents as they are known
   isolated_alone : IsIsolatedUpTo AgreeWhereRead C C t steps s
   isolated_alone =
       let alone = requests_read asked C (with C r) (both C r read on_disk) in
