@@ -1,6 +1,6 @@
 #!/usr/bin/env python3
 """Measures a registry whose contents lie in files: the memory of registryd and of its blobd with many blobs and clients, that of a long
-upload, and a start with many contents.
+upload, a start with many contents, and what an upload costs whose content is in a file in place of the log.
 
     bench/contents.py [--program BLOBD] [--scale F] [MEASURE..]
 
@@ -19,7 +19,8 @@ from concurrent.futures import ThreadPoolExecutor
 
 TOP = pathlib.Path(__file__).resolve().parent.parent
 sys.dont_write_bytecode = True
-sys.path[:0] = [str(TOP / "crates/blobd/crashes"), str(TOP / "crates/blobd"), str(TOP / "registryd/tests")]
+sys.path[:0] = [str(TOP / folder) for folder in ("crates/blobd/crashes", "crates/blobd", "registryd/tests", "bench")]
+import durable
 import server
 from data_folder import FNV_BASIS, Blobd, framed, log_sum
 from frames import sha256
@@ -171,7 +172,24 @@ def start(room, scale):
         print(f"the {turn} start with {count} contents, {count * size / GIB:.0f} GiB: {took:.2f} s, {now:.0f} MiB resident, at most {peak:.0f}", flush=True)
 
 
-MEASURES = {"memory": memory, "upload": upload, "start": start}
+def places(room, scale):
+    """Uploads of contents in the log and in files, which the file `longest` of a folder decides, at two durations of a sync."""
+    bench, count = durable.Bench(PROGRAM, room, scale), 320
+    print("uploads a second, with the content in the log and in a file")
+    for pause in (0, 5):
+        for connections in (1, 16):
+            for size in (4096, 16_384, 65_536):
+                found = []
+                for longest in (size, size - 1):
+                    folder = bench.folder()
+                    (folder / "longest").write_text(f"{longest}\n")
+                    calls = [list(durable.blobs(f"t{number}", bench.scaled(count) // connections, size)) for number in range(connections)]
+                    seconds, made, *_ = bench.plays(folder, "closes", calls, pause)
+                    found.append(made / 2 / seconds)
+                print(f"{size:7} bytes, {connections:2} connections, {pause} ms more a sync: {found[0]:8,.0f} {found[1]:8,.0f}", flush=True)
+
+
+MEASURES = {"memory": memory, "upload": upload, "start": start, "places": places}
 
 
 def main():
