@@ -13,7 +13,7 @@ from contents import bytes_of, opens, uploads
 from data_folder import PATIENCE, Ended, FolderLog, content_files
 from frames import SWEEP, request
 from model import Client, Fault
-from room import all_there, clients, compares, contents_fit, ends_well, fault, looks, stops, together
+from room import all_there, clients, compares, contents_fit, ends_well, fault, looks, stops, together, wait_until
 
 # How often a program is stopped at a random place while another one takes over.
 ROUNDS = 12
@@ -46,6 +46,12 @@ def joined(everybody, threads, blobd):
         client.loses = False
         if client.fault:
             raise Fault(client.fault)
+
+
+def is_stopped(blobd):
+    """Returns whether all threads of a program are stopped. A signal takes effect later than it is sent."""
+    threads = pathlib.Path(f"/proc/{blobd.process.pid}/task").glob("*/stat")
+    return all(path.read_text().rsplit(")", 1)[1].split()[0] == "T" for path in threads)
 
 
 def owners_of(folder):
@@ -145,6 +151,7 @@ def late_contents(room):
     number = opens(client, line, bytes_of(2, 20_000))
     dropped = opens(client, line, bytes_of(3, 20_000))
     first.process.send_signal(signal.SIGSTOP)
+    wait_until("a stopped program", lambda: is_stopped(first))
     steps = [client.state.appends(number, bytes_of(4, 10_000))]
     for make in (lambda state: state.abandons(dropped), lambda state: state.starts("t0/one"), lambda state: state.deletes(*list(state.links)[0])):
         steps.append(make(steps[-1].after))
