@@ -95,10 +95,10 @@ impl Manifests {
     /// Removes a tag. Returns whether it was there.
     pub(crate) async fn remove_tag(&self, repo: &str, tag: &str, report: Option<Report>) -> Result<bool, WriteFailure> {
         let writer = match &self.writer {
-            Some(writer) if self.table.by_tag(repo, tag).is_some() => writer,
-            _ => {
-                // With a database, only its thread adds events.
-                let report = report.filter(|_| self.writer.is_none());
+            // It may be pushed meanwhile. Only the writer's thread changes the database.
+            Some(_) if self.table.by_tag(repo, tag).is_none() => return Ok(false),
+            Some(writer) => writer,
+            None => {
                 return Ok(self.make(report, || match self.table.remove_tag(repo, tag, now()) {
                     true => (true, Effect::Made),
                     false => (false, Effect::Nothing),
