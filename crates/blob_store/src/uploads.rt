@@ -24,6 +24,15 @@ fn notes_if(home: Option<Home>, len: u64, notes: &[u8]) -> Option<&[u8]>
     }
 }
 
+/// Cuts the file of a session at its content, of this length, if it lies there: a chunk that was refused may follow it.
+fn cut_refused<F: ContentStore>(files: &F, home: Option<Home>, len: u64) {
+    if let Some(home) = home {
+        if home.has_content_of(len) {
+            files.cut_behind(home.name, len);
+        }
+    }
+}
+
 impl<S: Naming> Store<S> {
     /// Opens a session in a repository, and returns its number (OCI Distribution Specification 1.1, "Pushing a blob in
     /// chunks", the opening POST). The repository appears with its first session.
@@ -139,7 +148,8 @@ impl<S: Naming> Store<S> {
         len: u64,
     ) -> Result<u64, Refusal>
         requires { length (read_notes notes.now) ≡ len }
-        ensures steps { AppendsTo S.names repo.now number None (read_notes notes.now) result desk.old desk.new }
+        ensures steps { AppendsTo S.names repo.now number None (read_notes notes.now) result
+            desk.old desk.new }
     {
         let hand = self.locked(rt).take(desk, repo, number, None, len)?;
         let home = self.home_of(&hand);
@@ -226,6 +236,9 @@ impl<S: Naming> Store<S> {
                 return Err(Refusal::Memory);
             }
         };
+        if bytes.is_empty() {
+            cut_refused(files, home, hand.len_after());
+        }
         let notes = notes_if(home, hand.len_after(), notes.as_slice());
         match seal_record(self.alloc, self.policy, repo, number, digest, bytes, notes) {
             Ok(record) => {

@@ -2,11 +2,13 @@
 
 ghost use Rattle.std.specs.Prelude.{true};
 
-use content_files::{ContentError, ContentName, ContentStore, Written};
+use content_files::{ContentError, ContentName, ContentStore, Unsynced, Written};
 use content_folder::ContentFolder;
 use std::alloc::{AllocError, Global};
+use std::fs::File;
 use std::io;
 use std::sync::atomic::{AtomicU64, Ordering};
+use std::thread::{self, Threads};
 use std::time::Instant;
 use store_book::Config;
 use store_server::ContentFiles;
@@ -88,6 +90,21 @@ impl<'c> ServedContents<'c> {
         }
     }
 
+    /// Starts a thread that syncs the file of a content. If it cannot be started, or its sync fails, nothing is lost but time: whoever
+    /// has written to the file syncs it too, and gets the error.
+    pub fn start_sync<W: Threads>(&self, rt: &W, name: ContentName) {
+        let Ok(path) = self.folder.path_of(name) else {
+            return;
+        };
+        let host = self.rt;
+        let job = move || {
+            if let Ok(file) = File::open(&host, path.as_str()) {
+                let _ = file.sync_data();
+            }
+        };
+        let _ = thread::spawn(rt, job);
+    }
+
     /// Returns whether no failed call was printed in this minute.
     fn is_due(&self) -> bool {
         let seconds = match self.start {
@@ -124,14 +141,29 @@ impl<'c> ContentStore for ServedContents<'c> {
         name: ContentName,
         offset: u64,
         bytes: &'b [u8],
-    ) -> Result<Written<'b>, ContentError> {
+    ) -> Result<Unsynced<'b>, ContentError> {
         match self.folder.write(name, offset, bytes) {
-            Ok(written) => Ok(written),
+            Ok(unsynced) => Ok(unsynced),
             Err(error) => {
                 self.report("write", name, offset, error);
                 Err(error)
             }
         }
+    }
+
+    fn sync<'b>(&self, written: Unsynced<'b>) -> Result<Written<'b>, ContentError> {
+        let (name, offset) = (written.name(), written.offset());
+        match self.folder.sync(written) {
+            Ok(synced) => Ok(synced),
+            Err(error) => {
+                self.report("write", name, offset, error);
+                Err(error)
+            }
+        }
+    }
+
+    fn cut_behind(&self, name: ContentName, len: u64) {
+        self.folder.cut_behind(name, len);
     }
 
     fn read(&self, name: ContentName, offset: u64, out: &mut [u8]) -> Result<(), ContentError> {

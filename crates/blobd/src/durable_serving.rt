@@ -7,6 +7,7 @@ ghost use Rattle.segmented_disk.specs.Views.{starting};
 ghost use Rattle.store_server.specs.Connections.{AreServed, AreServedOn};
 
 use crate::contents::{Contents, ServedContents};
+use crate::early_syncs::EarlySyncs;
 use crate::leftovers::take_contents;
 use crate::replaying::{FolderDisk, FolderLog, replay_contents};
 use crate::serve_fault::ServeFault;
@@ -131,13 +132,15 @@ fn serve_started<
 ) -> Result<ServedLog<S>, ServeFault>
     requires log { (leases.name ≡ L.log) × (leases.entries ≡ []) }
     ensures start { IfOk result (λ r. IsStarted S.names r.start.value) }
-    ensures served { OnOk result (AreServed true S.names L.log I.remaining O.contents lines.old lines.new) }
+    ensures served { OnOk result (AreServed true S.names L.log I.remaining O.contents lines.old
+        lines.new) }
     ensures totals { IfOk result (λ r. AreBalancedTotals r.totals) }
 {
     started.reveal_start();
     let start = Snapshot::of(&started);
-    let (totals, device) = serve_on::<W, S, L, FolderDisk, ServedContents<'_>, I, O>(
-        rt, alloc, store, files, started, end, leases, lines,
+    let files = EarlySyncs::new(rt, files);
+    let (totals, device) = serve_on::<W, S, L, FolderDisk, EarlySyncs<'_, '_, W>, I, O>(
+        rt, alloc, store, &files, started, end, leases, lines,
     )?;
     match finish_log(rt, store, device) {
         Ok(()) => Ok(ServedLog { totals, start }),
@@ -169,7 +172,8 @@ fn serve_log_parts<
     requires named { names_of parts ≡ S.names }
     requires log { (leases.name ≡ L.log) × (leases.entries ≡ []) }
     ensures start { IfOk result (λ r. IsStarted S.names r.start.value) }
-    ensures served { OnOk result (AreServed true S.names L.log I.remaining O.contents lines.old lines.new) }
+    ensures served { OnOk result (AreServed true S.names L.log I.remaining O.contents lines.old
+        lines.new) }
     ensures totals { IfOk result (λ r. AreBalancedTotals r.totals) }
 {
     let ExaminedLog {
@@ -217,7 +221,8 @@ fn serve_for_totals<
 ) -> Result<Totals, ServeFault>
     requires named { names_of parts ≡ S.names }
     requires log { (leases.name ≡ L.log) × (leases.entries ≡ []) }
-    ensures served { OnOk result (AreServed true S.names L.log I.remaining O.contents lines.old lines.new) }
+    ensures served { OnOk result (AreServed true S.names L.log I.remaining O.contents lines.old
+        lines.new) }
     ensures totals { IfOk result (λ t. AreBalancedTotals t) }
 {
     let served = serve_log_parts::<W, S, L, I, O>(
@@ -254,7 +259,8 @@ pub fn serve_log<
     end: &Arc<EndCell, Global>,
     lines: &mut [Connection<I, O>],
 ) -> Result<Totals, ServeFault>
-    ensures served { OnOk result (AreServedOn true parts I.remaining O.contents lines.old lines.new) }
+    ensures served { OnOk result (AreServedOn true parts I.remaining O.contents lines.old
+        lines.new) }
     ensures totals { IfOk result (λ t. AreBalancedTotals t) }
 {
     let leases = SharedLog::new(alloc)?;

@@ -26,6 +26,7 @@ ghost use Rattle.server_cli.specs.Arguments.{IsWithin};
 mod comparison;
 mod contents;
 mod durable_serving;
+mod early_syncs;
 mod folder_stop;
 mod leftovers;
 mod log_service;

@@ -1,5 +1,5 @@
 -- Bytes at a place in the file of a content.
-use Rattle.std.specs.Prelude.{ℕ, ◌+◌, List, drop, take}
+use Rattle.std.specs.Prelude.{◌≡◌, ℕ, ◌+◌, List, drop, take}
 use Rattle.content_files.specs.declared.name.ContentName.{ContentName}
 
 -- the content's name, the offset in its file, and the bytes there
@@ -18,3 +18,8 @@ first_part mid w = placed w.name w.offset (take mid w.bytes)
 -- the bytes after them
 abbrev pub second_part : ℕ → Placed → Placed
 second_part mid w = placed w.name (w.offset + mid) (drop mid w.bytes)
+
+-- the bytes lie in the file of this name, at this offset
+pub record IsPlacedAt (w : Placed) (name : ContentName) (offset : ℕ) : Type 0 where
+  pub name_is : w.name ≡ name
+  pub offset_is : w.offset ≡ offset

@@ -13,6 +13,7 @@ use crate::name::ContentName;
 use crate::note::reveal_read;
 use crate::pieces::part_of;
 use crate::store::ContentStore;
+use crate::written::Unsynced;
 use std::alloc::{AllocError, Global};
 use std::marker::Model;
 use std::mem;
@@ -122,10 +123,88 @@ impl Content {
         })
     }
 
-    /// Adds bytes at the end. If the content is in a file, they are written and synced.
+    /// Writes bytes that are to be added at the end, if the content lies in a file with them, and does not sync them. `complete` adds
+    /// the bytes.
     ///
-    /// If the content is in memory and becomes longer than its home allows, it moves into its file first: what it has is written
-    /// and synced, and stays in memory. In a file, the notes of the pieces of the bytes are appended to `notes`.
+    /// If the content is in memory and becomes longer than its home allows, what it has is written to its file first.
+    ///
+    /// # Errors
+    ///
+    /// `Memory` if the content would be longer than 2^64 bytes, or the error of `ContentStore::write`.
+    ///
+    /// # Cost
+    ///
+    /// One write, or two if the content is in memory.
+    pub fn begin<'b, F: ContentStore>(
+        &self,
+        files: &F,
+        home: Option<Home>,
+        bytes: &'b [u8],
+    ) -> Result<Option<Unsynced<'b>>, ContentError>
+        ensures { IfOk result (λ r. IfSome r (λ w. w.bytes ≡ bytes.now)) }
+    {
+        if bytes.is_empty() {
+            return Ok(None);
+        }
+        match &self.place {
+            Place::Resident(old) => match new_name(home, old.len(), bytes.len()) {
+                Some(name) => {
+                    let unsynced = DiskContent::begin_moved(files, name, old.as_slice(), bytes)?;
+                    Ok(Some(unsynced))
+                }
+                None => Ok(None),
+            },
+            Place::OnDisk(content) => {
+                let unsynced = content.begin(files, bytes)?;
+                Ok(Some(unsynced))
+            }
+        }
+    }
+
+    /// Adds bytes at the end, of which `begin` returned `unsynced`. If they are in a file, they are synced, and the notes of their
+    /// pieces are appended to `notes`.
+    ///
+    /// What a content had that moved into its file stays in memory too.
+    ///
+    /// # Errors
+    ///
+    /// The content is unchanged. `notes` may have grown.
+    ///
+    /// - `Cut`: the content is not that for which the bytes were written, or was cut within a piece.
+    /// - The error of `ContentStore::sync`.
+    /// - `Memory`
+    pub fn complete<F: ContentStore>(
+        &mut self,
+        files: &F,
+        home: Option<Home>,
+        bytes: &[u8],
+        unsynced: Option<Unsynced<'_>>,
+        notes: &mut Vec<u8>,
+    ) -> Result<(), ContentError>
+        requires { IfSome unsynced (λ w. w.bytes ≡ bytes.now) }
+        ensures ok { OnOk result (self.new ≡ self.old ++ bytes.now) }
+        ensures noted { OnOk result (is_in_file home (length self.new) ≡ true →
+            notes.new.items ≡ notes.old.items ++ chunk_notes bytes.now) }
+        ensures err { OnErr result (self.new ≡ self.old) }
+    {
+        match &mut self.place {
+            Place::Resident(old) => match unsynced {
+                Some(unsynced) => {
+                    let content = DiskContent::moved(files, old, unsynced, notes)?;
+                    self.place = Place::OnDisk(content);
+                    Ok(())
+                }
+                None => add_in_memory(old, home, bytes),
+            },
+            Place::OnDisk(content) => match unsynced {
+                Some(unsynced) => content.complete(files, unsynced, notes),
+                None if bytes.is_empty() => Ok(()),
+                None => Err(ContentError::Cut),
+            },
+        }
+    }
+
+    /// Adds bytes at the end: `begin`, and then `complete`.
     ///
     /// # Errors
     ///
@@ -142,23 +221,8 @@ impl Content {
             notes.new.items ≡ notes.old.items ++ chunk_notes bytes.now) }
         ensures err { OnErr result (self.new ≡ self.old) }
     {
-        match &mut self.place {
-            Place::Resident(old) => {
-                let Some(len) = (old.len() as u64).checked_add(bytes.len() as u64) else {
-                    return Err(ContentError::Memory);
-                };
-                if let Some(home) = home
-                    && home.has_content_of(len)
-                {
-                    let content = DiskContent::moved(files, home.name, old, bytes, notes)?;
-                    self.place = Place::OnDisk(content);
-                    return Ok(());
-                }
-                old.extend_from_slice(bytes)?;
-                Ok(())
-            }
-            Place::OnDisk(content) => content.add(files, bytes, notes),
-        }
+        let unsynced = self.begin(files, home, bytes)?;
+        self.complete(files, home, bytes, unsynced, notes)
     }
 
     /// Adds a chunk that an earlier process added and that was not read since the start, by the notes of its pieces. Nothing is
@@ -239,6 +303,49 @@ impl Content {
             Place::OnDisk(content) => content.read_between(files, alloc, start, end),
         }
     }
+}
+
+/// Returns the name of the file into which a content of `len` bytes in memory moves with `more` bytes, or `None` if it stays in
+/// memory.
+fn new_name(home: Option<Home>, len: usize, more: usize) -> Option<ContentName> {
+    let home = home?;
+    match (len as u64).checked_add(more as u64) {
+        Some(after) if !home.has_content_of(after) => None,
+        _ => Some(home.name),
+    }
+}
+
+/// Adds bytes to a content that stays in memory with them.
+///
+/// # Errors
+///
+/// The content is unchanged.
+///
+/// - `Cut`: there are bytes, and the content lies in its home's file with them.
+/// - `Memory`
+fn add_in_memory(
+    content: &mut Vec<u8>,
+    home: Option<Home>,
+    bytes: &[u8],
+) -> Result<(), ContentError>
+    ensures ok { OnOk result (content.new.items ≡ content.old.items ++ bytes.now) }
+    ensures stays { OnOk result (is_in_file home (length content.new.items) ≡ true →
+        bytes.now ≡ []) }
+    ensures err { OnErr result (content.new.items ≡ content.old.items) }
+{
+    if bytes.is_empty() {
+        return Ok(());
+    }
+    let Some(len) = (content.len() as u64).checked_add(bytes.len() as u64) else {
+        return Err(ContentError::Memory);
+    };
+    if let Some(home) = home
+        && home.has_content_of(len)
+    {
+        return Err(ContentError::Cut);
+    }
+    content.extend_from_slice(bytes)?;
+    Ok(())
 }
 
 /// Cuts what lies at a place to a length.

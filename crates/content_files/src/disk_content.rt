@@ -11,6 +11,7 @@ use crate::name::ContentName;
 use crate::note::reveal_read;
 use crate::pieces::{Pieces, part_of};
 use crate::store::ContentStore;
+use crate::written::Unsynced;
 use std::alloc::{AllocError, Global};
 use std::marker::Model;
 use std::mem;
@@ -21,8 +22,7 @@ use std::mem;
 /// no note, and each piece lies at its offset in the content.
 ///
 /// Contracts see the bytes that were added, or, for a piece that an earlier process added, as many numbers above 255
-/// (`unread`). That the file holds the bytes is the premise of `write_synced` and
-/// `read_back`.
+/// (`unread`). That the file holds the bytes is the premise of `Unsynced::sync`.
 #[derive(Drop)]
 pub struct DiskContent {
     /// The first bytes.
@@ -65,38 +65,59 @@ impl DiskContent {
         })
     }
 
-    /// Moves a content in memory into its file, with more bytes: writes and syncs both. The notes of the pieces of the further
-    /// bytes are appended to `notes`. What the content had stays in memory too.
+    /// Writes a content in memory to its file, and more bytes after it, and does not sync them. `moved` syncs the file, with all of them.
+    ///
+    /// # Errors
+    ///
+    /// `Memory` if there are more than 2^64 bytes, or the error of `ContentStore::write`.
+    pub(crate) fn begin_moved<'b, F: ContentStore>(
+        files: &F,
+        name: ContentName,
+        content: &[u8],
+        bytes: &'b [u8],
+    ) -> Result<Unsynced<'b>, ContentError>
+        ensures { IfOk result (λ w. w.bytes ≡ bytes.now) }
+    {
+        let base = content.len() as u64;
+        if base.checked_add(bytes.len() as u64).is_none() {
+            return Err(ContentError::Memory);
+        }
+        if !content.is_empty() {
+            let _front = files.write(name, 0, content)?;
+        }
+        files.write(name, base, bytes)
+    }
+
+    /// Moves a content in memory into its file, to which it was written with more bytes: syncs both. The notes of the pieces of the
+    /// further bytes are appended to `notes`. What the content had stays in memory too.
     ///
     /// # Errors
     ///
     /// The content in memory is unchanged. `notes` may have grown.
     ///
+    /// - `Cut`: the bytes do not lie where the content ends.
     /// - `Memory`
-    /// - The error of `ContentStore::write`.
+    /// - The error of `ContentStore::sync`.
     pub(crate) fn moved<F: ContentStore>(
         files: &F,
-        name: ContentName,
         content: &mut Vec<u8>,
-        bytes: &[u8],
+        unsynced: Unsynced<'_>,
         notes: &mut Vec<u8>,
     ) -> Result<DiskContent, ContentError>
-        ensures ok { IfOk result (λ d. d ≡ content.old.items ++ bytes.now) }
-        ensures noted { OnOk result (notes.new.items ≡ notes.old.items ++ chunk_notes bytes.now) }
+        ensures ok { IfOk result (λ d. d ≡ content.old.items ++ unsynced.entry.bytes) }
+        ensures noted { OnOk result (notes.new.items ≡ notes.old.items
+            ++ chunk_notes unsynced.entry.bytes) }
         ensures err { OnErr result (content.new.items ≡ content.old.items) }
     {
         let alloc = *content.allocator();
         let base = content.len() as u64;
-        let Some(len) = base.checked_add(bytes.len() as u64) else {
+        let mut pieces = Pieces::new(alloc, unsynced.name(), base)?;
+        reveal_read(content.as_slice());
+        unsynced.reveal_read();
+        pieces.complete(files, unsynced, notes)?;
+        let Some(len) = base.checked_add(pieces.total()) else {
             return Err(ContentError::Memory);
         };
-        let mut pieces = Pieces::new(alloc, name, base)?;
-        if !content.is_empty() {
-            let _front = files.write(name, 0, content.as_slice())?;
-        }
-        pieces.write(files, bytes, notes)?;
-        reveal_read(content.as_slice());
-        reveal_read(bytes);
         Ok(DiskContent {
             front: mem::replace(content, Vec::new(alloc)),
             pieces,
@@ -197,6 +218,63 @@ impl DiskContent {
         Ok(front)
     }
 
+    /// Writes bytes at the end of the content, and does not sync them. `complete` adds them.
+    ///
+    /// # Errors
+    ///
+    /// `Memory` if the content would be longer than 2^64 bytes, or the error of `ContentStore::write`.
+    pub(crate) fn begin<'b, F: ContentStore>(
+        &self,
+        files: &F,
+        bytes: &'b [u8],
+    ) -> Result<Unsynced<'b>, ContentError>
+        ensures { IfOk result (λ w. w.bytes ≡ bytes.now) }
+    {
+        if self.len.checked_add(bytes.len() as u64).is_none() {
+            return Err(ContentError::Memory);
+        }
+        files.write(self.name(), self.len, bytes)
+    }
+
+    /// Adds bytes that `begin` has written, once they are synced. The notes of their pieces are appended to `notes`. No bytes have no
+    /// notes.
+    ///
+    /// # Errors
+    ///
+    /// The content is unchanged, and the next bytes go to the same place.
+    ///
+    /// - `Cut`: the content was cut within its first bytes or a piece, or does not end where the bytes begin.
+    /// - The error of `ContentStore::sync`.
+    /// - `Memory`
+    ///
+    /// # Cost
+    ///
+    /// One sync, and 16 bytes of memory for each MiB, as of `notes`. Two small allocations are made for each piece, and given
+    /// back.
+    pub(crate) fn complete<F: ContentStore>(
+        &mut self,
+        files: &F,
+        unsynced: Unsynced<'_>,
+        notes: &mut Vec<u8>,
+    ) -> Result<(), ContentError>
+        ensures ok { OnOk result (self.new ≡ self.old ++ unsynced.entry.bytes) }
+        ensures noted { OnOk result (notes.new.items ≡ notes.old.items
+            ++ chunk_notes unsynced.entry.bytes) }
+        ensures err { OnErr result (self.new ≡ self.old) }
+    {
+        let Some(rest) = self.len.checked_sub(self.front.len() as u64) else {
+            return Err(ContentError::Cut);
+        };
+        let Some(len) = self.len.checked_add(unsynced.len() as u64) else {
+            return Err(ContentError::Memory);
+        };
+        self.pieces.cut(rest)?;
+        unsynced.reveal_read();
+        self.pieces.complete(files, unsynced, notes)?;
+        self.len = len;
+        Ok(())
+    }
+
     /// Adds bytes: writes them at the end of the file, and syncs them. The notes of their pieces are appended to `notes`. No
     /// bytes are not written, and have no notes.
     ///
@@ -205,13 +283,12 @@ impl DiskContent {
     /// The content is unchanged, and the next bytes go to the same place.
     ///
     /// - `Cut`: the content was cut within its first bytes or a piece.
-    /// - The error of `ContentStore::write`.
+    /// - The error of `ContentStore::write` or `ContentStore::sync`.
     /// - `Memory`, also if the content would be longer than 2^64 bytes.
     ///
     /// # Cost
     ///
-    /// One write, and 16 bytes of memory for each MiB, as of `notes`. Two small allocations are made for each piece, and given
-    /// back.
+    /// One write, and that of a sync, with 16 bytes of memory for each MiB, as of `notes`.
     pub fn add<F: ContentStore>(
         &mut self,
         files: &F,
@@ -225,17 +302,8 @@ impl DiskContent {
         if bytes.is_empty() {
             return Ok(());
         }
-        let Some(rest) = self.len.checked_sub(self.front.len() as u64) else {
-            return Err(ContentError::Cut);
-        };
-        let Some(len) = self.len.checked_add(bytes.len() as u64) else {
-            return Err(ContentError::Memory);
-        };
-        self.pieces.cut(rest)?;
-        self.pieces.write(files, bytes, notes)?;
-        reveal_read(bytes);
-        self.len = len;
-        Ok(())
+        let unsynced = self.begin(files, bytes)?;
+        self.complete(files, unsynced, notes)
     }
 
     /// Adds a chunk that an earlier process added, by the notes of its pieces. Nothing is written or read.

@@ -3,8 +3,8 @@
 //!
 //! - Contracts see a content as its bytes. A piece of which only the length and the sum are known is a list of numbers
 //!   above 255 (`unread`).
-//! - Bytes become part of a content in a file only by a `Written`, which `write_synced` and `read_back` alone make. The first
-//!   bytes may be in memory too: those that the content had before it moved into its file.
+//! - Bytes become part of a content in a file only by a `Written`, which `Unsynced::sync` alone makes, of what `write_unsynced`
+//!   or `read_back` returned. The first bytes may be in memory too: those that the content had before it moved into its file.
 //! - A read returns bytes with the length and the sum of the piece that was added.
 #![tactic(auto)]
 
@@ -30,4 +30,4 @@ pub use note::{reveal_read, sum_of};
 pub use noted_chunk::{noted_len, read_chunk};
 pub use pieces::MAX_PIECE;
 pub use store::{ContentStore, NoFiles};
-pub use written::{Written, read_back, write_synced};
+pub use written::{Unsynced, Written, read_back, write_unsynced};

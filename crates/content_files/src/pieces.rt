@@ -14,7 +14,7 @@ use crate::note::{Note, count_within, find, sum_of};
 use crate::noted_chunk::first_note;
 use crate::store::ContentStore;
 use crate::trace::PieceTrace;
-use crate::written::Written;
+use crate::written::{Unsynced, Written};
 use std::alloc::{AllocError, Global};
 use std::marker::Model;
 
@@ -79,7 +79,8 @@ impl Pieces {
         requires at { IsAtEndOf piece self.old }
         requires fits { HasRoomFor self.old piece.bytes }
         ensures ok { OnOk result (self.new ≡ with_piece self.old piece.entry.bytes) }
-        ensures noted { OnOk result (notes.new.items ≡ notes.old.items ++ note_bytes piece.entry.bytes) }
+        ensures noted { OnOk result (notes.new.items ≡ notes.old.items
+            ++ note_bytes piece.entry.bytes) }
         ensures err { OnErr result (self.new ≡ self.old) }
     {
         let note = Note {
@@ -94,37 +95,39 @@ impl Pieces {
         Ok(())
     }
 
-    /// Adds bytes: writes them to the file where the pieces end, and syncs them. The notes of their pieces are appended to
-    /// `notes`. No bytes are not written, and have no notes.
+    /// Adds bytes that were written to the file where the pieces end, once they are synced. The notes of their pieces are appended to
+    /// `notes`. No bytes have no notes.
     ///
     /// # Errors
     ///
     /// Some pieces may have been added.
     ///
-    /// - `Memory`, also if the pieces would end beyond 2^64 bytes.
-    /// - The error of `ContentStore::write`.
-    pub(crate) fn write<F: ContentStore>(
+    /// - `Cut`: the pieces do not end where the bytes begin.
+    /// - The error of `ContentStore::sync`.
+    /// - `Memory`
+    pub(crate) fn complete<F: ContentStore>(
         &mut self,
         files: &F,
-        bytes: &[u8],
+        unsynced: Unsynced<'_>,
         notes: &mut Vec<u8>,
     ) -> Result<(), ContentError>
         ensures lies { LieAs self.old self.new }
-        ensures ok { OnOk result (bytes_of self.new ≡ bytes_of self.old ++ bytes.now) }
-        ensures noted { OnOk result (notes.new.items ≡ notes.old.items ++ chunk_notes bytes.now) }
+        ensures ok { OnOk result (bytes_of self.new ≡ bytes_of self.old ++ unsynced.entry.bytes) }
+        ensures noted { OnOk result (notes.new.items ≡ notes.old.items
+            ++ chunk_notes unsynced.entry.bytes) }
         ensures begin { BeginsAs self.old self.new }
         ensures long { length (bytes_of self.old) ≤ length (bytes_of self.new) }
     {
-        if bytes.is_empty() {
+        if unsynced.len() == 0 {
             return Ok(());
         }
-        let Some(offset) = self.trace.base().checked_add(self.total) else {
+        let Some(end) = self.trace.base().checked_add(self.total) else {
             return Err(ContentError::Memory);
         };
-        if offset.checked_add(bytes.len() as u64).is_none() {
-            return Err(ContentError::Memory);
+        if !unsynced.is_at(self.trace.name(), end) {
+            return Err(ContentError::Cut);
         }
-        let written = files.write(self.trace.name(), offset, bytes)?;
+        let written = files.sync(unsynced)?;
         self.add_written(written, notes)
     }
 
@@ -140,7 +143,8 @@ impl Pieces {
         requires fits { HasRoomFor self.old written.bytes }
         ensures lies { LieAs self.old self.new }
         ensures ok { OnOk result (bytes_of self.new ≡ bytes_of self.old ++ written.entry.bytes) }
-        ensures noted { OnOk result (notes.new.items ≡ notes.old.items ++ chunk_notes written.entry.bytes) }
+        ensures noted { OnOk result (notes.new.items ≡ notes.old.items
+            ++ chunk_notes written.entry.bytes) }
         ensures begin { BeginsAs self.old self.new }
         ensures long { length (bytes_of self.old) ≤ length (bytes_of self.new) }
     {

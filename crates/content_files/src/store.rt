@@ -5,11 +5,11 @@ ghost use Rattle.content_files.specs.Placed.{placed};
 
 use crate::error::ContentError;
 use crate::name::ContentName;
-use crate::written::Written;
+use crate::written::{Unsynced, Written};
 
 /// The files of contents.
 ///
-/// An implementation makes its result of `write` by `write_synced` or `read_back`, on the file of this name. If it creates the
+/// An implementation makes its result of `write` by `write_unsynced` or `read_back`, on the file of this name. If it creates the
 /// file, it syncs the folder too.
 pub trait ContentStore {
     // Whether contents may lie in files.
@@ -19,7 +19,7 @@ pub trait ContentStore {
     fn is_on_disk(&self) -> bool
         ensures { result ≡ on_disk };
 
-    /// Writes bytes at an offset, and syncs them. Every byte of the file behind the offset may be lost.
+    /// Writes bytes at an offset. Every byte of the file behind the offset may be lost.
     ///
     /// # Errors
     ///
@@ -29,9 +29,21 @@ pub trait ContentStore {
         name: ContentName,
         offset: u64,
         bytes: &'b [u8],
-    ) -> Result<Written<'b>, ContentError>
+    ) -> Result<Unsynced<'b>, ContentError>
         requires { offset + length bytes.now ≤ 18446744073709551615 }
         ensures { IfOk result (λ w. w ≡ placed name offset bytes.now) };
+
+    /// Syncs bytes that `write` has returned.
+    ///
+    /// # Errors
+    ///
+    /// The cause. Any of the bytes may be on the disk.
+    fn sync<'b>(&self, written: Unsynced<'b>) -> Result<Written<'b>, ContentError>
+        ensures { IfOk result (λ w. w ≡ written.entry) };
+
+    /// Cuts the file of a content to a length, if it is longer: a chunk was refused after it was written. It need not succeed, because
+    /// nothing reads the bytes behind a content.
+    fn cut_behind(&self, name: ContentName, len: u64);
 
     /// Reads as many bytes from an offset on as `out` has room for.
     ///
@@ -59,9 +71,15 @@ impl ContentStore for NoFiles {
         _name: ContentName,
         _offset: u64,
         _bytes: &'b [u8],
-    ) -> Result<Written<'b>, ContentError> {
+    ) -> Result<Unsynced<'b>, ContentError> {
         Err(ContentError::NoFiles)
     }
+
+    fn sync<'b>(&self, _written: Unsynced<'b>) -> Result<Written<'b>, ContentError> {
+        Err(ContentError::NoFiles)
+    }
+
+    fn cut_behind(&self, _name: ContentName, _len: u64) {}
 
     fn read(&self, _name: ContentName, _offset: u64, _out: &mut [u8]) -> Result<(), ContentError> {
         Err(ContentError::NoFiles)

@@ -4,7 +4,9 @@ ghost use Rattle.std.specs.Prelude.{◌≡◌, ◌≤◌, ◌+◌, IfOk, length,
 ghost use Rattle.content_files.specs.Placed.{placed};
 
 use crate::listed::Listed;
-use content_files::{ContentError, ContentName, ContentStore, Written, read_back, write_synced};
+use content_files::{
+    ContentError, ContentName, ContentStore, Unsynced, Written, read_back, write_unsynced,
+};
 use std::fs::{self, DirBuilder, File};
 use std::io::{self, ErrorKind, Read, Seek, SeekFrom};
 use std::os::unix::fs::{DirBuilderExt, OpenOptionsExt};
@@ -20,7 +22,7 @@ const FILE_MODE: u32 = 0o600;
 ///
 /// A file is opened for each call, so no descriptor is kept. A write cuts the file at its offset first, and again if it fails,
 /// so that a file ends where the last chunk that was written does. That a file holds what was written to it, and that nobody else
-/// writes to the folder, are premises (`write_synced`).
+/// writes to the folder, are premises (`write_unsynced`, `Unsynced::sync`).
 #[derive(Drop)]
 pub struct ContentFolder<'r> {
     rt: &'r HostRuntime,
@@ -121,7 +123,7 @@ impl<'r> ContentFolder<'r> {
     /// # Errors
     ///
     /// `NotFound` if there is no such tenant, or the operating system's error.
-    pub fn sync(&self, tenant: u16) -> io::Result<()> {
+    pub fn sync_tenant(&self, tenant: u16) -> io::Result<()> {
         let folder = self.folder_of(tenant)?;
         sync_folder(self.rt, folder.as_str())
     }
@@ -136,7 +138,7 @@ impl<'r> ContentFolder<'r> {
             .create_new(true)
             .mode(FILE_MODE)
             .open(self.rt, path.as_str())?;
-        self.sync(name.tenant)?;
+        self.sync_tenant(name.tenant)?;
         Ok(file)
     }
 
@@ -249,23 +251,38 @@ impl<'r> ContentStore for ContentFolder<'r> {
         name: ContentName,
         offset: u64,
         bytes: &'b [u8],
-    ) -> Result<Written<'b>, ContentError> {
+    ) -> Result<Unsynced<'b>, ContentError> {
         let opened = if offset == 0 {
             self.create(name)
         } else {
             self.open_to_write(name, offset)
         };
-        let mut file = match opened {
+        let file = match opened {
             Ok(file) => file,
             Err(error) => return Err(fault_of(error)),
         };
-        match write_synced(&mut file, name, offset, bytes) {
-            Ok(written) => Ok(written),
+        match write_unsynced(file, name, offset, bytes) {
+            Ok(unsynced) => Ok(unsynced),
             Err(error) => {
-                let _ = file.set_len(offset);
+                self.cut_behind(name, offset);
                 Err(ContentError::Io(error))
             }
         }
+    }
+
+    fn sync<'b>(&self, written: Unsynced<'b>) -> Result<Written<'b>, ContentError> {
+        let (name, offset) = (written.name(), written.offset());
+        match written.sync() {
+            Ok(synced) => Ok(synced),
+            Err(error) => {
+                self.cut_behind(name, offset);
+                Err(ContentError::Io(error))
+            }
+        }
+    }
+
+    fn cut_behind(&self, name: ContentName, len: u64) {
+        let _ = self.cut(name, len);
     }
 
     fn read(&self, name: ContentName, offset: u64, out: &mut [u8]) -> Result<(), ContentError> {
@@ -283,7 +300,7 @@ impl<'r> ContentStore for ContentFolder<'r> {
 
 /// The files of a folder, which have the contents already, as when a log is replayed.
 ///
-/// A write compares the bytes with those in the file, and syncs the file (`read_back`). No file is changed.
+/// A write compares the bytes with those in the file (`read_back`). No file is changed.
 #[derive(Drop)]
 pub struct WrittenFiles<'f, 'r> {
     folder: &'f ContentFolder<'r>,
@@ -311,16 +328,16 @@ impl<'f, 'r> WrittenFiles<'f, 'r> {
         name: ContentName,
         offset: u64,
         bytes: &'b [u8],
-    ) -> Result<Written<'b>, ContentError>
+    ) -> Result<Unsynced<'b>, ContentError>
         requires { offset + length bytes.now ≤ 18446744073709551615 }
         ensures { IfOk result (λ w. w ≡ placed name offset bytes.now) }
     {
-        let mut file = match self.folder.open_to_read(name) {
+        let file = match self.folder.open_to_read(name) {
             Ok(file) => file,
             Err(error) => return Err(fault_of(error)),
         };
-        match read_back(&mut file, name, offset, bytes)? {
-            Some(written) => Ok(written),
+        match read_back(file, name, offset, bytes)? {
+            Some(unsynced) => Ok(unsynced),
             None => Err(ContentError::Fault),
         }
     }
@@ -338,15 +355,28 @@ impl<'f, 'r> ContentStore for WrittenFiles<'f, 'r> {
         name: ContentName,
         offset: u64,
         bytes: &'b [u8],
-    ) -> Result<Written<'b>, ContentError> {
+    ) -> Result<Unsynced<'b>, ContentError> {
         match self.compare(name, offset, bytes) {
-            Ok(written) => Ok(written),
+            Ok(unsynced) => Ok(unsynced),
             Err(error) => {
                 self.keep_error(error);
                 Err(error)
             }
         }
     }
+
+    fn sync<'b>(&self, written: Unsynced<'b>) -> Result<Written<'b>, ContentError> {
+        match written.sync() {
+            Ok(synced) => Ok(synced),
+            Err(error) => {
+                let error = ContentError::Io(error);
+                self.keep_error(error);
+                Err(error)
+            }
+        }
+    }
+
+    fn cut_behind(&self, _name: ContentName, _len: u64) {}
 
     fn read(&self, name: ContentName, offset: u64, out: &mut [u8]) -> Result<(), ContentError> {
         self.folder.read(name, offset, out)

@@ -372,7 +372,7 @@ fn sync_folders(contents: &ContentFolder<'_>, tenants: &[String]) -> Result<(), 
         let Ok(tenant) = u16::try_from(index) else {
             break;
         };
-        if let Err(error) = contents.sync(tenant) {
+        if let Err(error) = contents.sync_tenant(tenant) {
             return Err(FolderError::of_file("sync", FolderFile::Folder, error));
         }
     }

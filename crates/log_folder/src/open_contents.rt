@@ -2,7 +2,7 @@
 
 ghost use Rattle.std.specs.Prelude.{true};
 
-use content_files::{Content, ContentError, ContentName, ContentStore, Home, Written};
+use content_files::{Content, ContentError, ContentName, ContentStore, Home, Unsynced, Written};
 use content_folder::{ContentFolder, WrittenFiles};
 use std::alloc::{AllocError, Global};
 use std::collections::BTreeMap;
@@ -28,12 +28,21 @@ impl<'c, 'r> ContentStore for OnceWritten<'c, 'r> {
         name: ContentName,
         offset: u64,
         bytes: &'b [u8],
-    ) -> Result<Written<'b>, ContentError> {
+    ) -> Result<Unsynced<'b>, ContentError> {
         match self.already.write(name, offset, bytes) {
-            Ok(written) => Ok(written),
+            Ok(unsynced) => Ok(unsynced),
             Err(_) => self.folder.write(name, offset, bytes),
         }
     }
+
+    fn sync<'b>(&self, written: Unsynced<'b>) -> Result<Written<'b>, ContentError> {
+        match written.sync() {
+            Ok(synced) => Ok(synced),
+            Err(error) => Err(ContentError::Io(error)),
+        }
+    }
+
+    fn cut_behind(&self, _name: ContentName, _len: u64) {}
 
     fn read(&self, name: ContentName, offset: u64, out: &mut [u8]) -> Result<(), ContentError> {
         self.folder.read(name, offset, out)

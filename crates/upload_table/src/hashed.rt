@@ -44,7 +44,11 @@ impl ContentHash {
     }
 
     /// Hashes a chunk after bytes that `front` describes and that are not in memory.
-    fn of_chunk(front: &Option<UploadHashes>, chunk: &[u8], hashing: Hashing<'_>) -> ContentHash
+    pub(crate) fn of_chunk(
+        front: &Option<UploadHashes>,
+        chunk: &[u8],
+        hashing: Hashing<'_>,
+    ) -> ContentHash
         ensures { IsHashWith result front.now chunk.now }
     {
         let Some(hashes) = front else {

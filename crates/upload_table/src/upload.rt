@@ -162,7 +162,8 @@ pub(crate) fn extend<F: ContentStore>(
     requires { HashesIfAny pieces.old.hashes pieces.old.bytes }
     ensures hash { OnOk result (HasHashOfAll pieces.new) }
     ensures bytes { OnOk result (pieces.new.bytes ≡ pieces.old.bytes ++ chunk.now) }
-    ensures noted { OnOk result (is_in_file home (length pieces.old.bytes + length chunk.now) ≡ true →
+    ensures noted { OnOk result (is_in_file home (length pieces.old.bytes + length chunk.now)
+        ≡ true →
         notes.new.items ≡ notes.old.items ++ chunk_notes chunk.now) }
     ensures room { OnOk result (length pieces.new.lens.items < vec_capacity pieces.new.lens) }
     ensures err { OnErr result (KeepsBytes pieces.old pieces.new) }
@@ -171,14 +172,23 @@ pub(crate) fn extend<F: ContentStore>(
 {
     let received = pieces.bytes.len() as usize;
     pieces.lens.reserve(1)?;
-    pieces.bytes.extend(files, home, chunk, notes)?;
-    let whole = ContentHash::of_content(
-        &mut pieces.hashes,
-        &pieces.bytes,
-        chunk,
-        received,
-        hashing,
-    );
+    let unsynced = pieces.bytes.begin(files, home, chunk)?;
+    // Bytes that were written to a file may move to the disk while they are hashed.
+    let early = match &unsynced {
+        Some(_) => Some(ContentHash::of_chunk(&pieces.hashes, chunk, hashing)),
+        None => None,
+    };
+    pieces.bytes.complete(files, home, chunk, unsynced, notes)?;
+    let whole = match early {
+        Some(hashed) => hashed,
+        None => ContentHash::of_content(
+            &mut pieces.hashes,
+            &pieces.bytes,
+            chunk,
+            received,
+            hashing,
+        ),
+    };
     pieces.whole = Some(whole);
     Ok(())
 }

@@ -16,9 +16,9 @@ finish-requires-clause-bytes g c =
     let taken = c.in_ok-hand.hand in
     let bytes = c.args.bytes.now in
     let was = taken_open c.deref_mut.result.now c.take.new.self c.args.repo.now c.args.number c.args.range (length bytes) taken c.in_ok-hand.ensures.does in
-    let long : c.len_after.result ≡ sum_by length taken.chunks + length bytes =
-    c.len_after.ensures ∙ ap (λ (h : HandRecord). sum_by length h.chunks + h.reserved) c.in-Ok.ensures.ok ∙ ap (λ n. sum_by length taken.chunks + n) was.0 in
-    let noted = c.notes_if-notes.ensures.there ∙ in_file c.home_of-home.result names.longest c.len_after.result c.home_of-home.ensures ∙ ap (is_beyond names.longest) long in
+    let long : c.len_after-2.result ≡ sum_by length taken.chunks + length bytes =
+    c.len_after-2.ensures ∙ ap (λ (h : HandRecord). sum_by length h.chunks + h.reserved) c.in-Ok.ensures.ok ∙ ap (λ n. sum_by length taken.chunks + n) was.0 in
+    let noted = c.notes_if-notes.ensures.there ∙ in_file c.home_of-home.result names.longest c.len_after-2.result c.home_of-home.ensures ∙ ap (is_beyond names.longest) long in
     c.in-Ok-seal_record.ensures.made
     ∙ ap (λ (p : LogPolicy). seal_bytes p (is_some c.notes_if-notes.result) (tenant_name c.args.repo.now) c.args.number c.args.digest.now bytes) c.self.invariant.1
     ∙ finish_recorded names.policy names.longest names.setting.tenants taken c.args.repo.now c.args.number (is_some c.notes_if-notes.result) c.in_ok-hand.ensures.names c.args.digest.now bytes noted
