@@ -283,7 +283,8 @@ impl Ord for Digest {
 impl Hash for Digest {
     ghost hash_input = { λ t. ⟦<Checksum as Hash>⟧.hash_input (checksum_of t) };
 
-    ghost respects_eq = { (same_Alike (λ t. ⟦<Checksum as Hash>⟧.hash_input (checksum_of t)) bytes_decides).fed };
+    ghost respects_eq = { (same_Alike (λ t. ⟦<Checksum as Hash>⟧.hash_input (checksum_of t))
+        bytes_decides).fed };
 
     fn hash<H: Hasher>(&self, state: &mut H) {
         self.checksum.hash(state);

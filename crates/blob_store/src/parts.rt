@@ -49,12 +49,21 @@ impl Model for Parts {
       received = record { name = p.received.name; parts = p.received.parts };
       closed = record { name = p.closed.name; parts = p.closed.parts };
       abandoned = record { name = p.abandoned.name; parts = p.abandoned.parts };
-      log = record { history = p.log.name; durable_marks = p.durable_marks.name; taken_marks = p.taken_marks.name; base = [] };
+      log = record {
+        history = p.log.name;
+        durable_marks = p.durable_marks.name;
+        taken_marks = p.taken_marks.name;
+        base = [];
+      };
       policy = p.policy;
       longest = p.longest;
     } };
 
-    ghost invariant = { λ p. (p.book.table ≡ p.pins) × IsNewCatalog p.book.catalog × (p.commands.parts ≡ ledger_parts) × (p.received.parts ≡ ledger_parts) × (p.closed.parts ≡ ledger_parts) × (p.abandoned.parts ≡ ledger_parts) × (p.log.entries ≡ []) × (p.log.writers ≡ 0) × IsNewMarks p.durable_marks × IsNewMarks p.taken_marks };
+    ghost invariant = { λ p. (p.book.table ≡ p.pins) × IsNewCatalog p.book.catalog ×
+        (p.commands.parts ≡ ledger_parts) × (p.received.parts ≡ ledger_parts) ×
+        (p.closed.parts ≡ ledger_parts) × (p.abandoned.parts ≡ ledger_parts) ×
+        (p.log.entries ≡ []) × (p.log.writers ≡ 0) × IsNewMarks p.durable_marks ×
+        IsNewMarks p.taken_marks };
 }
 
 impl Parts {
@@ -114,7 +123,8 @@ impl Parts {
     /// Gives the parts the names of a store. Also returns the right to open the device of its log.
     pub(crate) fn named<S: Naming>(self) -> (NamedParts<S>, UnopenedDevice<Step, StoreLog<S>>)
         requires named { names_of self ≡ S.names }
-        ensures { AreOfNewStore S.names (result.0).pins (result.0).book (result.0).counters (result.0).backlog (result.0).policy
+        ensures { AreOfNewStore S.names (result.0).pins (result.0).book (result.0).counters
+            (result.0).backlog (result.0).policy
             (result.0).longest }
     {
         let Parts {

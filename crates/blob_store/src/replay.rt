@@ -34,8 +34,10 @@ impl<S: Naming> Store<S> {
         bytes: &[u8],
     ) -> (IdleDevice<Step, StoreLog<S>, D>, Result<bool, CommitError>)
         ensures learns { OnlyLearns desk.old desk.new }
-        ensures exact { IfOk (result.1) (λ same. same ≡ true → AppendsDurably idle bytes.now (result.0)) }
-        ensures durable { IfOk (result.1) (λ same. same ≡ true → LearnsDurable S.names desk.old desk.new) }
+        ensures exact { IfOk (result.1) (λ same. same ≡ true →
+            AppendsDurably idle bytes.now (result.0)) }
+        ensures durable { IfOk (result.1) (λ same. same ≡ true →
+            LearnsDurable S.names desk.old desk.new) }
         ensures differs { IfOk (result.1) (λ same. same ≡ false → KeepsDisk idle (result.0)) }
     {
         let mut device = idle.into_device();
@@ -55,8 +57,10 @@ impl<S: Naming> Store<S> {
         requires { device.old.buffer ≡ [] }
         ensures buffer { device.new.buffer ≡ [] }
         ensures learns { OnlyLearns desk.old desk.new }
-        ensures exact { IfOk result (λ same. same ≡ true → AppendsDurably device.old bytes.now device.new) }
-        ensures durable { IfOk result (λ same. same ≡ true → LearnsDurable S.names desk.old desk.new) }
+        ensures exact { IfOk result (λ same. same ≡ true →
+            AppendsDurably device.old bytes.now device.new) }
+        ensures durable { IfOk result (λ same. same ≡ true →
+            LearnsDurable S.names desk.old desk.new) }
         ensures differs { IfOk result (λ same. same ≡ false → KeepsDisk device.old device.new) }
     {
         if let Err(error) = device.check() {

@@ -74,7 +74,8 @@ impl<S: Naming> Model for Store<S> {
 
     ghost view = { λ s. s.pins };
 
-    ghost invariant = { λ s. (s.pins ≡ S.names.table) × (s.policy ≡ S.names.policy) × (s.longest ≡ S.names.longest) };
+    ghost invariant = { λ s. (s.pins ≡ S.names.table) × (s.policy ≡ S.names.policy) ×
+        (s.longest ≡ S.names.longest) };
 }
 
 /// Rounds that a thread waits for the lock before it sleeps until it is woken. In a round it tries the lock, spins,
@@ -124,7 +125,8 @@ impl<S: Naming> Store<S> {
 
     /// Makes the store of parts that have its names.
     fn of_parts(parts: NamedParts<S>) -> Store<S>
-        requires { AreOfNewStore S.names parts.pins parts.book parts.counters parts.backlog parts.policy parts.longest }
+        requires { AreOfNewStore S.names parts.pins parts.book parts.counters parts.backlog
+            parts.policy parts.longest }
     {
         let NamedParts {
             alloc,
@@ -294,7 +296,8 @@ impl<S: Naming> Store<S> {
     fn read_manifest(&self, repo: &RepoName, bytes: &[u8]) -> Result<(Manifest, Vec<u8>), Refusal>
         ensures value { IfOk result (λ r. r.0 ≡ bytes.now) }
         ensures accepted { IfOk result (λ _. IsSome (refs_of bytes.now)) }
-        ensures made { IfOk result (λ r. (r.1).items ≡ manifest_bytes S.names.policy repo.now bytes.now) }
+        ensures made { IfOk result (λ r. (r.1).items
+            ≡ manifest_bytes S.names.policy repo.now bytes.now) }
         ensures too_long { max_manifest < length bytes.now → result ≡ Err SizeInvalid }
         ensures unread { IfErr result (IsUnread bytes.now) }
     {

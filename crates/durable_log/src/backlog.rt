@@ -40,9 +40,16 @@ impl<E, N: Naming<E>> Model for Backlog<E, N> {
 
     ghost Value = { BacklogView E };
 
-    ghost view = { λ b. record { history = b.history.entries; writers = b.history.writers; taken = last_mark b.taken_marks.entries; pending = b.pending; synced = b.synced } };
+    ghost view = { λ b. record {
+      history = b.history.entries;
+      writers = b.history.writers;
+      taken = last_mark b.taken_marks.entries;
+      pending = b.pending;
+      synced = b.synced;
+    } };
 
-    ghost invariant = { λ b. HoldsBacklog N.names N.bytes b.history b.pending b.synced b.durable_marks b.taken_marks };
+    ghost invariant = { λ b. HoldsBacklog N.names N.bytes b.history b.pending b.synced
+        b.durable_marks b.taken_marks };
 }
 
 impl<E, N: Naming<E>> Backlog<E, N> {
@@ -86,7 +93,12 @@ impl<E, N: Naming<E>> Backlog<E, N> {
     /// Creates a writer with the next number, which has seen the whole history and added no event.
     pub fn writer(&mut self) -> LogWriter<E, N>
         ensures same { self.new ≡ record self.old { writers = self.old.writers + 1 } }
-        ensures writer { result ≡ record { number = self.old.writers; seen = self.old.history; own = []; durable = [] } }
+        ensures writer { result ≡ record {
+          number = self.old.writers;
+          seen = self.old.history;
+          own = [];
+          durable = [];
+        } }
     {
         let position = self.pending.position();
         LogWriter {
@@ -128,8 +140,10 @@ impl<E, N: Naming<E>> Backlog<E, N> {
         ensures history { KeepsHistory self.old self.new }
         ensures device { KeepsProgress self.old self.new }
         ensures bytes { KeepsBytes self.old.pending self.new.pending }
-        ensures room { OnOk result (self.old.pending.recording ≡ true → HasRoom self.new.pending bytes) }
-        ensures slot { OnOk result (self.old.pending.recording ≡ true → HasSlot self.new.pending bytes) }
+        ensures room { OnOk result (self.old.pending.recording ≡ true →
+            HasRoom self.new.pending bytes) }
+        ensures slot { OnOk result (self.old.pending.recording ≡ true →
+            HasSlot self.new.pending bytes) }
     {
         self.pending.reserve(bytes)
     }

@@ -46,9 +46,16 @@ impl<E, N: Naming<E>, D: Disk> Model for LogDevice<E, N, D> {
 
     ghost Value = { DeviceView E };
 
-    ghost view = { λ d. record { taken = last_of [] d.taker.own; buffer = d.buffer.bytes; written = D.written d.disk; durable = D.synced d.disk; failed = d.failed } };
+    ghost view = { λ d. record {
+      taken = last_of [] d.taker.own;
+      buffer = d.buffer.bytes;
+      written = D.written d.disk;
+      durable = D.synced d.disk;
+      failed = d.failed;
+    } };
 
-    ghost invariant = { λ d. HoldsDevice N.names N.bytes d.taker d.marker d.given d.buffer.bytes (D.written d.disk) (D.synced d.disk) d.failed };
+    ghost invariant = { λ d. HoldsDevice N.names N.bytes d.taker d.marker d.given d.buffer.bytes
+        (D.written d.disk) (D.synced d.disk) d.failed };
 }
 
 impl<E, N: Naming<E>, D: Disk> LogDevice<E, N, D> {
@@ -118,11 +125,14 @@ impl<E, N: Naming<E>, D: Disk> LogDevice<E, N, D> {
         ensures sees { OnOk result (writer.new.seen ≡ backlog.old.history) }
         ensures sound { self.new.failed ≡ false }
         ensures history { KeepsHistory backlog.old backlog.new }
-        ensures confirmed { IfOk result (λ done. done ≡ true → Confirms N.promises writer.old writer.new) }
+        ensures confirmed { IfOk result (λ done. done ≡ true →
+            Confirms N.promises writer.old writer.new) }
         ensures idle { IfOk result (λ done. done ≡ true → self.new.buffer ≡ []) }
         ensures taken { IfOk result (λ done. done ≡ false → self.new.taken ≡ writer.new.seen) }
-        ensures durable { IfOk result (λ done. done ≡ false → writer.new.durable ≡ writer.old.durable) }
-        ensures closed { IfErr result (λ e. (e ≡ Closed) × (backlog.old.pending.recording ≡ false)) }
+        ensures durable { IfOk result (λ done. done ≡ false →
+            writer.new.durable ≡ writer.old.durable) }
+        ensures closed { IfErr result (λ e. (e ≡ Closed) ×
+            (backlog.old.pending.recording ≡ false)) }
         ensures err { OnErr result ((writer.new ≡ writer.old) × (self.new ≡ self.old)) }
     {
         if backlog.confirm(writer) {
@@ -249,9 +259,11 @@ impl<E, N: Naming<E>, D: Disk> LogDevice<E, N, D> {
 
     /// Does nothing at run time: it states that what a writer knows to be durable is durable on the disk.
     pub fn reveal_durable(&mut self, backlog: &mut Backlog<E, N>, writer: &mut LogWriter<E, N>)
-        ensures same { (self.new ≡ self.old) × (backlog.new ≡ backlog.old) × (writer.new ≡ writer.old) }
+        ensures same { (self.new ≡ self.old) × (backlog.new ≡ backlog.old) ×
+            (writer.new ≡ writer.old) }
         ensures history { IsPrefix writer.old.durable backlog.old.history }
-        ensures durable { IsPrefix (N.names.base ++ encode N.bytes writer.old.durable) self.old.durable }
+        ensures durable { IsPrefix (N.names.base
+            ++ encode N.bytes writer.old.durable) self.old.durable }
     {
         backlog.durable_marks.catch_up(&mut writer.marker);
         backlog.durable_marks.catch_up(&mut self.marker);
@@ -277,7 +289,8 @@ impl<E, N: Naming<E>, D: Disk> LogDevice<E, N, D> {
     )
         requires synced { IsPrefix self.old.durable left.now }
         requires written { IsPrefix left.now self.old.written }
-        ensures same { (self.new ≡ self.old) × (backlog.new ≡ backlog.old) × (writer.new ≡ writer.old) }
+        ensures same { (self.new ≡ self.old) × (backlog.new ≡ backlog.old) ×
+            (writer.new ≡ writer.old) }
         ensures history { IsPrefix writer.old.durable backlog.old.history }
         ensures durable { IsPrefix (N.names.base ++ encode N.bytes writer.old.durable) left.now }
         ensures in_order { IsPrefix left.now (N.names.base ++ encode N.bytes backlog.old.history) }

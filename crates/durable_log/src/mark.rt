@@ -99,7 +99,8 @@ pub fn mark_all<E>(
     requires { marker.old.name ≡ marks.old.name }
     ensures agrees { Agrees marks.old marker.old }
     ensures log { marks.new ≡ with_entry marker.old.number history.now.entries marks.old }
-    ensures writer { marker.new ≡ writer_after_append history.now.entries marks.old.entries marker.old }
+    ensures writer { marker.new ≡ writer_after_append history.now.entries marks.old.entries
+        marker.old }
 {
     mark_all_as::<E, Brand>(marks, marker, history);
 }
@@ -129,7 +130,8 @@ pub fn mark_last<E>(
     requires { marker.old.name ≡ marks.old.name }
     ensures agrees { Agrees marks.old marker.old }
     ensures log { marks.new ≡ with_entry marker.old.number (last_of [] other.now.own) marks.old }
-    ensures writer { marker.new ≡ writer_after_append (last_of [] other.now.own) marks.old.entries marker.old }
+    ensures writer { marker.new ≡ writer_after_append (last_of [] other.now.own) marks.old.entries
+        marker.old }
 {
     mark_last_as::<E, Brand>(marks, marker, other);
 }

@@ -49,7 +49,8 @@ impl<E, N: Naming<E>> UnopenedDevice<E, N> {
         ensures history { KeepsHistory backlog.old backlog.new }
         ensures recording { backlog.new.pending.recording ≡ true }
         ensures pending { backlog.new.pending.segments.bytes ≡ [] }
-        ensures durable { (backlog.new.taken ≡ backlog.old.history) × (backlog.new.synced ≡ position) }
+        ensures durable { (backlog.new.taken ≡ backlog.old.history) ×
+            (backlog.new.synced ≡ position) }
         ensures taken { result.taken ≡ backlog.old.history }
         ensures ready { IsReady result }
         ensures disk { (result.written ≡ D.written disk) × (result.durable ≡ D.synced disk) }

@@ -24,7 +24,11 @@ impl Model for Pending {
 
     ghost Value = { PendingView };
 
-    ghost view = { λ p. record { recording = p.recording; position = p.position; segments = p.segments } };
+    ghost view = { λ p. record {
+      recording = p.recording;
+      position = p.position;
+      segments = p.segments;
+    } };
 
     ghost invariant = { λ p. HoldsPending p.recording p.position p.bytes p.segments.bytes };
 }
@@ -93,7 +97,8 @@ impl Pending {
     /// Makes room for a record of this number of bytes, if the log records.
     pub fn reserve(&mut self, bytes: usize) -> Result<(), NoRoom>
         ensures same { KeepsBytes self.old self.new }
-        ensures ok { OnOk result (self.old.recording ≡ true → HasRoom self.new bytes × HasSlot self.new bytes) }
+        ensures ok { OnOk result (self.old.recording ≡ true → HasRoom self.new bytes ×
+            HasSlot self.new bytes) }
     {
         if !self.recording {
             return Ok(());
@@ -107,7 +112,8 @@ impl Pending {
     /// Records these bytes, if the log records. If they have no room, the log is closed.
     pub fn append(&mut self, bytes: &[u8])
         ensures recorded { RecordsIfOpen self.old bytes.now self.new }
-        ensures room { HasRoom self.old (length bytes.now) → self.new.recording ≡ self.old.recording }
+        ensures room { HasRoom self.old (length bytes.now) →
+            self.new.recording ≡ self.old.recording }
     {
         if !self.recording {
             return;
@@ -127,7 +133,8 @@ impl Pending {
     /// Records these bytes as a segment of their own, if the log records. If they have no room, the log is closed.
     pub fn append_owned(&mut self, bytes: Vec<u8>)
         ensures recorded { RecordsIfOpen self.old bytes.items self.new }
-        ensures room { HasSlot self.old (length bytes.items) → self.new.recording ≡ self.old.recording }
+        ensures room { HasSlot self.old (length bytes.items) →
+            self.new.recording ≡ self.old.recording }
     {
         if !self.recording {
             return;
@@ -148,8 +155,10 @@ impl Pending {
     /// Moves the pending bytes into an empty buffer.
     pub fn move_into(&mut self, buffer: &mut Segments)
         requires { buffer.old.bytes ≡ [] }
-        ensures same { (self.new.recording ≡ self.old.recording) × (self.new.position ≡ self.old.position) }
-        ensures bytes { (self.new.segments.bytes ≡ []) × (buffer.new.bytes ≡ self.old.segments.bytes) }
+        ensures same { (self.new.recording ≡ self.old.recording) ×
+            (self.new.position ≡ self.old.position) }
+        ensures bytes { (self.new.segments.bytes ≡ []) ×
+            (buffer.new.bytes ≡ self.old.segments.bytes) }
     {
         mem::swap(&mut self.segments, buffer);
         self.bytes = 0;

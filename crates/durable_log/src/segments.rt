@@ -34,13 +34,18 @@ impl Model for Segments {
 
     ghost Value = { SegmentsView };
 
-    ghost view = { λ s. record { bytes = flat_map (λ v. v.items) s.earlier.items ++ s.last.items; room = vec_capacity s.last - vec_len s.last; slots = vec_capacity s.earlier - vec_len s.earlier } };
+    ghost view = { λ s. record {
+      bytes = flat_map (λ v. v.items) s.earlier.items ++ s.last.items;
+      room = vec_capacity s.last - vec_len s.last;
+      slots = vec_capacity s.earlier - vec_len s.earlier;
+    } };
 }
 
 /// Removes the segments from the front of the bytes, in order. Returns the rest, or `None` if the bytes do not begin with
 /// them.
 fn strip_each<'b>(segments: &[Vec<u8>], bytes: &'b [u8]) -> Option<&'b [u8]>
-    ensures { MatchOption result (BeginsNot bytes.now (flat_map (λ v. v.items) segments.now)) (λ rest. bytes.now ≡ flat_map (λ v. v.items) segments.now ++ rest.now) }
+    ensures { MatchOption result (BeginsNot bytes.now (flat_map (λ v. v.items) segments.now))
+        (λ rest. bytes.now ≡ flat_map (λ v. v.items) segments.now ++ rest.now) }
 {
     let mut rest = bytes;
     for segment in segments {
@@ -54,8 +59,10 @@ fn strip_each<'b>(segments: &[Vec<u8>], bytes: &'b [u8]) -> Option<&'b [u8]>
 
 /// Writes segments in order.
 fn write_each<D: Disk>(disk: &mut D, segments: &[Vec<u8>]) -> Result<(), DiskError>
-    ensures ok { OnOk result (D.written disk.new ≡ D.written disk.old ++ flat_map (λ v. v.items) segments.now) }
-    ensures err { OnErr result (IsTorn (D.written disk.old) (flat_map (λ v. v.items) segments.now) (D.written disk.new)) }
+    ensures ok { OnOk result (D.written disk.new ≡ D.written disk.old
+        ++ flat_map (λ v. v.items) segments.now) }
+    ensures err { OnErr result (IsTorn (D.written disk.old) (flat_map (λ v. v.items) segments.now)
+        (D.written disk.new)) }
     ensures kept { D.synced disk.new ≡ D.synced disk.old }
 {
     for segment in segments {
@@ -175,7 +182,8 @@ impl Segments {
     /// That of the disk. A prefix of the bytes may have been written.
     pub fn write_to<D: Disk>(&self, disk: &mut D) -> Result<(), DiskError>
         ensures ok { OnOk result (D.written disk.new ≡ D.written disk.old ++ self.now.bytes) }
-        ensures err { OnErr result (IsTorn (D.written disk.old) self.now.bytes (D.written disk.new)) }
+        ensures err { OnErr result (IsTorn (D.written disk.old) self.now.bytes
+            (D.written disk.new)) }
         ensures kept { D.synced disk.new ≡ D.synced disk.old }
     {
         if let Err(error) = write_each(disk, self.earlier.as_slice()) {

@@ -34,7 +34,8 @@ impl<E, N: Naming<E>> Model for LogWriter<E, N> {
 
     ghost view = { λ w. trace_of w.writer w.marker };
 
-    ghost invariant = { λ w. HoldsWriter N.names N.bytes N.promises w.writer w.position w.unconfirmed w.marker };
+    ghost invariant = { λ w. HoldsWriter N.names N.bytes N.promises w.writer w.position
+        w.unconfirmed w.marker };
 }
 
 impl<E, N: Naming<E>> LogWriter<E, N> {
@@ -72,7 +73,8 @@ impl<E, N: Naming<E>> LogWriter<E, N> {
         promised: bool,
     )
         requires name { history.old.name ≡ N.names.history }
-        requires position { IfSome position (λ n. n ≡ length (encode N.bytes (history.old.entries ++ entry self.old.number D.event ∷ []))) }
+        requires position { IfSome position (λ n. n
+            ≡ length (encode N.bytes (history.old.entries ++ entry self.old.number D.event ∷ []))) }
         requires promised { promised ≡ N.promises D.event }
         ensures agrees { Agrees history.old (writer_of N.names.history self.old) }
         ensures history { history.new ≡ with_entry self.old.number D.event history.old }

@@ -98,7 +98,8 @@ pub fn add_frame(
     payload: &[u8],
 )
     requires { writer.old.name ≡ log.old.name }
-    ensures log { log.new ≡ with_entry writer.old.number (Some (frame_of synced payload.now ∷ [])) log.old }
+    ensures log { log.new ≡ with_entry writer.old.number (Some (frame_of synced payload.now
+        ∷ [])) log.old }
     ensures writer { writer.new.name ≡ writer.old.name }
 {
     add_frame_as::<Brand>(log, writer, synced, payload);

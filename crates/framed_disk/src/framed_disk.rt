@@ -47,9 +47,12 @@ impl<D: Disk> Model for FramedDisk<D> {
 
     ghost Value = { FramedView };
 
-    ghost view = { λ d. framed d.id (after_deeds ([], []) d.deeds.entries) (D.written d.raw) (D.synced d.raw) (is_some d.failure) };
+    ghost view = { λ d. framed d.id (after_deeds ([], []) d.deeds.entries) (D.written d.raw)
+        (D.synced d.raw) (is_some d.failure) };
 
-    ghost invariant = { λ d. (d.writer.name ≡ d.deeds.name) × (65536 ≤ vec_capacity d.buffer) × IsFramed (framed d.id (after_deeds ([], []) d.deeds.entries) (D.written d.raw) (D.synced d.raw) (is_some d.failure)) d.cursor d.synced d.stated };
+    ghost invariant = { λ d. (d.writer.name ≡ d.deeds.name) × (65536 ≤ vec_capacity d.buffer) ×
+        IsFramed (framed d.id (after_deeds ([], []) d.deeds.entries) (D.written d.raw)
+        (D.synced d.raw) (is_some d.failure)) d.cursor d.synced d.stated };
 }
 
 /// Returns whether a frame of this length has room in a log.
@@ -211,7 +214,8 @@ impl<D: Disk> FramedDisk<D> {
     /// - `FileTooLarge` if a log has no room for the frame. Then nothing is written.
     fn write_payload(&mut self, payload: &[u8]) -> Result<(), DiskError>
         ensures ok { OnOk result (AddsFrame self.old payload.now self.new) }
-        ensures err { OnErr result (AddsFrame self.old payload.now self.new ⊎ (self.new ≡ self.old)) }
+        ensures err { OnErr result (AddsFrame self.old payload.now self.new ⊎ (self.new
+            ≡ self.old)) }
         ensures stuck { FailsAfterFailure result self.old self.new }
         ensures cause { FailsOrHasNoRoom result self.old payload.now self.new }
     {

@@ -42,8 +42,10 @@ fn write_in_turn<D: Disk>(
     payload: &[u8],
     sum: &[u8],
 ) -> Result<(), DiskError>
-    ensures ok { OnOk result (D.written disk.new ≡ D.written disk.old ++ (head.now ++ payload.now ++ sum.now)) }
-    ensures err { OnErr result (IsTorn (D.written disk.old) (head.now ++ payload.now ++ sum.now) (D.written disk.new)) }
+    ensures ok { OnOk result (D.written disk.new ≡ D.written disk.old
+        ++ (head.now ++ payload.now ++ sum.now)) }
+    ensures err { OnErr result (IsTorn (D.written disk.old) (head.now ++ payload.now
+        ++ sum.now) (D.written disk.new)) }
     ensures kept { D.synced disk.new ≡ D.synced disk.old }
 {
     disk.write(head)?;
@@ -60,8 +62,10 @@ fn write_parts<D: Disk>(
     sum: &[u8; 8],
 ) -> Result<(), DiskError>
     requires { 65536 ≤ vec_capacity buffer.old }
-    ensures ok { OnOk result (D.written disk.new ≡ D.written disk.old ++ (head.now ++ payload.now ++ sum.now)) }
-    ensures err { OnErr result (IsTorn (D.written disk.old) (head.now ++ payload.now ++ sum.now) (D.written disk.new)) }
+    ensures ok { OnOk result (D.written disk.new ≡ D.written disk.old
+        ++ (head.now ++ payload.now ++ sum.now)) }
+    ensures err { OnErr result (IsTorn (D.written disk.old) (head.now ++ payload.now
+        ++ sum.now) (D.written disk.new)) }
     ensures kept { D.synced disk.new ≡ D.synced disk.old }
     ensures capacity { vec_capacity buffer.old ≤ vec_capacity buffer.new }
 {
@@ -88,9 +92,12 @@ pub fn write_frame<D: Disk>(
 ) -> Result<Cursor, DiskError>
     requires frame { IsFrame cursor (frame_of synced payload.now) }
     requires room { 65536 ≤ vec_capacity buffer.old }
-    ensures after { IfOk result (λ after. after ≡ cursor_after id cursor (frame_of synced payload.now)) }
-    ensures ok { OnOk result (D.written disk.new ≡ D.written disk.old ++ frame_bytes id cursor (frame_of synced payload.now)) }
-    ensures err { OnErr result (IsTorn (D.written disk.old) (frame_bytes id cursor (frame_of synced payload.now)) (D.written disk.new)) }
+    ensures after { IfOk result (λ after. after
+        ≡ cursor_after id cursor (frame_of synced payload.now)) }
+    ensures ok { OnOk result (D.written disk.new ≡ D.written disk.old
+        ++ frame_bytes id cursor (frame_of synced payload.now)) }
+    ensures err { OnErr result (IsTorn (D.written disk.old)
+        (frame_bytes id cursor (frame_of synced payload.now)) (D.written disk.new)) }
     ensures kept { D.synced disk.new ≡ D.synced disk.old }
     ensures capacity { vec_capacity buffer.old ≤ vec_capacity buffer.new }
 {

@@ -31,7 +31,13 @@ impl<E> Model for SharedLog<E> {
 
     ghost view = { λ l. calls.log l.words.shared.table_id (calls.contents_of l.place.me.0) };
 
-    ghost invariant = { λ l. (l.place.id ≡ 0) × (l.place.table_id ≡ l.words.shared.table_id) × (l.place.me ≡ (Owner (contents (calls.contents_of l.place.me.0).entries (calls.contents_of l.place.me.0).writers None), [])) × (0 < l.words.shared.table_id.words) };
+    ghost invariant = { λ l. (l.place.id ≡ 0) × (l.place.table_id ≡ l.words.shared.table_id) ×
+        (l.place.me ≡ (
+          Owner (contents (calls.contents_of l.place.me.0).entries
+              (calls.contents_of l.place.me.0).writers None),
+          [],
+        )) ×
+        (0 < l.words.shared.table_id.words) };
 }
 
 /// The right to append to a log under one number.
@@ -54,7 +60,9 @@ impl<E> Model for Writer<E> {
 
     ghost view = { λ w. calls.writer w.token.table_id (calls.known_in w.token.views) };
 
-    ghost invariant = { λ w. (w.token.views ≡ OfWriter (calls.known_in w.token.views) ∷ []) × (events_by (calls.known_in w.token.views).number (calls.known_in w.token.views).seen ≡ (calls.known_in w.token.views).own) };
+    ghost invariant = { λ w. (w.token.views ≡ OfWriter (calls.known_in w.token.views) ∷ []) ×
+        (events_by (calls.known_in w.token.views).number (calls.known_in w.token.views).seen
+        ≡ (calls.known_in w.token.views).own) };
 }
 
 impl<E> Writer<E> {

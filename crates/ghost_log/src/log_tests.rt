@@ -58,7 +58,15 @@ pub trait Naming {
 }
 
 impl Naming for Brand {
-    ghost name = { record { words = 0; slots = 0; views_name = 0; atom = 0; block = 0; offset = 0; slot_names = [] } };
+    ghost name = { record {
+      words = 0;
+      slots = 0;
+      views_name = 0;
+      atom = 0;
+      block = 0;
+      offset = 0;
+      slot_names = [];
+    } };
 }
 
 /// A type that names a number to append.

@@ -12,5 +12,13 @@ pub trait LeaseNaming {
 }
 
 impl LeaseNaming for Brand {
-    ghost log = { record { words = 0; slots = 0; views_name = 0; atom = 0; block = 0; offset = 0; slot_names = [] } };
+    ghost log = { record {
+      words = 0;
+      slots = 0;
+      views_name = 0;
+      atom = 0;
+      block = 0;
+      offset = 0;
+      slot_names = [];
+    } };
 }

@@ -66,9 +66,17 @@ impl Model for Links {
     ghost use Rattle.link_table.specs.Usage.{KeepsUsage};
     ghost use Rattle.link_table.specs.Holders.{Counts};
 
-    ghost view = { λ a. record { tenants = tenants_shown a.tenants.items; repos = repos_shown a.repos.items; links = links_shown a.repos.items; manifests = a.manifests; charges = a.charges.items } };
+    ghost view = { λ a. record {
+      tenants = tenants_shown a.tenants.items;
+      repos = repos_shown a.repos.items;
+      links = links_shown a.repos.items;
+      manifests = a.manifests;
+      charges = a.charges.items;
+    } };
 
-    ghost invariant = { λ a. KeepsUsage (tenants_shown a.tenants.items) (links_shown a.repos.items) a.blob_bytes.items a.charges.items × IsOwned (tenants_shown a.tenants.items) a.repos.items × Counts (tenants_shown a.tenants.items) (links_shown a.repos.items) a.holders.items };
+    ghost invariant = { λ a. KeepsUsage (tenants_shown a.tenants.items) (links_shown a.repos.items)
+        a.blob_bytes.items a.charges.items × IsOwned (tenants_shown a.tenants.items) a.repos.items ×
+        Counts (tenants_shown a.tenants.items) (links_shown a.repos.items) a.holders.items };
 }
 
 /// Returns `count` tenants without repositories.
@@ -418,7 +426,8 @@ impl Links {
     /// Returns whether a tenant's repositories contain as many distinct blobs as its share. Constant time.
     fn has_full_share(&self, tenant: u16) -> bool
         requires { tenant < length self.now.tenants }
-        ensures { result ≡ nat_le (share_in self.now.tenants tenant) (fmap.len (blobs_of self.now tenant)) }
+        ensures { result ≡ nat_le (share_in self.now.tenants tenant)
+            (fmap.len (blobs_of self.now tenant)) }
     {
         u64::from(self.share(tenant)) <= self.blob_count(tenant)
     }

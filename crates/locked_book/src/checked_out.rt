@@ -38,7 +38,10 @@ pub fn room<S: Naming>(
     bytes: u64,
 ) -> Result<(), Refusal>
     requires { IsKeptState S.names book.now counters.now out.now.hands out.now.reserve }
-    ensures room { result ≡ refuse (not (has_room (record { book = book.now; counts = counters.now }) bytes)) LimitReached }
+    ensures room { result ≡ refuse (not (has_room (record {
+      book = book.now;
+      counts = counters.now;
+    }) bytes)) LimitReached }
     ensures sound { Sound book.now.catalog }
 {
     book.reveal_invariant();
@@ -62,7 +65,10 @@ pub fn check_out<S: Naming>(
     requires { IsKeptState S.names book.old counters.now out.old.hands out.old.reserve }
     ensures kept { IsKeptState S.names book.new counters.now out.new.hands out.new.reserve }
     ensures does { ChecksOut repo.now number range len result
-        (record { book = book.old; counts = counters.now }) (record { book = book.new; counts = counters.now }) }
+        (record { book = book.old; counts = counters.now }) (record {
+          book = book.new;
+          counts = counters.now;
+        }) }
     ensures ends { IfOk result (λ h. EndsWithRange h len range) }
 {
     room(book, out, counters, len)?;
@@ -84,7 +90,10 @@ pub fn check_in<S: Naming>(
     requires filled { hand.last ≢ None }
     ensures kept { IsKeptState S.names book.new counters.new out.new.hands out.new.reserve }
     ensures does { ChecksIn hand result
-        (record { book = book.old; counts = counters.old }) (record { book = book.new; counts = counters.new }) }
+        (record { book = book.old; counts = counters.old }) (record {
+          book = book.new;
+          counts = counters.new;
+        }) }
     ensures amounts { desk.new ≡ add_amounts desk.old (step_amounts (PutBackCall hand result)) }
     ensures length { IfOk result (λ n. n ≡ sum_by length hand.chunks + filled_length hand) }
 {
@@ -107,7 +116,10 @@ pub fn check_in_unchanged<S: Naming>(
     requires unfilled { hand.last ≡ None }
     ensures kept { IsKeptState S.names book.new counters.now out.new.hands out.new.reserve }
     ensures does { ChecksInUnchanged hand result
-        (record { book = book.old; counts = counters.now }) (record { book = book.new; counts = counters.now }) }
+        (record { book = book.old; counts = counters.now }) (record {
+          book = book.new;
+          counts = counters.now;
+        }) }
 {
     let reserved = hand.reserved();
     let received = book.put_back(hand)?;
@@ -132,9 +144,13 @@ pub fn close<S: Naming>(
     requires full { HasNoOpenReserve hand }
     ensures kept { IsKeptState S.names book.new counters.new out.new.hands out.new.reserve }
     ensures does { Finishes hand digest.now result
-        (record { book = book.old; counts = counters.old }) (record { book = book.new; counts = counters.new }) }
+        (record { book = book.old; counts = counters.old }) (record {
+          book = book.new;
+          counts = counters.new;
+        }) }
     ensures read { OnOk result (sealing ≡ Sealing.ByHash → is_read (hand_content hand) ≡ true) }
-    ensures amounts { desk.new ≡ add_amounts desk.old (step_amounts (FinishCall hand digest.now result)) }
+    ensures amounts { desk.new ≡ add_amounts desk.old
+        (step_amounts (FinishCall hand digest.now result)) }
     ensures length { IfOk result (λ n. n ≡ sum_by length hand.chunks + filled_length hand) }
 {
     let reserved = hand.reserved();

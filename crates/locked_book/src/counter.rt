@@ -44,7 +44,8 @@ impl<L: Ledger> Model for Counter<L> {
 
     ghost view = { λ c. record { total = c.total; settled = c.settled; parts = c.rest.parts } };
 
-    ghost invariant = { λ c. (c.total ≡ c.book.total) × (c.settled ≡ c.rest.amount) × (0 < c.rest.parts) × (L.parts ≡ ledger_parts) };
+    ghost invariant = { λ c. (c.total ≡ c.book.total) × (c.settled ≡ c.rest.amount) ×
+        (0 < c.rest.parts) × (L.parts ≡ ledger_parts) };
 }
 
 impl<L: Ledger> Counter<L> {

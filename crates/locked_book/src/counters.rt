@@ -28,12 +28,24 @@ impl<S: Naming> Model for Counters<S> {
     ghost Value = { Counts };
 
     ghost view = { λ c. record {
-      totals = record { commands = c.commands.total; received = c.received.total; closed = c.closed.total; abandoned = c.abandoned.total };
-      settled = record { commands = c.commands.settled; received = c.received.settled; closed = c.closed.settled; abandoned = c.abandoned.settled };
+      totals = record {
+        commands = c.commands.total;
+        received = c.received.total;
+        closed = c.closed.total;
+        abandoned = c.abandoned.total;
+      };
+      settled = record {
+        commands = c.commands.settled;
+        received = c.received.settled;
+        closed = c.closed.settled;
+        abandoned = c.abandoned.settled;
+      };
       desks = c.desks;
     } };
 
-    ghost invariant = { λ c. (c.commands.parts + c.desks ≡ ledger_parts) × (c.received.parts + c.desks ≡ ledger_parts) × (c.closed.parts + c.desks ≡ ledger_parts) × (c.abandoned.parts + c.desks ≡ ledger_parts) };
+    ghost invariant = { λ c. (c.commands.parts + c.desks ≡ ledger_parts) ×
+        (c.received.parts + c.desks ≡ ledger_parts) × (c.closed.parts + c.desks ≡ ledger_parts) ×
+        (c.abandoned.parts + c.desks ≡ ledger_parts) };
 }
 
 impl<S: Naming> Counters<S> {

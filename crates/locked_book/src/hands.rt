@@ -65,7 +65,8 @@ impl<S: Naming> Kept<S> {
         hand: Hand,
         bytes: Vec<u8>,
     ) -> Result<u64, Refusal>
-        requires bytes { bytes.items ≡ check_in_bytes S.names.policy S.names.longest S.names.setting.tenants hand }
+        requires bytes { bytes.items ≡ check_in_bytes S.names.policy S.names.longest
+            S.names.setting.tenants hand }
         requires filled { hand.last ≢ None }
         requires held { IsHeld hand desk.old.trace.own }
         ensures does { ChecksIn hand result self.old self.new }
@@ -123,7 +124,8 @@ impl<S: Naming> Kept<S> {
         sealing: Sealing,
         bytes: Vec<u8>,
     ) -> Result<u64, Refusal>
-        requires bytes { bytes.items ≡ finish_bytes S.names.policy S.names.longest S.names.setting.tenants hand digest.now }
+        requires bytes { bytes.items ≡ finish_bytes S.names.policy S.names.longest
+            S.names.setting.tenants hand digest.now }
         requires table { pins.now ≡ S.names.table }
         requires full { HasNoOpenReserve hand }
         requires held { IsHeld hand desk.old.trace.own }

@@ -50,7 +50,9 @@ impl<S: Naming> Model for History<S> {
 
     ghost view = { λ h. h.backlog.history };
 
-    ghost invariant = { λ h. IfSome h.writers (λ n. n ≡ h.backlog.writers) × AreReturned h.backlog.history × (h.policy ≡ S.names.policy) × AreWellFormed h.backlog.history × OpensNew S.names };
+    ghost invariant = { λ h. IfSome h.writers (λ n. n ≡ h.backlog.writers) ×
+        AreReturned h.backlog.history × (h.policy ≡ S.names.policy) ×
+        AreWellFormed h.backlog.history × OpensNew S.names };
 }
 
 /// The right to add steps to a store's history under a number of its own.
@@ -70,9 +72,16 @@ impl<S: Naming> Model for HistoryWriter<S> {
 
     ghost Value = { Trace };
 
-    ghost view = { λ w. record { number = w.writer.number; seen = w.writer.seen; own = w.writer.own; durable = w.writer.durable } };
+    ghost view = { λ w. record {
+      number = w.writer.number;
+      seen = w.writer.seen;
+      own = w.writer.own;
+      durable = w.writer.durable;
+    } };
 
-    ghost invariant = { λ w. (events_by w.writer.number w.writer.seen ≡ w.writer.own) × IsLegal S.names.opening (steps_of w.writer.seen) × IfSome w.number (λ n. n ≡ w.writer.number) };
+    ghost invariant = { λ w. (events_by w.writer.number w.writer.seen ≡ w.writer.own) ×
+        IsLegal S.names.opening (steps_of w.writer.seen) ×
+        IfSome w.number (λ n. n ≡ w.writer.number) };
 }
 
 impl<S: Naming> HistoryWriter<S> {
@@ -144,7 +153,8 @@ impl<S: Naming> History<S> {
 
     /// Does nothing at run time: it states that the log restores each state to which the history leads.
     pub fn reveal_durable_state(&self)
-        ensures { (s : State) → LogLeadsTo S.names.opening self.now s → IsRestorable S.names self.now s }
+        ensures { (s : State) → LogLeadsTo S.names.opening self.now s →
+            IsRestorable S.names self.now s }
     {
         self.reveal_invariant();
     }
@@ -164,7 +174,8 @@ impl<S: Naming> History<S> {
     pub fn reveal_disk<D: Disk>(&mut self, device: &mut LogDevice<Step, StoreLog<S>, D>)
         ensures same { (self.new ≡ self.old) × (device.new ≡ device.old) }
         ensures taken { IsPrefix device.old.taken self.old }
-        ensures written { IsPrefix device.old.written (S.names.log.base ++ records_of S.names self.old) }
+        ensures written { IsPrefix device.old.written (S.names.log.base
+            ++ records_of S.names self.old) }
     {
         device.reveal_order(&mut self.backlog);
     }
@@ -174,7 +185,8 @@ impl<S: Naming> History<S> {
     pub fn is_on_disk<D: Disk>(&mut self, device: &mut LogDevice<Step, StoreLog<S>, D>) -> bool
         requires { device.old.buffer ≡ [] }
         ensures same { (self.new ≡ self.old) × (device.new ≡ device.old) }
-        ensures whole { result ≡ true → device.old.written ≡ S.names.log.base ++ records_of S.names self.old }
+        ensures whole { result ≡ true → device.old.written ≡ S.names.log.base
+            ++ records_of S.names self.old }
     {
         device.reveal_order(&mut self.backlog);
         if device.check().is_err() {
@@ -308,10 +320,12 @@ impl<S: Naming> History<S> {
         ensures same { self.new ≡ self.old }
         ensures waits { Waits (log_trace writer.old) (log_trace writer.new) }
         ensures sound { device.new.failed ≡ false }
-        ensures confirmed { IfOk result (λ done. done ≡ true → IsConfirmed S.names writer.old writer.new) }
+        ensures confirmed { IfOk result (λ done. done ≡ true →
+            IsConfirmed S.names writer.old writer.new) }
         ensures idle { IfOk result (λ done. done ≡ true → device.new.buffer ≡ []) }
         ensures taken { IfOk result (λ done. done ≡ false → device.new.taken ≡ writer.new.seen) }
-        ensures durable { IfOk result (λ done. done ≡ false → writer.new.durable ≡ writer.old.durable) }
+        ensures durable { IfOk result (λ done. done ≡ false →
+            writer.new.durable ≡ writer.old.durable) }
         ensures err { OnErr result ((writer.new ≡ writer.old) × (device.new ≡ device.old)) }
     {
         let done = device.confirm_or_take(&mut self.backlog, &mut writer.writer);
@@ -350,7 +364,8 @@ impl<S: Naming> History<S> {
         writer: &mut HistoryWriter<S>,
     )
         requires legal { IsLegal S.names.opening (steps_of self.old) }
-        requires synced { IsSynced (recorded_bytes S.names.policy S.names.longest S.names.setting.tenants) S.names.log.base device.old }
+        requires synced { IsSynced (recorded_bytes S.names.policy S.names.longest
+            S.names.setting.tenants) S.names.log.base device.old }
         requires seen { writer.old.seen ≡ device.old.taken }
         ensures same { self.new ≡ self.old }
         ensures device { device.new ≡ device.old }
@@ -372,10 +387,12 @@ impl<S: Naming> History<S> {
     )
         requires synced { IsPrefix device.old.durable left.now }
         requires written { IsPrefix left.now device.old.written }
-        ensures same { (self.new ≡ self.old) × (device.new ≡ device.old) × (writer.new ≡ writer.old) }
+        ensures same { (self.new ≡ self.old) × (device.new ≡ device.old) ×
+            (writer.new ≡ writer.old) }
         ensures returned { AreReturned self.old }
         ensures known { IsPrefix writer.old.durable self.old }
-        ensures durable { IsPrefix (S.names.log.base ++ records_of S.names writer.old.durable) left.now }
+        ensures durable { IsPrefix (S.names.log.base
+            ++ records_of S.names writer.old.durable) left.now }
         ensures in_order { IsPrefix left.now (S.names.log.base ++ records_of S.names self.old) }
     {
         device.reveal_survivors(&mut self.backlog, &mut writer.writer, left);

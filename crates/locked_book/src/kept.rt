@@ -58,7 +58,8 @@ impl<S: Naming> Model for Kept<S> {
 
     ghost view = { λ b. record { book = b.book; counts = b.counters } };
 
-    ghost invariant = { λ b. AreRecordsOf S.names b.book b.out.hands b.out.reserve b.counters b.history };
+    ghost invariant = { λ b. AreRecordsOf S.names b.book b.out.hands b.out.reserve b.counters
+        b.history };
 }
 
 impl<S: Naming> Kept<S> {

@@ -20,7 +20,8 @@ impl<S: Naming> Desk<S> {
     pub fn is_durable(&self) -> bool
         ensures durable { result ≡ true → IsDurable S.names self.now.trace }
         ensures waits { result ≡ false → IsDurable S.names self.now.trace → ⊥ }
-        ensures unconfirmed { result ≡ false → IsUnconfirmed (promises S.names.policy) (log_trace self.now.trace) }
+        ensures unconfirmed { result ≡ false →
+            IsUnconfirmed (promises S.names.policy) (log_trace self.now.trace) }
     {
         self.writer.writer.is_committed()
     }
@@ -63,10 +64,13 @@ impl<S: Naming> Kept<S> {
         ensures same { self.new ≡ self.old }
         ensures learns { OnlyLearns desk.old desk.new }
         ensures sound { device.new.failed ≡ false }
-        ensures confirmed { IfOk result (λ done. done ≡ true → LearnsDurable S.names desk.old desk.new) }
+        ensures confirmed { IfOk result (λ done. done ≡ true →
+            LearnsDurable S.names desk.old desk.new) }
         ensures idle { IfOk result (λ done. done ≡ true → device.new.buffer ≡ []) }
-        ensures taken { IfOk result (λ done. done ≡ false → device.new.taken ≡ desk.new.trace.seen) }
-        ensures durable { IfOk result (λ done. done ≡ false → desk.new.trace.durable ≡ desk.old.trace.durable) }
+        ensures taken { IfOk result (λ done. done ≡ false →
+            device.new.taken ≡ desk.new.trace.seen) }
+        ensures durable { IfOk result (λ done. done ≡ false →
+            desk.new.trace.durable ≡ desk.old.trace.durable) }
         ensures err { OnErr result ((desk.new ≡ desk.old) × (device.new ≡ device.old)) }
     {
         self.history.confirm_or_take(device, &mut desk.writer)
@@ -78,7 +82,8 @@ impl<S: Naming> Kept<S> {
         device: &mut LogDevice<Step, StoreLog<S>, D>,
         desk: &mut Desk<S>,
     )
-        requires synced { IsSynced (recorded_bytes S.names.policy S.names.longest S.names.setting.tenants) S.names.log.base device.old }
+        requires synced { IsSynced (recorded_bytes S.names.policy S.names.longest
+            S.names.setting.tenants) S.names.log.base device.old }
         requires seen { desk.old.trace.seen ≡ device.old.taken }
         ensures same { self.new ≡ self.old }
         ensures device { device.new ≡ device.old }

@@ -46,7 +46,8 @@ fn check_body(bytes: &[u8]) -> Result<(), Refusal>
 /// Appends the record of a change.
 fn append(out: &mut Vec<u8>, change: &Change<'_>) -> Result<(), Refusal>
     requires { IsChange (change_view change.now) }
-    ensures ok { OnOk result (out.new.items ≡ out.old.items ++ record_bytes (change_view change.now)) }
+    ensures ok { OnOk result (out.new.items ≡ out.old.items
+        ++ record_bytes (change_view change.now)) }
     ensures refused { IfErr result (λ e. e ≡ Memory) }
 {
     append_record(out, change)?;
@@ -55,7 +56,8 @@ fn append(out: &mut Vec<u8>, change: &Change<'_>) -> Result<(), Refusal>
 
 /// Appends the record of a session that was opened.
 fn append_opened(out: &mut Vec<u8>, repo: &RepoName, number: u32) -> Result<(), Refusal>
-    ensures ok { OnOk result (out.new.items ≡ out.old.items ++ record_bytes (logged.SessionOpened repo.now number)) }
+    ensures ok { OnOk result (out.new.items ≡ out.old.items
+        ++ record_bytes (logged.SessionOpened repo.now number)) }
 {
     let change = Change::SessionOpened {
         repo: repo.text().as_bytes(),
@@ -66,7 +68,8 @@ fn append_opened(out: &mut Vec<u8>, repo: &RepoName, number: u32) -> Result<(), 
 
 /// Appends the record of a session that was abandoned.
 fn append_dropped(out: &mut Vec<u8>, repo: &RepoName, number: u32) -> Result<(), Refusal>
-    ensures ok { OnOk result (out.new.items ≡ out.old.items ++ record_bytes (logged.SessionDropped (tenant_name repo.now) number)) }
+    ensures ok { OnOk result (out.new.items ≡ out.old.items
+        ++ record_bytes (logged.SessionDropped (tenant_name repo.now) number)) }
 {
     let change = Change::SessionDropped {
         tenant: repo.tenant().as_bytes(),
@@ -82,7 +85,8 @@ fn append_linked(
     repo: &RepoName,
     digest: &Digest,
 ) -> Result<(), Refusal>
-    ensures ok { OnOk result (out.new.items ≡ out.old.items ++ record_bytes (logged.BlobLinked repo.now digest.now)) }
+    ensures ok { OnOk result (out.new.items ≡ out.old.items
+        ++ record_bytes (logged.BlobLinked repo.now digest.now)) }
 {
     let text = digest_text(alloc, digest)?;
     let change = Change::BlobLinked {
@@ -100,7 +104,8 @@ fn append_mounted(
     digest: &Digest,
     mount: &Mount,
 ) -> Result<(), Refusal>
-    ensures ok { OnOk result (out.new.items ≡ out.old.items ++ mount_bytes repo.now digest.now mount.now) }
+    ensures ok { OnOk result (out.new.items ≡ out.old.items
+        ++ mount_bytes repo.now digest.now mount.now) }
 {
     match mount {
         Mount::Mounted => append_linked(alloc, out, repo, digest),
@@ -115,7 +120,8 @@ fn append_unlinked(
     repo: &RepoName,
     digest: &Digest,
 ) -> Result<(), Refusal>
-    ensures ok { OnOk result (out.new.items ≡ out.old.items ++ record_bytes (logged.BlobUnlinked repo.now digest.now)) }
+    ensures ok { OnOk result (out.new.items ≡ out.old.items
+        ++ record_bytes (logged.BlobUnlinked repo.now digest.now)) }
 {
     let text = digest_text(alloc, digest)?;
     let change = Change::BlobUnlinked {
@@ -132,7 +138,8 @@ fn append_deleted(
     repo: &RepoName,
     digest: &Digest,
 ) -> Result<(), Refusal>
-    ensures ok { OnOk result (out.new.items ≡ out.old.items ++ record_bytes (logged.ManifestDeleted repo.now digest.now)) }
+    ensures ok { OnOk result (out.new.items ≡ out.old.items
+        ++ record_bytes (logged.ManifestDeleted repo.now digest.now)) }
 {
     let text = digest_text(alloc, digest)?;
     let change = Change::ManifestDeleted {
@@ -144,7 +151,8 @@ fn append_deleted(
 
 /// Appends the record of a repository that was removed.
 fn append_removed(out: &mut Vec<u8>, repo: &RepoName) -> Result<(), Refusal>
-    ensures ok { OnOk result (out.new.items ≡ out.old.items ++ record_bytes (logged.RepoRemoved repo.now)) }
+    ensures ok { OnOk result (out.new.items ≡ out.old.items
+        ++ record_bytes (logged.RepoRemoved repo.now)) }
 {
     let change = Change::RepoRemoved {
         repo: repo.text().as_bytes(),
@@ -160,7 +168,8 @@ pub fn append_call<S: Naming>(
 ) -> Result<(), Refusal>
     requires small { IsSmall call.now }
     requires tenant { NamesTenant S.names.setting.tenants (step_of call.now) }
-    ensures ok { OnOk result (out.new.items ≡ out.old.items ++ step_bytes S.names.longest S.names.setting.tenants (step_of call.now)) }
+    ensures ok { OnOk result (out.new.items ≡ out.old.items
+        ++ step_bytes S.names.longest S.names.setting.tenants (step_of call.now)) }
 {
     match call {
         Call::Start(repo, Ok(number)) => append_opened(out, repo, *number),
@@ -184,7 +193,8 @@ pub fn record_call<S: Naming>(
     requires policy { policy ≡ S.names.policy }
     requires small { IsSmall call.now }
     requires tenant { NamesTenant S.names.setting.tenants (step_of call.now) }
-    ensures same { (backlog.new.history ≡ backlog.old.history) × (backlog.new.writers ≡ backlog.old.writers) }
+    ensures same { (backlog.new.history ≡ backlog.old.history) ×
+        (backlog.new.writers ≡ backlog.old.writers) }
     ensures bytes { IsRecordOf S.names backlog.new bytes.new.items (step_of call.now) }
 {
     bytes.clear();
@@ -251,7 +261,8 @@ fn append_chunk(
     requires notes { IfSome notes (λ n. n.now ≡ chunk_notes bytes.now) }
     requires short { length bytes.now ≤ max_body }
     ensures ok { OnOk result (out.new.items ≡ out.old.items
-        ++ record_bytes (logged_chunk (is_some notes.entry) (tenant_name repo.now) number bytes.now)) }
+        ++ record_bytes (logged_chunk (is_some notes.entry) (tenant_name repo.now) number
+        bytes.now)) }
     ensures refused { IfErr result (λ e. e ≡ Memory) }
 {
     match notes {
@@ -281,7 +292,8 @@ fn append_sealed(
     requires notes { IfSome notes (λ n. n.now ≡ chunk_notes last.now) }
     requires short { length last.now ≤ max_body }
     ensures ok { OnOk result (out.new.items ≡ out.old.items
-        ++ record_bytes (logged_seal (is_some notes.entry) (tenant_name repo.now) number digest.now last.now)) }
+        ++ record_bytes (logged_seal (is_some notes.entry) (tenant_name repo.now) number digest.now
+        last.now)) }
     ensures refused { IfErr result (λ e. e ≡ Memory) }
 {
     let text = digest_text(alloc, digest)?;
@@ -312,7 +324,8 @@ pub fn chunk_record(
 ) -> Result<Vec<u8>, Refusal>
     requires notes { IfSome notes (λ n. n.now ≡ chunk_notes bytes.now) }
     ensures made { IfOk result (λ r.
-        r.items ≡ chunk_bytes policy (is_some notes.entry) (tenant_name repo.now) number bytes.now) }
+        r.items ≡ chunk_bytes policy (is_some notes.entry) (tenant_name repo.now) number
+        bytes.now) }
     ensures refused { IfErr result (λ e. e ≡ Memory) }
 {
     let mut record = Vec::new(alloc);
@@ -337,7 +350,8 @@ pub fn seal_record(
 ) -> Result<Vec<u8>, Refusal>
     requires notes { IfSome notes (λ n. n.now ≡ chunk_notes last.now) }
     ensures made { IfOk result (λ r.
-        r.items ≡ seal_bytes policy (is_some notes.entry) (tenant_name repo.now) number digest.now last.now) }
+        r.items ≡ seal_bytes policy (is_some notes.entry) (tenant_name repo.now) number digest.now
+        last.now) }
     ensures refused { IfErr result (λ e. e ≡ Memory) }
 {
     let mut record = Vec::new(alloc);

@@ -22,7 +22,12 @@ impl Model for Step {
 
     ghost Value = { histories.Step };
 
-    ghost view = { λ _. histories.SweepCall (record { condemned = 0; freed = 0; held = 0; retired = 0 }) };
+    ghost view = { λ _. histories.SweepCall (record {
+      condemned = 0;
+      freed = 0;
+      held = 0;
+      retired = 0;
+    }) };
 }
 
 /// A type that names a step.
@@ -35,7 +40,12 @@ pub trait StepName {
 impl StepName for Brand {
     ghost use Rattle.store_model.specs.Histories as histories;
 
-    ghost step = { histories.SweepCall (record { condemned = 0; freed = 0; held = 0; retired = 0 }) };
+    ghost step = { histories.SweepCall (record {
+      condemned = 0;
+      freed = 0;
+      held = 0;
+      retired = 0;
+    }) };
 }
 
 /// The event that is the step named by `P`.

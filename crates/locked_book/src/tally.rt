@@ -18,5 +18,10 @@ pub struct Tally<S: Naming> {
 impl<S: Naming> Model for Tally<S> {
     ghost Value = { Amounts };
 
-    ghost view = { λ d. record { commands = d.commands; received = d.received; closed = d.closed; abandoned = d.abandoned } };
+    ghost view = { λ d. record {
+      commands = d.commands;
+      received = d.received;
+      closed = d.closed;
+      abandoned = d.abandoned;
+    } };
 }

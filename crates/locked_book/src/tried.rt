@@ -47,11 +47,14 @@ pub fn add_command<S: Naming>(
     desk: &mut Desk<S>,
     call: Call<'_>,
 )
-    requires records { AreRecordsOf S.names before.now.value out.now.hands out.now.reserve counters.old history.old }
+    requires records { AreRecordsOf S.names before.now.value out.now.hands out.now.reserve
+        counters.old history.old }
     requires tries { Tries before.now.value counters.old (step_of call) book.now }
     requires small { IsSmall call }
-    ensures records { AreRecordsOf S.names book.now out.now.hands out.now.reserve counters.new history.new }
-    ensures performs { PerformsStep S.names.opening (step_of call.entry) before.now.value counters.old book.now counters.new desk.old desk.new }
+    ensures records { AreRecordsOf S.names book.now out.now.hands out.now.reserve counters.new
+        history.new }
+    ensures performs { PerformsStep S.names.opening (step_of call.entry) before.now.value
+        counters.old book.now counters.new desk.old desk.new }
 {
     counters.count_command(&mut desk.tally, abandoned_bytes(&call));
     history.add(&mut desk.writer, call);
@@ -69,12 +72,15 @@ pub fn add_recorded_command<S: Naming>(
     bytes: Vec<u8>,
     promised: bool,
 )
-    requires records { AreRecordsOf S.names before.now.value out.now.hands out.now.reserve counters.old history.old }
+    requires records { AreRecordsOf S.names before.now.value out.now.hands out.now.reserve
+        counters.old history.old }
     requires tries { Tries before.now.value counters.old (step_of call) book.now }
     requires bytes { IsRecord S.names bytes.items (step_of call) }
     requires promised { promised ≡ promises S.names.policy (step_of call) }
-    ensures records { AreRecordsOf S.names book.now out.now.hands out.now.reserve counters.new history.new }
-    ensures performs { PerformsStep S.names.opening (step_of call.entry) before.now.value counters.old book.now counters.new desk.old desk.new }
+    ensures records { AreRecordsOf S.names book.now out.now.hands out.now.reserve counters.new
+        history.new }
+    ensures performs { PerformsStep S.names.opening (step_of call.entry) before.now.value
+        counters.old book.now counters.new desk.old desk.new }
 {
     counters.count_command(&mut desk.tally, abandoned_bytes(&call));
     history.add_recorded(&mut desk.writer, call, bytes, promised);
@@ -90,11 +96,14 @@ pub fn add_unrecorded_command<S: Naming>(
     desk: &mut Desk<S>,
     call: Call<'_>,
 )
-    requires records { AreRecordsOf S.names before.now.value out.now.hands out.now.reserve counters.old history.old }
+    requires records { AreRecordsOf S.names before.now.value out.now.hands out.now.reserve
+        counters.old history.old }
     requires tries { Tries before.now.value counters.old (step_of call) book.now }
     requires unrecorded { IsUnrecorded call }
-    ensures records { AreRecordsOf S.names book.now out.now.hands out.now.reserve counters.new history.new }
-    ensures performs { PerformsStep S.names.opening (step_of call.entry) before.now.value counters.old book.now counters.new desk.old desk.new }
+    ensures records { AreRecordsOf S.names book.now out.now.hands out.now.reserve counters.new
+        history.new }
+    ensures performs { PerformsStep S.names.opening (step_of call.entry) before.now.value
+        counters.old book.now counters.new desk.old desk.new }
 {
     counters.count_command(&mut desk.tally, abandoned_bytes(&call));
     history.add_unrecorded(&mut desk.writer, call);

@@ -44,7 +44,8 @@ pub trait FileBacked: Disk {
     fn reveal_kept(&self, left: &[u8])
         requires { IsLeft (file_written self.now) (file_synced self.now) left.now }
         ensures readable { HasContent (reads_as self.now left.now) }
-        ensures preserved { PreservesContents (reads_as self.now left.now) (Self.written self.now) (Self.synced self.now) };
+        ensures preserved { PreservesContents (reads_as self.now left.now) (Self.written self.now)
+            (Self.synced self.now) };
 }
 
 impl FileBacked for FileDisk {

@@ -22,7 +22,8 @@ pub fn fill<R: Read>(
     ensures before { take start buffer.new ≡ take start buffer.old }
     ensures place { IfOk result (λ place. (start ≤ place) × (place ≤ end)) }
     ensures filled { IfOk result (λ place.
-        Consumes (R.remaining input.old) (R.remaining input.new) (drop start (take place buffer.new))) }
+        Consumes (R.remaining input.old) (R.remaining input.new)
+        (drop start (take place buffer.new))) }
     ensures ended { IfOk result (λ place. place < end → IsAtEnd (R.remaining input.new)) }
 {
     let mut at = start;
@@ -62,7 +63,8 @@ pub fn gather<R: Read>(
         (start ≤ count) × (count ≤ len) × (count ≤ vec_len buffer.new)) }
     ensures before { OnOk result (take start buffer.new.items ≡ take start buffer.old.items) }
     ensures gathered { IfOk result (λ count. Consumes
-        (R.remaining input.old) (R.remaining input.new) (drop start (take count buffer.new.items))) }
+        (R.remaining input.old) (R.remaining input.new)
+        (drop start (take count buffer.new.items))) }
     ensures ended { IfOk result (λ count. count < len → IsAtEnd (R.remaining input.new)) }
     ensures memory { HasRoomFor start (R.remaining input.old)
         (vec_len buffer.old) (vec_len buffer.new) }

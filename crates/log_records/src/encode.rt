@@ -74,7 +74,8 @@ pub fn append_record(out: &mut Vec<u8>, change: &Change<'_>) -> Result<(), Alloc
     ensures ok { OnOk result (out.new.items ≡ out.old.items ++ record_for change.now) }
     ensures err { OnErr result (out.new.items ≡ out.old.items) }
     ensures capacity { vec_capacity out.old ≤ vec_capacity out.new }
-    ensures succeeds { vec_len out.old + record_length change.now ≤ vec_capacity out.old → IsOk result }
+    ensures succeeds { vec_len out.old + record_length change.now ≤ vec_capacity out.old →
+        IsOk result }
 {
     out.reserve(record_len(change) as usize)?;
     append_reserved(out, change);

@@ -139,7 +139,8 @@ impl Filter {
 
     /// Returns the seal of a session that is kept, with the end of the link that its place names.
     fn keep_seal<'a>(&'a self, seal: &Change<'a>, digest: &'a [u8], offset: u64) -> Kept<'a>
-        ensures { kept_view result ≡ kept_seal self.now (place_at self.now offset) digest.now (change_view seal.now) }
+        ensures { kept_view result ≡ kept_seal self.now (place_at self.now offset) digest.now
+            (change_view seal.now) }
     {
         match self.place(offset) {
             Some(

@@ -27,7 +27,8 @@ pub struct RecordWriter<W: Write + Drop> {
 
 /// Returns whether a number, and texts and a body of these lengths, fit into a record.
 fn fit(name: usize, digest: usize, number: u64, body: usize) -> bool
-    ensures { result ≡ true → (name < 2 ^ 16) × (digest < 2 ^ 16) × (number < 2 ^ 64) × (body ≤ max_body) }
+    ensures { result ≡ true → (name < 2 ^ 16) × (digest < 2 ^ 16) × (number < 2 ^ 64) ×
+        (body ≤ max_body) }
 {
     let _ = number;
     name < 65_536 && digest < 65_536 && body as u64 <= MAX_BODY

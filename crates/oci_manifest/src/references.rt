@@ -180,7 +180,8 @@ fn document(alloc: Global, bytes: &[u8]) -> Result<Value, Refusal>
 /// Returns the digests in a manifest's bytes, in order.
 #[tactic(auto, unfolding(crate::specs::Manifests::refs_of))]
 pub(crate) fn named_digests(alloc: Global, bytes: &[u8]) -> Result<Vec<Digest>, Refusal>
-    ensures value { IfOk result (λ digests. refs_of bytes.now ≡ Some (distinct_texts digests.items)) }
+    ensures value { IfOk result (λ digests. refs_of bytes.now
+        ≡ Some (distinct_texts digests.items)) }
     ensures refused { IfErr result (λ e. IsInvalidOnlyIf (refs_of bytes.now ≡ None) e) }
 {
     let root = document(alloc, bytes)?;

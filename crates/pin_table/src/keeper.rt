@@ -31,9 +31,21 @@ impl Model for Keeper {
 
     ghost Value = { KeeperValue };
 
-    ghost view = { λ k. record { table = k.seat.table_id; rows = k.rows; bounds = k.bounds; looks = looks_by k.seat.me.0; lent = lent_by k.seat.me.0 } };
+    ghost view = { λ k. record {
+      table = k.seat.table_id;
+      rows = k.rows;
+      bounds = k.bounds;
+      looks = looks_by k.seat.me.0;
+      lent = lent_by k.seat.me.0;
+    } };
 
-    ghost invariant = { λ k. (k.seat.id ≡ 0) × (k.seat.me ≡ (KeeperSeat (keeper_view k.rows k.bounds (looks_by k.seat.me.0) (lent_by k.seat.me.0) None), [])) × (k.seat.table_id.words ≡ length k.rows) × (length k.bounds ≡ length k.rows) × All HasDigest k.rows };
+    ghost invariant = { λ k. (k.seat.id ≡ 0) ×
+        (k.seat.me ≡ (
+          KeeperSeat (keeper_view k.rows k.bounds (looks_by k.seat.me.0)
+              (lent_by k.seat.me.0) None),
+          [],
+        )) × (k.seat.table_id.words ≡ length k.rows) ×
+        (length k.bounds ≡ length k.rows) × All HasDigest k.rows };
 }
 
 impl Keeper {

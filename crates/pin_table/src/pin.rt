@@ -25,7 +25,8 @@ impl Model for Pin {
 
     ghost view = { λ p. record { table = p.seat.table_id; hold = p.hold } };
 
-    ghost invariant = { λ p. (p.seat.me ≡ (PinView p.hold, [])) × (p.hold.slot < p.seat.table_id.words) × IsWeight p.hold };
+    ghost invariant = { λ p. (p.seat.me ≡ (PinView p.hold, [])) ×
+        (p.hold.slot < p.seat.table_id.words) × IsWeight p.hold };
 }
 
 /// The seat of a released pin. It weighs nothing and may be dropped.

@@ -35,7 +35,8 @@ impl<L: RowList> Model for RepliesByRow<L> {
 
     ghost Value = { List Answer };
 
-    ghost view = { λ r. answers_by_row (length r.queues.items) (drop r.place (L.lines r.rows)) (map (λ q. answers_of q.items) r.queues.items) };
+    ghost view = { λ r. answers_by_row (length r.queues.items) (drop r.place (L.lines r.rows))
+        (map (λ q. answers_of q.items) r.queues.items) };
 
     ghost invariant = { λ r. 0 < length r.queues.items };
 }

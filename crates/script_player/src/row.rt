@@ -24,7 +24,8 @@ pub struct Row {
     pub range: Vec<u8>,
     /// The bytes of a chunk or of a manifest; for a share the name of the second lease.
     pub body: Vec<u8>,
-    pub ghost fit: { has_needed_fields verb repo.items key.items digest.items range.items body.items ≡ true },
+    pub ghost fit: { has_needed_fields verb repo.items key.items digest.items range.items body.items
+        ≡ true },
 }
 
 /// A row that borrows its fields from a list. The fields are those of `Row`.

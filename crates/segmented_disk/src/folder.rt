@@ -53,7 +53,8 @@ pub trait SegmentFolder<D: Disk>: Drop {
     fn confirm(&mut self, segment: &FramedDisk<D>) -> Result<(), DiskError>
         requires last { (segment.now).id ≡ (published self.old).last_id }
         requires durable { IsDurable segment.now }
-        ensures ok { OnOk result (published self.new ≡ after_confirm (published self.old) (attempted segment.now)) }
+        ensures ok { OnOk result (published self.new
+            ≡ after_confirm (published self.old) (attempted segment.now)) }
         ensures err { OnErr result (published self.new ≡ published self.old) };
 
     /// Returns why a call on the folder or on one of its disks failed: `Content` if another process owns the folder, and else

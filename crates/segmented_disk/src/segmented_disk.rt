@@ -56,7 +56,8 @@ impl<D: Disk, F: SegmentFolder<D>> Model for SegmentedDisk<D, F> {
 
     ghost view = { λ d. segmented d.before (F.published d.folder) d.segment (is_some d.failure) };
 
-    ghost invariant = { λ d. IsPublished (segmented d.before (F.published d.folder) d.segment (is_some d.failure)) };
+    ghost invariant = { λ d. IsPublished (segmented d.before (F.published d.folder) d.segment
+        (is_some d.failure)) };
 }
 
 /// Returns the length up to which the last segment is written, in bytes.
@@ -115,7 +116,8 @@ impl<D: Disk, F: SegmentFolder<D>> SegmentedDisk<D, F> {
     ) -> Result<SegmentedDisk<D, F>, DiskError>
         requires durable { IsDurable segment }
         requires folder { F.published folder ≡ starting segment.id }
-        ensures { IfOk result (λ d. d ≡ segmented B.bytes (after_confirm (starting segment.id) (attempted segment)) segment false) }
+        ensures { IfOk result (λ d. d ≡ segmented B.bytes
+            (after_confirm (starting segment.id) (attempted segment)) segment false) }
     {
         let Ok(before) = BytesCell::new::<B>(alloc) else {
             return Err(DiskError::Memory);
@@ -224,7 +226,8 @@ impl<D: Disk, F: SegmentFolder<D>> SegmentedDisk<D, F> {
         ensures err { OnErr result ((self.new).synced ≡ (self.old).synced) }
         ensures durable { OnOk result (all_durable self.new ≡ all_attempted self.new) }
         ensures failed { (self.new).failed ≡ (self.old).failed }
-        ensures confirmed { OnOk result ((self.new).folder ≡ after_confirm (self.old).folder (attempted (self.new).segment)) }
+        ensures confirmed { OnOk result ((self.new).folder
+            ≡ after_confirm (self.old).folder (attempted (self.new).segment)) }
     {
         self.segment.reveal_invariant();
         self.segment.sync()?;
@@ -265,7 +268,8 @@ impl<D: Disk, F: SegmentFolder<D>> SegmentedDisk<D, F> {
     /// - `Memory`
     fn write_payload(&mut self, payload: &[u8]) -> Result<(), DiskError>
         ensures ok { OnOk result (all_attempted self.new ≡ all_attempted self.old ++ payload.now) }
-        ensures err { OnErr result (IsTorn (all_attempted self.old) payload.now (all_attempted self.new)) }
+        ensures err { OnErr result (IsTorn (all_attempted self.old) payload.now
+            (all_attempted self.new)) }
         ensures kept { (self.new).synced ≡ (self.old).synced }
         ensures frame { OnOk result (AddsPayload self.old payload.now self.new) }
     {
@@ -294,7 +298,8 @@ impl<D: Disk, F: SegmentFolder<D>> Disk for SegmentedDisk<D, F> {
     /// - `Memory`
     fn write(&mut self, bytes: &[u8]) -> Result<(), DiskError>
         ensures ok { OnOk result (all_attempted self.new ≡ all_attempted self.old ++ bytes.now) }
-        ensures err { OnErr result (IsTorn (all_attempted self.old) bytes.now (all_attempted self.new)) }
+        ensures err { OnErr result (IsTorn (all_attempted self.old) bytes.now
+            (all_attempted self.new)) }
         ensures kept { (self.new).synced ≡ (self.old).synced }
         ensures frame { OnOk result (AddsPayload self.old bytes.now self.new) }
         ensures stuck { FailsAfterFailure result self.old self.new }
@@ -319,7 +324,8 @@ impl<D: Disk, F: SegmentFolder<D>> Disk for SegmentedDisk<D, F> {
         ensures ok { OnOk result ((self.new).synced ≡ all_attempted self.old) }
         ensures err { OnErr result ((self.new).synced ≡ (self.old).synced) }
         ensures durable { OnOk result (all_durable self.new ≡ all_attempted self.new) }
-        ensures confirmed { OnOk result ((self.new).folder ≡ after_confirm (self.old).folder (attempted (self.new).segment)) }
+        ensures confirmed { OnOk result ((self.new).folder
+            ≡ after_confirm (self.old).folder (attempted (self.new).segment)) }
         ensures stuck { FailsAfterFailure result self.old self.new }
         ensures failed { OnErr result ((self.new).failed ≡ true) }
     {

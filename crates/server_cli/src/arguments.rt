@@ -65,7 +65,8 @@ fn read_settings(
     words: &[String],
     on_disk: bool,
 ) -> Result<(Config, &[String]), Stop<'_>>
-    ensures spelled { IfOk result (λ r. SpellsSettings (texts_of words.now) r.0 (texts_of r.1.now)) }
+    ensures spelled { IfOk result (λ r. SpellsSettings (texts_of words.now) r.0
+        (texts_of r.1.now)) }
     ensures place { IfOk result (λ r. (r.0).on_disk ≡ on_disk) }
     ensures within { IfOk result (λ r. IsWithin r.0) }
     ensures refused { IfErr result (RefusesSettings (texts_of words.now)) }

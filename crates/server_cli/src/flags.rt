@@ -84,7 +84,8 @@ impl<'w> Flags<'w> {
 
     /// Adds the offset that a word spells. Returns `None` if there is one, or if the word spells none.
     fn with_loss(self, word: &str) -> Option<Flags<'w>>
-        ensures { MatchOption result (with_loss (flags_shown self.entry) (number_of word.now) ≡ None)
+        ensures { MatchOption result (with_loss (flags_shown self.entry) (number_of word.now)
+            ≡ None)
             (λ f. with_loss (flags_shown self.entry) (number_of word.now) ≡ Some (flags_shown f)) }
     {
         let loss = decimal(word.as_bytes())?;
@@ -99,7 +100,8 @@ impl<'w> Flags<'w> {
 
     /// Returns the options of the log. Returns `None` if there is an option and no folder.
     pub fn log(self) -> Option<Option<LogOptions<'w>>>
-        ensures { MatchOption result (IsWithoutFolder (flags_shown self.entry)) (λ log. AskForLog (flags_shown self.entry) log) }
+        ensures { MatchOption result (IsWithoutFolder (flags_shown self.entry))
+            (λ log. AskForLog (flags_shown self.entry) log) }
     {
         match self.folder {
             Some(folder) => Some(Some(LogOptions {
@@ -122,7 +124,8 @@ impl<'w> Flags<'w> {
 /// it was there before.
 fn next_flag<'w>(flags: Flags<'w>, words: &'w [String]) -> Option<(Flags<'w>, &'w [String])>
     ensures { MatchOption result (next_flag (flags_shown flags.entry) (texts_of words.now) ≡ None)
-        (λ r. next_flag (flags_shown flags.entry) (texts_of words.now) ≡ Some (flags_shown r.0, texts_of r.1.now)) }
+        (λ r. next_flag (flags_shown flags.entry) (texts_of words.now)
+        ≡ Some (flags_shown r.0, texts_of r.1.now)) }
 {
     let [name, value, rest @ ..] = words else {
         return Some((flags, words));

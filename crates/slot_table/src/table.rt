@@ -57,7 +57,10 @@ impl Model for SlotTable {
 
     ghost view = { λ a. padded_slots a.slots a.first_generation a.rows.items };
 
-    ghost invariant = { λ a. IsTable a.rows.items × IsSlotIndex a.rows.items a.index a.free.items (vec_capacity a.free) × HasOrphans a.rows.items a.orphans × HasRoom a.slots a.rows.items (vec_capacity a.rows) (vec_capacity a.free) (length a.orphans) };
+    ghost invariant = { λ a. IsTable a.rows.items ×
+        IsSlotIndex a.rows.items a.index a.free.items (vec_capacity a.free) ×
+        HasOrphans a.rows.items a.orphans × HasRoom a.slots a.rows.items (vec_capacity a.rows)
+        (vec_capacity a.free) (length a.orphans) };
 }
 
 /// Makes the row of the next slot and puts the slot on the stack, if the stack is empty and a slot has no row yet.

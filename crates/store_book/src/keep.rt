@@ -108,7 +108,8 @@ fn store_existing(
     requires table { slots.old.table ≡ pins.now }
     requires can { CanStore links.old slots.old.slots tenant repo.now blob }
     requires there { slot_of slots.old.slots blob.0 ≡ Some slot }
-    ensures ok { OnOk result (StoresBlob on_disk links.old slots.old repo.now blob links.new slots.new) }
+    ensures ok { OnOk result (StoresBlob on_disk links.old slots.old repo.now blob links.new
+        slots.new) }
     ensures share { OnOk result (passes_share links.old tenant blob.0 ≡ false) }
     ensures back { IfErr result (λ e. e.1 ≡ blob) }
     ensures refused { IfErr result (λ e. IsExplained on_disk links.old slots.old tenant blob e.0) }
@@ -163,7 +164,8 @@ fn store_new(
     requires table { slots.old.table ≡ pins.now }
     requires can { CanStore links.old slots.old.slots tenant repo.now blob }
     requires absent { slot_of slots.old.slots blob.0 ≡ None }
-    ensures ok { OnOk result (StoresBlob on_disk links.old slots.old repo.now blob links.new slots.new) }
+    ensures ok { OnOk result (StoresBlob on_disk links.old slots.old repo.now blob links.new
+        slots.new) }
     ensures share { OnOk result (passes_share links.old tenant blob.0 ≡ false) }
     ensures back { IfErr result (λ e. e.1 ≡ blob) }
     ensures refused { IfErr result (λ e. IsExplained on_disk links.old slots.old tenant blob e.0) }
@@ -214,7 +216,8 @@ pub(crate) fn keep(
 ) -> Result<(), (Refusal, Blob)>
     requires table { slots.old.table ≡ pins.now }
     requires can { CanStore links.old slots.old.slots tenant repo.now blob }
-    ensures ok { OnOk result (StoresBlob on_disk links.old slots.old repo.now blob links.new slots.new) }
+    ensures ok { OnOk result (StoresBlob on_disk links.old slots.old repo.now blob links.new
+        slots.new) }
     ensures share { OnOk result (passes_share links.old tenant blob.0 ≡ false) }
     ensures back { IfErr result (λ e. e.1 ≡ blob) }
     ensures refused { IfErr result (λ e. IsExplained on_disk links.old slots.old tenant blob e.0) }

@@ -134,7 +134,8 @@ impl<'s, W: Wait, S: Naming, O: ChangeSink> Players<'s, W, S, O> {
         left: Vec<u8>,
         payload: &[u8],
     ) -> Result<(Progress<S>, Vec<u8>), Fault>
-        ensures { IfOk result (λ r. Continues progress.device r.0.device (left.items ++ payload.now) r.1.items) }
+        ensures { IfOk result (λ r. Continues progress.device r.0.device (left.items
+            ++ payload.now) r.1.items) }
     {
         if left.is_empty() {
             return self.replay_copied(alloc, progress, payload);
@@ -180,7 +181,11 @@ impl<'s, W: Wait, S: Naming, O: ChangeSink> Model for Replay<'s, W, S, O> {
 
     ghost Value = { ReplayView };
 
-    ghost view = { λ r. record { goes_on = is_some r.progress; replayed = option_map_or (λ p. p.device.written) r.progress []; left = r.left.items } };
+    ghost view = { λ r. record {
+      goes_on = is_some r.progress;
+      replayed = option_map_or (λ p. p.device.written) r.progress [];
+      left = r.left.items;
+    } };
 
     ghost invariant = { λ r. IfSome r.progress (λ p. p.device.durable ≡ p.device.written) };
 }

@@ -48,7 +48,13 @@ impl<'s, W: Wait, S: Naming, O: ChangeSink> Model for Replayed<'s, W, S, O> {
 
     ghost Value = { ReplayedView };
 
-    ghost view = { λ r. record { id = r.id; frames = r.trail; cursor = r.read.cursor; ending = r.read.ending; replay = r.replay } };
+    ghost view = { λ r. record {
+      id = r.id;
+      frames = r.trail;
+      cursor = r.read.cursor;
+      ending = r.read.ending;
+      replay = r.replay;
+    } };
 
     ghost invariant = { λ r. EndsWithReplayOf r.id r.trail r.read.cursor r.replay };
 }
@@ -104,7 +110,8 @@ fn replay_next_frame<R: Read, W: Wait, S: Naming, O: ChangeSink>(
 ) -> Result<(u64, Cursor), Ending>
     ensures replayed { IfOk result (λ r. ReplaysFrame id cursor r.1 (R.remaining input.old)
         (R.remaining input.new) trail.old trail.new replay.old replay.new) }
-    ensures ended { IfErr result (λ e. ReplaysNoFrame id cursor (R.remaining input.old) e trail.old trail.new
+    ensures ended { IfErr result (λ e. ReplaysNoFrame id cursor (R.remaining input.old) e trail.old
+        trail.new
         replay.old replay.new) }
 {
     match read_next_frame(input, buffer, id, cursor) {
@@ -174,7 +181,8 @@ pub fn replay_log<'s, R: Read, W: Wait, S: Naming, O: ChangeSink>(
 ) -> Result<Replayed<'s, W, S, O>, AllocError>
     ensures id { IfOk result (λ r. r.id ≡ id) }
     ensures of { IfOk result (λ r. IsReplayOf id (total replay.entry) r.frames r.cursor r.replay) }
-    ensures read { IfOk result (λ r. IsReadAs id (R.remaining input.old) r.frames r.cursor r.ending) }
+    ensures read { IfOk result (λ r. IsReadAs id (R.remaining input.old) r.frames r.cursor
+        r.ending) }
 {
     let mut replay = replay;
     let mut trail = FrameTrail::new(replay.allocator())?;
@@ -434,7 +442,8 @@ pub fn continue_on_file<'s, G: SegmentFolder<FileDisk>, W: Wait, S: Naming, O: C
     closed_length: u64,
 ) -> Result<StartedLog<S, SegmentedDisk<FileDisk, G>>, ContinueError>
     requires { G.published folder ≡ starting replayed.id }
-    ensures { IfOk result (λ l. StartsFrom S.names replayed.entry.replay.replayed l.desk.trace l.device) }
+    ensures { IfOk result (λ l. StartsFrom S.names replayed.entry.replay.replayed l.desk.trace
+        l.device) }
 {
     let (rt, store) = replayed.replay().store();
     match continue_whole(alloc, replayed, file, folder, closed_length) {

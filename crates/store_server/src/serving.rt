@@ -272,7 +272,8 @@ fn serve_removing<
 {
     let mut remove = || remove_freed(shared, ended);
     let mut serve = ||
-        ensures { AreServed F.on_disk S.names L.log I.remaining O.contents lines.entry.now lines.exit.now }
+        ensures { AreServed F.on_disk S.names L.log I.remaining O.contents lines.entry.now
+            lines.exit.now }
     { serve_until_end(rt, shared, ended, lines) };
     join_mut(rt, &mut remove, &mut serve);
 }
@@ -375,8 +376,10 @@ pub fn serve_on<
 ) -> Result<(Totals, SharedLogDevice<S, D>), AllocError>
     requires log { (log.name ≡ L.log) × (log.entries ≡ []) }
     ensures start { IsStarted S.names started }
-    ensures served { OnOk result (AreServed F.on_disk S.names L.log I.remaining O.contents lines.old lines.new) }
-    ensures totals { IfOk result (λ r. (r.0).received ≡ (r.0).in_sessions + (r.0).closed + (r.0).abandoned) }
+    ensures served { OnOk result (AreServed F.on_disk S.names L.log I.remaining O.contents lines.old
+        lines.new) }
+    ensures totals { IfOk result (λ r. (r.0).received
+        ≡ (r.0).in_sessions + (r.0).closed + (r.0).abandoned) }
     ensures same { OnErr result (lines.new ≡ lines.old) }
 {
     started.reveal_start();
@@ -444,7 +447,8 @@ pub fn serve_new<W: Threads + Wait + Sync, I: Read + Send + Drop, O: Write + Sen
     parts: Parts,
     lines: &mut [Connection<I, O>],
 ) -> Result<Totals, AllocError>
-    ensures served { OnOk result (AreServedOn false parts I.remaining O.contents lines.old lines.new) }
+    ensures served { OnOk result (AreServedOn false parts I.remaining O.contents lines.old
+        lines.new) }
     ensures totals { IfOk result (λ t. t.received ≡ t.in_sessions + t.closed + t.abandoned) }
     ensures same { OnErr result (lines.new ≡ lines.old) }
 {

@@ -184,7 +184,8 @@ pub fn read_tenants(
     words: &[&str],
     shares: bool,
 ) -> Result<Vec<TenantSettings>, TenantFault>
-    ensures spelled { IfOk result (λ v. SpellTenants shares (texts_of words.now) (tenants_shown v.items)) }
+    ensures spelled { IfOk result (λ v. SpellTenants shares (texts_of words.now)
+        (tenants_shown v.items)) }
     ensures names { IfOk result (λ v. HasNames (tenants_shown v.items)) }
     ensures limits { IfOk result (λ v. IsWithinLimits (tenants_shown v.items)) }
     ensures refused { IfErr result (λ e. IsBadOnlyIf (HasBadTenant shares (texts_of words.now)) e) }

@@ -45,9 +45,11 @@ impl Model for Hand {
 
     ghost use Rattle.upload_table.specs.Rows.{hand_shown, IsHand};
 
-    ghost view = { λ h. hand_shown h.tenant h.number h.received h.reserved h.pieces.value h.pieces.value.whole };
+    ghost view = { λ h. hand_shown h.tenant h.number h.received h.reserved h.pieces.value
+        h.pieces.value.whole };
 
-    ghost invariant = { λ h. IsHand h.received h.reserved h.pieces.value (vec_capacity h.pieces.value.lens) h.pieces.value.whole };
+    ghost invariant = { λ h. IsHand h.received h.reserved h.pieces.value
+        (vec_capacity h.pieces.value.lens) h.pieces.value.whole };
 }
 
 /// The remainder of a checked-out session after its bytes moved into a blob.
@@ -70,9 +72,14 @@ impl Model for PendingClose {
 
     ghost coded = { coded_hand_remainder };
 
-    ghost view = { λ s. record { key = (s.tenant, s.number); lens = s.pieces.value.lens.items; hashes = s.pieces.value.hashes } };
+    ghost view = { λ s. record {
+      key = (s.tenant, s.number);
+      lens = s.pieces.value.lens.items;
+      hashes = s.pieces.value.hashes;
+    } };
 
-    ghost invariant = { λ s. AllByRecursion (λ n. 0 < n) s.pieces.value.lens.items × (s.pieces.value.whole ≡ None) };
+    ghost invariant = { λ s. AllByRecursion (λ n. 0 < n) s.pieces.value.lens.items ×
+        (s.pieces.value.whole ≡ None) };
 }
 
 /// Why a hand is not sealed.
@@ -236,7 +243,8 @@ impl Hand {
         requires len { length bytes.now ≡ self.reserved }
         requires empty { self.last ≡ None }
         ensures ok { IfOk result (λ h. h ≡ record self { last = Some bytes.now }) }
-        ensures noted { OnOk result (is_in_file home (sum_by length self.chunks + self.reserved) ≡ true →
+        ensures noted { OnOk result (is_in_file home (sum_by length self.chunks + self.reserved)
+            ≡ true →
             notes.new.items ≡ notes.old.items ++ chunk_notes bytes.now) }
         ensures err { IfErr result (λ e. e.1 ≡ self) }
     {
@@ -472,8 +480,10 @@ impl Hand {
     ) -> Result<(Blob, PendingClose), (Unsealed, Box<ChunkBuffer>)>
         requires full { HasNoOpenReserve self }
         ensures blob { IfOk result (λ r. r.0 ≡ (digest.now, hand_content self)) }
-        ensures agrees { IfOk result (λ r. is_sealed sealing digest.now (hand_content self) ≡ true) }
-        ensures read { IfOk result (λ r. sealing ≡ Sealing.ByHash → is_read (hand_content self) ≡ true) }
+        ensures agrees { IfOk result (λ r. is_sealed sealing digest.now (hand_content self)
+            ≡ true) }
+        ensures read { IfOk result (λ r. sealing ≡ Sealing.ByHash →
+            is_read (hand_content self) ≡ true) }
         ensures rest { IfOk result (λ r. IsRemainderOf self r.1 r.0.1) }
         ensures other { IfErr result (λ e. IsUnsealedFor e.0 self digest.now) }
         ensures whole { IfErr result (λ e. IsConsistentBuffer e.1.value) }

@@ -93,10 +93,12 @@ fn serve_next<
     buffer: &mut Vec<u8>,
 ) -> Option<Ending>
     requires { G.durable backend.old }
-    ensures served { IsNone result → ServesNext F.on_disk B.acts B.finds L.does I.remaining O.contents
+    ensures served { IsNone result → ServesNext F.on_disk B.acts B.finds L.does I.remaining
+        O.contents
         (backend.old, leases.old, input.old, output_of output.old)
         (backend.new, leases.new, input.new, output_of output.new) }
-    ensures ended { IfSome result (ServesRequests F.on_disk B.acts B.finds L.does (backend.old, leases.old)
+    ensures ended { IfSome result (ServesRequests F.on_disk B.acts B.finds L.does
+        (backend.old, leases.old)
         (backend.new, leases.new) (I.remaining (inner_of input.old))
         (O.contents (output_of output.old)) (O.contents (output_of output.new))) }
     ensures failed { MayEndByRead result input.old input.new }

@@ -218,7 +218,8 @@ fn execute_fetch_or_query<F: ContentStore, B: Backend + Queries, L: LeaseStore<B
     request: &RequestFrame<'_>,
 ) -> RequestResult
     requires { verb_of request.now.head.command ≡ None }
-    ensures { PlaysRequest F.on_disk B.acts B.finds L.does (backend.old, leases.old) request.now result
+    ensures { PlaysRequest F.on_disk B.acts B.finds L.does (backend.old, leases.old) request.now
+        result
         (backend.new, leases.new) }
 {
     if request.head.command != FETCH {
@@ -250,7 +251,8 @@ pub fn execute_request<F: ContentStore, B: Backend + Queries, L: LeaseStore<B>>(
     leases: &mut L,
     request: &RequestFrame<'_>,
 ) -> RequestResult
-    ensures { PlaysRequest F.on_disk B.acts B.finds L.does (backend.old, leases.old) request.now result
+    ensures { PlaysRequest F.on_disk B.acts B.finds L.does (backend.old, leases.old) request.now
+        result
         (backend.new, leases.new) }
 {
     let Some(verb) = verb_of(request.head.command) else {
