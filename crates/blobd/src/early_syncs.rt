@@ -33,6 +33,10 @@ impl<'f, 'c, W: Threads> ContentStore for EarlySyncs<'f, 'c, W> {
         true
     }
 
+    fn hashes_sha512(&self) -> bool {
+        self.files.hashes_sha512()
+    }
+
     fn write<'b>(
         &self,
         name: ContentName,

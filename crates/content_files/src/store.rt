@@ -19,6 +19,9 @@ pub trait ContentStore {
     fn is_on_disk(&self) -> bool
         ensures { result ≡ on_disk };
 
+    /// Returns whether contents are hashed by SHA-512 too as they come. A content in a file is not read again for a hash.
+    fn hashes_sha512(&self) -> bool;
+
     /// Writes bytes at an offset. Every byte of the file behind the offset may be lost.
     ///
     /// # Errors
@@ -63,6 +66,10 @@ impl ContentStore for NoFiles {
     ghost on_disk = { false };
 
     fn is_on_disk(&self) -> bool {
+        false
+    }
+
+    fn hashes_sha512(&self) -> bool {
         false
     }
 

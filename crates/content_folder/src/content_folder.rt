@@ -28,6 +28,8 @@ pub struct ContentFolder<'r> {
     rt: &'r HostRuntime,
     path: &'r str,
     tenants: &'r [String],
+    /// Whether contents are hashed by SHA-512 too as they come.
+    sha512: bool,
 }
 
 /// Makes a folder, if it does not exist.
@@ -60,7 +62,20 @@ impl<'r> ContentFolder<'r> {
     ///
     /// `tenants` are the tenants' names in their order. A name is one component of a path.
     pub fn at(rt: &'r HostRuntime, path: &'r str, tenants: &'r [String]) -> ContentFolder<'r> {
-        ContentFolder { rt, path, tenants }
+        ContentFolder {
+            rt,
+            path,
+            tenants,
+            sha512: false,
+        }
+    }
+
+    /// Returns the folder, whose contents are hashed by SHA-512 too as they come, or are not.
+    pub fn with_sha512(self, hashes: bool) -> ContentFolder<'r> {
+        ContentFolder {
+            sha512: hashes,
+            ..self
+        }
     }
 
     /// Opens the folder `path` in the folder `parent`, and makes it and the folder of each tenant that has none.
@@ -246,6 +261,10 @@ impl<'r> ContentStore for ContentFolder<'r> {
         true
     }
 
+    fn hashes_sha512(&self) -> bool {
+        self.sha512
+    }
+
     fn write<'b>(
         &self,
         name: ContentName,
@@ -348,6 +367,10 @@ impl<'f, 'r> ContentStore for WrittenFiles<'f, 'r> {
 
     fn is_on_disk(&self) -> bool {
         true
+    }
+
+    fn hashes_sha512(&self) -> bool {
+        self.folder.sha512
     }
 
     fn write<'b>(

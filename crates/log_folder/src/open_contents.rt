@@ -23,6 +23,10 @@ impl<'c, 'r> ContentStore for OnceWritten<'c, 'r> {
         true
     }
 
+    fn hashes_sha512(&self) -> bool {
+        false
+    }
+
     fn write<'b>(
         &self,
         name: ContentName,
