@@ -11,3 +11,4 @@ pub mod Slices
 pub mod Tenants
 pub mod WordOrder
 pub mod Vouched
+pub mod UploadHashing

@@ -10,7 +10,7 @@ unfolding HashesUpload
 returns-clause-same c =
     let bytes = c.args.bytes.now in
     let n = c.args.self.now.through_sha512 in
-    (c.requires.all.0, omega arith, subst (Holds512 c.update.new.self) (slices_join n bytes ∙ sym (take-length bytes)) (c.update.ensures (take n bytes) c.requires.all.2))
+    (c.requires.all.0, omega arith, subst (Holds512 c.update.new.self) (slices_join n bytes ∙ sym (take-length bytes)) (c.update.ensures (take n bytes) c.requires.all.2), λ _. omega arith)
 
 pub returns-clause-sha512 : goal.returns-clause-sha512
 unfolding HashesUpload
