@@ -23,13 +23,14 @@ pub(crate) enum ContentHash {
 impl ContentHash {
     /// Hashes a content that ends with `chunk`, and of which `front` describes the first `received` bytes.
     ///
-    /// If the content is not in memory, only the chunk is hashed, by SHA-256.
+    /// If the content is not in memory, only the chunk is hashed: by SHA-256, and by SHA-512 too if `both`.
     pub(crate) fn of_content(
         front: &mut Option<UploadHashes>,
         content: &Content,
         chunk: &[u8],
         received: usize,
         hashing: Hashing<'_>,
+        both: bool,
     ) -> ContentHash
         requires within { received ≤ length content.now }
         requires chunk { drop received content.now ≡ chunk.now }
@@ -38,16 +39,19 @@ impl ContentHash {
         ensures all { IsHashOf result content.now }
     {
         match content.bytes() {
-            Some(bytes) => ContentHash::of(front, bytes, received, hashing),
-            None => ContentHash::of_chunk(front, chunk, hashing),
+            Some(bytes) => ContentHash::of(front, bytes, received, hashing, both),
+            None => ContentHash::of_chunk(front, chunk, hashing, both),
         }
     }
 
     /// Hashes a chunk after bytes that `front` describes and that are not in memory.
+    ///
+    /// A close by SHA-512 needs a hash only if `both`: otherwise SHA-512 has not taken in the bytes before.
     pub(crate) fn of_chunk(
         front: &Option<UploadHashes>,
         chunk: &[u8],
         hashing: Hashing<'_>,
+        both: bool,
     ) -> ContentHash
         ensures { IsHashWith result front.now chunk.now }
     {
@@ -55,19 +59,23 @@ impl ContentHash {
             return ContentHash::Missing;
         };
         match hashing {
-            Hashing::Open | Hashing::Last(Algorithm::Sha256) => {
-                ContentHash::All(hashes.updated(chunk))
+            Hashing::Open => ContentHash::All(hashes.updated_by(chunk, both)),
+            Hashing::Last(Algorithm::Sha256) => ContentHash::All(hashes.updated_by(chunk, false)),
+            Hashing::Last(Algorithm::Sha512) if both => {
+                ContentHash::All(hashes.updated_by(chunk, true))
             }
             _ => ContentHash::Missing,
         }
     }
 
-    /// Hashes `bytes`, of which `front` describes the first `received`.
+    /// Hashes `bytes`, of which `front` describes the first `received`. If more chunks can follow and `both`, SHA-512 takes in the
+    /// bytes too.
     pub(crate) fn of(
         front: &mut Option<UploadHashes>,
         bytes: &[u8],
         received: usize,
         hashing: Hashing<'_>,
+        both: bool,
     ) -> ContentHash
         requires within { received ≤ length bytes.now }
         requires front { HashesIfAny front.old (take received bytes.now) }
@@ -76,8 +84,8 @@ impl ContentHash {
     {
         match hashing {
             Hashing::Open => match front {
-                Some(hashes) => ContentHash::All(hashes.updated(&bytes[received..])),
-                None => ContentHash::All(hashes_of(bytes)),
+                Some(hashes) => ContentHash::All(hashes.updated_by(&bytes[received..], both)),
+                None => ContentHash::All(hashes_of(bytes, both)),
             },
             Hashing::Last(algorithm) => {
                 ContentHash::One(digest_after(front, bytes, received, algorithm))
@@ -123,7 +131,7 @@ impl ContentHash {
         match self {
             ContentHash::All(all) => match algorithm {
                 Algorithm::Sha256 => Some(all.sha256()),
-                Algorithm::Sha512 => None,
+                Algorithm::Sha512 => all.sha512(),
             },
             ContentHash::One(found) => {
                 if found.algorithm() != algorithm {

@@ -10,7 +10,7 @@ use blob_digest::{Algorithm, Blob, Digest, UploadHashes};
 /// How the bytes of a session are hashed when its chunk is filled.
 #[derive(Clone, Copy)]
 pub enum Hashing<'b> {
-    /// So that more chunks can follow: the chunk goes through SHA-256.
+    /// So that more chunks can follow: the chunk goes through SHA-256, and through SHA-512 too if the contents' files ask for it.
     Open,
     /// By one algorithm only, for a close that names it.
     Last(Algorithm),
@@ -20,12 +20,12 @@ pub enum Hashing<'b> {
     Later,
 }
 
-/// Hashes bytes, so that more can follow.
-pub(crate) fn hashes_of(bytes: &[u8]) -> UploadHashes
+/// Hashes bytes, so that more can follow: by SHA-256, and by SHA-512 too if `both`.
+pub(crate) fn hashes_of(bytes: &[u8], both: bool) -> UploadHashes
     ensures { HashesUpload result bytes.now }
 {
     let mut hashes = UploadHashes::new();
-    hashes.update(bytes);
+    hashes.update_by(bytes, both);
     hashes
 }
 
@@ -47,7 +47,7 @@ pub(crate) fn digest_after(
     match front {
         Some(hashes) => hashes.digest(bytes, received, algorithm),
         None => {
-            let mut hashes = hashes_of(&bytes[..received]);
+            let mut hashes = hashes_of(&bytes[..received], false);
             let digest = hashes.digest(bytes, received, algorithm);
             *front = Some(hashes);
             digest

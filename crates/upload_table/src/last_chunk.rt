@@ -70,7 +70,7 @@ pub(crate) fn whole_digest(
     }
 }
 
-/// Returns the digest of a content by SHA-256, if `front` describes all of it.
+/// Returns the digest of a content by an algorithm, if `front` describes all of it and the algorithm has taken in all of it.
 ///
 /// `front` describes the first `received` bytes.
 fn digest_of_front(
@@ -90,6 +90,6 @@ fn digest_of_front(
     }
     match algorithm {
         Algorithm::Sha256 => Some(hashes.sha256()),
-        Algorithm::Sha512 => None,
+        Algorithm::Sha512 => hashes.sha512(),
     }
 }

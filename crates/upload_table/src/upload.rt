@@ -172,10 +172,11 @@ pub(crate) fn extend<F: ContentStore>(
 {
     let received = pieces.bytes.len() as usize;
     pieces.lens.reserve(1)?;
+    let both = files.hashes_sha512();
     let unsynced = pieces.bytes.begin(files, home, chunk)?;
     // Bytes that were written to a file may move to the disk while they are hashed.
     let early = match &unsynced {
-        Some(_) => Some(ContentHash::of_chunk(&pieces.hashes, chunk, hashing)),
+        Some(_) => Some(ContentHash::of_chunk(&pieces.hashes, chunk, hashing, both)),
         None => None,
     };
     pieces.bytes.complete(files, home, chunk, unsynced, notes)?;
@@ -187,6 +188,7 @@ pub(crate) fn extend<F: ContentStore>(
             chunk,
             received,
             hashing,
+            both,
         ),
     };
     pieces.whole = Some(whole);
