@@ -49,7 +49,7 @@ pub struct Contents<'c> {
 
 impl<'c> ServedContents<'c> {
     /// Opens the folder `path` of the contents of these tenants, and makes what is missing of it. Messages name it by `data`, the
-    /// folder of the log.
+    /// folder of the log. If `sha512`, contents are hashed by SHA-512 too as they come.
     ///
     /// # Errors
     ///
@@ -59,8 +59,9 @@ impl<'c> ServedContents<'c> {
         data: &'c str,
         path: &'c str,
         tenants: &'c [String],
+        sha512: bool,
     ) -> io::Result<ServedContents<'c>> {
-        let folder = ContentFolder::open(rt, data, path, tenants)?;
+        let folder = ContentFolder::open(rt, data, path, tenants)?.with_sha512(sha512);
         Ok(ServedContents {
             rt: *rt,
             data,
@@ -134,6 +135,10 @@ impl<'c> ContentStore for ServedContents<'c> {
 
     fn is_on_disk(&self) -> bool {
         true
+    }
+
+    fn hashes_sha512(&self) -> bool {
+        self.folder.hashes_sha512()
     }
 
     fn write<'b>(

@@ -1,7 +1,7 @@
 //! Keeps a store, in memory or with a log in a folder, and serves it on connections.
 //!
 //!     blobd --version
-//!     blobd [--data DIR [--sync closes|each|never] [--accept-loss-after BYTE]]
+//!     blobd [--data DIR [--sync closes|each|never] [--accept-loss-after BYTE] [--sha512]]
 //!           SLOTS MAX_BLOB TENANT=QUOTA[,BLOBS[,REPOS,MANIFESTS,UPLOADS]].. [-- IN OUT [IN OUT]..]
 //!
 //! A connection is a pair of files, such as the ends of two pipes. Requests are read from `IN` and replies written to
@@ -160,7 +160,8 @@ fn run_in_folder<'w, W: Threads + Wait + Sync + Copy + Send + 'static>(
 {
     let names = tenant_names(rt.alloc(), &options.store)?;
     let path = contents_path(rt.alloc(), folder)?;
-    let files = match ServedContents::open(rt, how.folder, path.as_str(), names.as_slice()) {
+    let opened = ServedContents::open(rt, how.folder, path.as_str(), names.as_slice(), how.sha512);
+    let files = match opened {
         Ok(files) => files,
         Err(error) => {
             let error = FolderError::of_file("make", FolderFile::Contents, error);

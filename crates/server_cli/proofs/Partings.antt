@@ -51,3 +51,12 @@ first_two (x ∷ y ∷ words) first second many is_first is_second =
 pub first_one : (words : List (String Global)) → 1 ≤ length words → (first : String Global) × (map string_bytes words ≡ string_bytes first ∷ map string_bytes (take (length words - 1) (drop 1 words)))
 first_one [] many = absurd (omega (arith, many))
 first_one (x ∷ words) many = (x, λ i. string_bytes x ∷ map string_bytes (sym (take_all (length (x ∷ words) - 1) words (omega arith)) i))
+
+-- the arguments after the first one are the second one, and the others
+pub after_one : (words : List (String Global)) (second : String Global) → 2 ≤ length words → second ≡ get_or words 1 second
+    → map string_bytes (take (length words - 1) (drop 1 words)) ≡ string_bytes second ∷ map string_bytes (take (length words - 2) (drop 2 words))
+after_one [] second many is_second = absurd (omega (arith, many))
+after_one (x ∷ []) second many is_second = absurd (omega (arith, many))
+after_one (x ∷ y ∷ words) second many is_second =
+    ap (map string_bytes) (take_all (length (x ∷ y ∷ words) - 1) (y ∷ words) (omega arith))
+    ∙ (λ i. string_bytes (sym is_second i) ∷ map string_bytes (sym (take_all (length (x ∷ y ∷ words) - 2) words (omega arith)) i))

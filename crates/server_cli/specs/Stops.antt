@@ -12,7 +12,7 @@ use Rattle.server_cli.specs.declared.stop.Stop.TheVariants.{Usage, File, Memory,
 
 -- the text for wrong arguments
 abbrev pub usage_text : Text
-usage_text = codes "usage: blobd [--data DIR [--sync closes|each|never] [--accept-loss-after BYTE]] SLOTS MAX_BLOB TENANT=QUOTA[,BLOBS[,REPOS,MANIFESTS,UPLOADS]].. [-- IN OUT [IN OUT]..]\n"
+usage_text = codes "usage: blobd [--data DIR [--sync closes|each|never] [--accept-loss-after BYTE] [--sha512]] SLOTS MAX_BLOB TENANT=QUOTA[,BLOBS[,REPOS,MANIFESTS,UPLOADS]].. [-- IN OUT [IN OUT]..]\n"
 
 -- the text that is printed, if it does not depend on the operating system or on the bytes of a log
 abbrev pub stop_text : Stop → Option Text

@@ -2,7 +2,7 @@
 ghost use Rattle.std.specs.Prelude.{◌≡◌, None, Some, MatchOption};
 ghost use Rattle.blob_digest.specs.Ranges.{number_of};
 ghost use Rattle.server_cli.specs.Arguments.{texts_of};
-ghost use Rattle.server_cli.specs.Flags.{AskForLog, IsWithoutFolder, flags_of, flags_shown, next_flag, no_flags, sync_of, with_folder, with_loss, with_sync};
+ghost use Rattle.server_cli.specs.Flags.{AskForLog, IsWithoutFolder, flags_of, flags_shown, next_flag, no_flags, sync_of, with_folder, with_loss, with_sha512, with_sync};
 
 use blob_digest::decimal;
 use blob_store::LogPolicy;
@@ -16,6 +16,8 @@ pub struct LogOptions<'w> {
     pub policy: LogPolicy,
     /// The offset at which a damaged log may be cut.
     pub accepted_loss: Option<u64>,
+    /// Whether contents are hashed by SHA-512 too as they come.
+    pub sha512: bool,
 }
 
 /// The values of the options that were read so far.
@@ -24,6 +26,7 @@ pub struct Flags<'w> {
     folder: Option<&'w str>,
     sync: Option<LogPolicy>,
     loss: Option<u64>,
+    sha512: bool,
 }
 
 /// Returns the policy that a word names.
@@ -50,6 +53,7 @@ impl<'w> Flags<'w> {
             folder: None,
             sync: None,
             loss: None,
+            sha512: false,
         }
     }
 
@@ -98,6 +102,21 @@ impl<'w> Flags<'w> {
         }
     }
 
+    /// Adds that contents are hashed by SHA-512 too. Returns `None` if that is there.
+    fn with_sha512(self) -> Option<Flags<'w>>
+        ensures { MatchOption result (with_sha512 (flags_shown self.entry) ≡ None)
+            (λ f. with_sha512 (flags_shown self.entry) ≡ Some (flags_shown f)) }
+    {
+        if self.sha512 {
+            None
+        } else {
+            Some(Flags {
+                sha512: true,
+                ..self
+            })
+        }
+    }
+
     /// Returns the options of the log. Returns `None` if there is an option and no folder.
     pub fn log(self) -> Option<Option<LogOptions<'w>>>
         ensures { MatchOption result (IsWithoutFolder (flags_shown self.entry))
@@ -108,9 +127,10 @@ impl<'w> Flags<'w> {
                 folder,
                 policy: self.sync.unwrap_or(LogPolicy::Closes),
                 accepted_loss: self.loss,
+                sha512: self.sha512,
             })),
             None => {
-                if self.sync.is_none() && self.loss.is_none() {
+                if self.sync.is_none() && self.loss.is_none() && !self.sha512 {
                     Some(None)
                 } else {
                     None
@@ -120,8 +140,8 @@ impl<'w> Flags<'w> {
     }
 }
 
-/// Reads an option, if the next argument names one, and returns the other arguments. Returns `None` if its value is wrong or
-/// it was there before.
+/// Reads an option, if the next argument names one and is not the last, and returns the other arguments. Returns `None` if its value
+/// is wrong or it was there before.
 fn next_flag<'w>(flags: Flags<'w>, words: &'w [String]) -> Option<(Flags<'w>, &'w [String])>
     ensures { MatchOption result (next_flag (flags_shown flags.entry) (texts_of words.now) ≡ None)
         (λ r. next_flag (flags_shown flags.entry) (texts_of words.now)
@@ -131,6 +151,9 @@ fn next_flag<'w>(flags: Flags<'w>, words: &'w [String]) -> Option<(Flags<'w>, &'
         return Some((flags, words));
     };
     let name = name.as_str();
+    if name == "--sha512" {
+        return Some((flags.with_sha512()?, &words[1..]));
+    }
     let value = value.as_str();
     if name == "--data" {
         return Some((flags.with_folder(value)?, rest));
@@ -151,6 +174,7 @@ pub fn read_flags(words: &[String]) -> Option<(Flags<'_>, &[String])>
         (λ r. flags_of (texts_of words.now) ≡ Some (flags_shown r.0, texts_of r.1.now)) }
 {
     let (flags, words) = next_flag(Flags::none(), words)?;
+    let (flags, words) = next_flag(flags, words)?;
     let (flags, words) = next_flag(flags, words)?;
     next_flag(flags, words)
 }

@@ -149,7 +149,7 @@ impl fmt::Display for StopText<'_, '_> {
     fn fmt<W: fmt::Write>(&self, f: &mut fmt::Formatter<W>) -> fmt::Result {
         match self.stop {
             Stop::Usage => f.write_str(
-                "usage: blobd [--data DIR [--sync closes|each|never] [--accept-loss-after BYTE]] SLOTS MAX_BLOB TENANT=QUOTA[,BLOBS[,REPOS,MANIFESTS,UPLOADS]].. [-- IN OUT [IN OUT]..]\n",
+                "usage: blobd [--data DIR [--sync closes|each|never] [--accept-loss-after BYTE] [--sha512]] SLOTS MAX_BLOB TENANT=QUOTA[,BLOBS[,REPOS,MANIFESTS,UPLOADS]].. [-- IN OUT [IN OUT]..]\n",
             ),
             Stop::File { path, error } => write!(f, "blobd: cannot open {path}: {error}\n"),
             Stop::Memory => f.write_str("blobd: out of memory\n"),
