@@ -10,6 +10,7 @@ from server import INDEX, MANIFEST, manifest_of, serving, sha256, sha512
 PATCH = {"Content-Type": "application/octet-stream"}
 DOCKER = "application/vnd.docker.distribution.manifest.v2+json"
 CONFIG = b"{}"
+MIB = 1 << 20
 
 
 def without_number(name):
@@ -157,6 +158,70 @@ def an_upload_is_resumed_by_its_location():
                     assert server.metric("registryd_uploads") == 0
                     assert client.ask("DELETE", f"/v2/acme/one/blobs/{digest}").status == 202
                     by_signal(server)
+
+
+def with_sha512_an_upload_is_closed_by_either_digest():
+    """A start reads the chunks of open uploads, and hashes them as it was told to, whatever the process before did."""
+    data = random.Random(3).randbytes(3 * MIB + 5)
+    parts = [data[:MIB], data[MIB:MIB + 7], data[MIB + 7:2 * MIB]]
+    last = {**PATCH, "Content-Range": f"{2 * MIB}-{len(data) - 1}"}
+    both = ["--sha512"]
+    for before, after in ((both, both), ([], both), (both, [])):
+        for way in WAYS:
+            with folder() as path:
+                with serving("--data", path, "--sync", "each", *before) as server:
+                    client = server.client()
+                    at = opened(client)
+                    assert [client.ask("PATCH", at, part, PATCH).status for part in parts] == [202] * 3
+                    way(server)
+                with serving("--data", path, "--sync", "each", *after) as server:
+                    client = server.client()
+                    assert client.ask("GET", at)["Range"] == f"0-{2 * MIB - 1}"
+                    digest = sha512(data)
+                    wrong = client.ask("PUT", f"{at}?digest={sha512(data[1:])}", data[2 * MIB:], last)
+                    closed = client.ask("PUT", f"{at}?digest={digest}", data[2 * MIB:], last)
+                    if after:
+                        assert (wrong.status, wrong.code()) == (400, "DIGEST_INVALID"), (way, wrong.status, wrong.body)
+                    else:
+                        for refused in (wrong, closed):
+                            assert (refused.status, refused.code()) == (400, "UNSUPPORTED"), (way, refused.status, refused.body)
+                            assert b"without --sha512" in refused.body, refused.body
+                        digest = sha256(data)
+                        closed = client.ask("PUT", f"{at}?digest={digest}", data[2 * MIB:], last)
+                    assert (closed.status, closed["Docker-Content-Digest"]) == (201, digest), (way, closed.status, closed.body)
+                    assert client.ask("GET", f"/v2/acme/one/blobs/{digest}").body == data
+                    by_signal(server)
+                # What was closed is there, however it was hashed.
+                with serving("--data", path) as server:
+                    assert server.client().ask("GET", f"/v2/acme/one/blobs/{digest}").body == data
+                    by_signal(server)
+
+
+def with_sha512_a_content_in_a_file_is_closed_by_it():
+    data = random.Random(4).randbytes(3 * MIB)
+    with folder() as path, serving("--data", path, "--sha512") as server:
+        client = server.client()
+        at = f"/v2/acme/one/blobs/{sha512(data)}"
+        # In one request, in a PUT after a POST, and in chunks of several lengths, of which the first ones are in memory.
+        assert client.ask("POST", f"/v2/acme/one/blobs/uploads/?digest={sha512(data)}", data, PATCH).status == 201
+        assert client.ask("GET", at).body == data
+        assert client.ask("DELETE", at).status == 202
+        upload = opened(client)
+        assert client.ask("PUT", f"{upload}?digest={sha512(data)}", data, PATCH).status == 201
+        assert client.ask("DELETE", at).status == 202
+        upload, sent = opened(client), 0
+        for length in (1, 10_000, 10_000, MIB, len(data) - MIB - 20_001):
+            answer = client.ask("PATCH", upload, data[sent:sent + length], PATCH)
+            sent += length
+            assert (answer.status, answer["Range"]) == (202, f"0-{sent - 1}")
+        assert client.ask("PUT", f"{upload}?digest={sha512(b'other')}").code() == "DIGEST_INVALID"
+        assert client.ask("PUT", f"{upload}?digest={sha512(data)}").status == 201
+        assert client.ask("GET", at).body == data
+        # The other digest of the same bytes is another blob.
+        assert client.ask("HEAD", f"/v2/acme/one/blobs/{sha256(data)}").status == 404
+        push(client, "acme/one", data)
+        assert client.ask("GET", f"/v2/acme/one/blobs/{sha256(data)}").body == data
+        by_signal(server)
 
 
 def an_upload_whose_chunk_is_lost_goes_on_where_the_store_says():
@@ -533,7 +598,8 @@ def the_folder_is_measured():
 
 def main():
     play("restarts", [
-        what_was_answered_is_there, an_upload_is_resumed_by_its_location,
+        what_was_answered_is_there, an_upload_is_resumed_by_its_location, with_sha512_an_upload_is_closed_by_either_digest,
+        with_sha512_a_content_in_a_file_is_closed_by_it,
         an_upload_whose_chunk_is_lost_goes_on_where_the_store_says, an_upload_expires_after_a_restart, all_open_uploads_are_found,
         a_name_is_made_by_this_registry_alone, a_manifest_without_its_tag_is_found, a_tag_without_its_manifest_is_dropped,
         referrers_are_the_same_after_a_restart, a_database_of_version_1_is_taken_over, an_interrupted_push_of_a_referrer_is_found,

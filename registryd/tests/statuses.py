@@ -206,7 +206,7 @@ def each_program_ends_after_the_other_is_killed():
 
 
 def options_of_a_folder_need_one():
-    for words in (["--sync", "each"], ["--accept-loss-after", "1"], ["--min-free", "1"], ["--data", "x", "--sync", "often"]):
+    for words in (["--sync", "each"], ["--sha512"], ["--accept-loss-after", "1"], ["--min-free", "1"], ["--data", "x", "--sync", "often"]):
         check(ended(*words), 2)
 
 

@@ -75,6 +75,8 @@ pub(crate) struct Registry {
     pub(crate) slots: u32,
     /// The maximum length of a blob, in bytes.
     pub(crate) max_blob: u64,
+    /// Whether the store hashes contents in files by SHA-256 alone.
+    pub(crate) hashes_once: bool,
     /// The limits of each tenant in the store.
     pub(crate) limits: Limits,
     /// The bounds on the manifests and tags of each tenant, as far as they are given.

@@ -235,11 +235,11 @@ async fn take_and_close(
 }
 
 /// Returns the failure of a close that the store refused. Without memory or room for the content, it also refuses a digest by SHA-512 of a
-/// content in a file, of which it has the hash by SHA-256 alone.
+/// content in a file, of which it has the hash by SHA-256 alone if it was started so.
 fn refused_close(call: &Call, refusal: Refusal, digest: &str) -> Fault {
-    let is_unhashed = refusal.reason == Reason::Memory && digest.starts_with("sha512:");
+    let is_unhashed = refusal.reason == Reason::Memory && call.registry.hashes_once && digest.starts_with("sha512:");
     let fault = call.refused(refusal);
-    match is_unhashed && call.registry.folder.is_some() && fault.status() == StatusCode::SERVICE_UNAVAILABLE && !is_short() {
+    match is_unhashed && fault.status() == StatusCode::SERVICE_UNAVAILABLE && !is_short() {
         true => Fault::unhashed(),
         false => fault,
     }

@@ -137,9 +137,9 @@ impl Fault {
             .with_detail(json!({ "free": free, "minimum": min_free }))
     }
 
-    /// The store hashed the content by SHA-256 as it came, wrote it to a file, and does not read it again.
+    /// The store, started without `--sha512`, hashed the content by SHA-256 as it came, wrote it to a file, and does not read it again.
     pub(crate) fn unhashed() -> Fault {
-        let message = "the store has hashed the content by SHA-256 alone: close the upload with its digest by sha256";
+        let message = "the registry runs without --sha512, and has hashed the content by SHA-256 alone: close it by sha256";
         Fault::new(StatusCode::BAD_REQUEST, "UNSUPPORTED", message).with_detail(json!({ "algorithms": ["sha256"] }))
     }
 

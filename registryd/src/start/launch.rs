@@ -233,6 +233,7 @@ pub(crate) async fn start(options: &Options, files: Files, address: SocketAddr) 
         tenants: options.tenant_names(),
         slots: options.slots,
         max_blob: options.max_blob,
+        hashes_once: options.data.is_some() && !options.sha512,
         limits: options.limits(),
         bounds: options.bounds(),
         asked_removal: options.asked_removal(),

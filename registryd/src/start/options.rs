@@ -147,6 +147,9 @@ pub(crate) struct Options {
     /// Decide what is on the disk before a reply [default: closes]
     #[arg(long, value_name = "POLICY", requires = "data")]
     pub(super) sync: Option<SyncPolicy>,
+    /// Hash uploads by SHA-512 too, so that it can close them
+    #[arg(long, requires = "data")]
+    pub(super) sha512: bool,
     /// Cut a damaged log at this byte and start
     #[arg(long, value_name = "BYTE", requires = "data")]
     pub(super) accept_loss_after: Option<u64>,
@@ -404,6 +407,9 @@ impl Options {
         if let Some(byte) = self.accept_loss_after {
             words.extend(["--accept-loss-after".into(), byte.to_string().into()]);
         }
+        if self.sha512 {
+            words.push("--sha512".into());
+        }
         words
     }
 
@@ -490,13 +496,15 @@ mod tests {
         let kept = parsed(&["--data", "/srv/registry", "a=1"]);
         assert_eq!(kept.store_options(), ["--data", "/srv/registry", "--sync", "closes"]);
         assert_eq!((kept.is_durable(), kept.min_free(), kept.reserve()), (true, 64 << 20, 64 << 20));
-        let never = parsed(&["--data", "d", "--sync", "never", "--accept-loss-after", "7", "--min-free", "0", "a=1"]);
-        assert_eq!(never.store_options(), ["--data", "d", "--sync", "never", "--accept-loss-after", "7"]);
+        let words = ["--data", "d", "--sync", "never", "--accept-loss-after", "7", "--sha512", "--min-free", "0", "a=1"];
+        let never = parsed(&words);
+        assert_eq!(never.store_options(), ["--data", "d", "--sync", "never", "--accept-loss-after", "7", "--sha512"]);
         assert_eq!((never.is_durable(), never.min_free()), (false, 0));
         assert_eq!((memory.scrub_pace(), kept.scrub_pace()), (None, Some(DEFAULT_PACE)));
         assert_eq!(parsed(&["--data", "d", "--scrub-mib-s", "0", "a=1"]).scrub_pace(), None);
-        let words: [&[&str]; 6] = [
+        let words: [&[&str]; 7] = [
             &["--sync", "each"],
+            &["--sha512"],
             &["--accept-loss-after", "1"],
             &["--accept-loss"],
             &["--min-free", "1"],
