@@ -335,6 +335,23 @@ def failing_content_calls(room):
             all_there(room, folder, [client])
 
 
+def early_syncs(room):
+    """Tests that a long chunk is synced by a thread too, while it is hashed, and a short one once."""
+    folder, client = room.fresh(), Client("t0", random.Random(1))
+    blobd = room.starts(folder, "--sync", "each", settings=room.traced())
+    (line,) = blobd.opens()
+
+    def syncs():
+        return Trace(room.path / "trace").calls.count(("sync", "contents/t0/1"))
+
+    opens(client, line, bytes_of(1, 20_000))
+    compares("the syncs of a short chunk", syncs(), 1)
+    client.plays(line, client.state.appends(1, bytes_of(2, 300_000)), "each")
+    wait_until("both syncs of a long chunk", lambda: syncs() == 3)
+    ends_well("a program with a long chunk", blobd)
+    all_there(room, folder, [client])
+
+
 def full_contents(room):
     """Tests a full disk, if one can be mounted: contents for which there is no room get `Memory`, and all else goes on."""
     folder, client = room.fresh(), Client("t0", random.Random(1))
