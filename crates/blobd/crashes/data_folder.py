@@ -251,16 +251,17 @@ class Trace:
 
     def unsure_contents(self):
         """Returns what a loss of power may take from the files of contents: the offset in each after which it was changed since its last sync,
-        by its name; and the names that were made or removed since the last sync of the folder that has them, in order."""
-        changed, pending, begun = {}, collections.defaultdict(list), {}
+        by its name; and the names that were made or removed since the last sync of the folder that has them, in order. A sync has what lies in
+        front of the end that the file had when it began: a thread may sync one chunk while the next is written."""
+        changed, pending, begun = collections.defaultdict(list), collections.defaultdict(list), {}
         for call, name, last in self.all_lines:
             if name.startswith("contents"):
                 if call in ("create", "unlink", "mkdir"):
                     pending[name.rpartition("/")[0]].append((call, name))
                 if call in ("create", "write", "cut"):
-                    changed[name] = min(changed.get(name, WORD), int(last))
+                    changed[name].append(int(last))
                 elif call == "sync":
-                    changed.pop(name, None)
+                    changed[name] = [offset for offset in changed[name] if offset >= int(last) > 0]
             elif name.startswith("/"):
                 folder = name[name.index("/contents") + 1:] if "/contents" in name else ""
                 if call == "begin":
@@ -268,7 +269,7 @@ class Trace:
                 elif call == "sync":
                     done = begun.pop(folder, len(pending[folder]))
                     del pending[folder][:done]
-        return changed, [step for steps in pending.values() for step in steps]
+        return {name: min(offsets) for name, offsets in changed.items() if offsets}, [step for steps in pending.values() for step in steps]
 
 
 Reply = collections.namedtuple("Reply", "status first second digest body")
