@@ -161,35 +161,38 @@ def an_upload_is_resumed_by_its_location():
 
 
 def with_sha512_an_upload_is_closed_by_either_digest():
-    """A start reads the chunks of open uploads, and hashes them as it was told to, whatever the process before did."""
+    """A start reads the chunks of open uploads, and hashes them as it was told to, whatever the process before did. One upload is in the
+    log when the process ends, and one in a file."""
     data = random.Random(3).randbytes(3 * MIB + 5)
-    parts = [data[:MIB], data[MIB:MIB + 7], data[MIB + 7:2 * MIB]]
-    last = {**PATCH, "Content-Range": f"{2 * MIB}-{len(data) - 1}"}
     both = ["--sha512"]
     for before, after in ((both, both), ([], both), (both, [])):
         for way in WAYS:
             with folder() as path:
                 with serving("--data", path, "--sync", "each", *before) as server:
                     client = server.client()
-                    at = opened(client)
-                    assert [client.ask("PATCH", at, part, PATCH).status for part in parts] == [202] * 3
+                    uploads = [(opened(client), (3, 10)), (opened(client), (MIB, MIB + 7, 2 * MIB))]
+                    for at, ends in uploads:
+                        for start, end in zip((0, *ends), ends):
+                            assert client.ask("PATCH", at, data[start:end], PATCH).status == 202
                     way(server)
                 with serving("--data", path, "--sync", "each", *after) as server:
                     client = server.client()
-                    assert client.ask("GET", at)["Range"] == f"0-{2 * MIB - 1}"
-                    digest = sha512(data)
-                    wrong = client.ask("PUT", f"{at}?digest={sha512(data[1:])}", data[2 * MIB:], last)
-                    closed = client.ask("PUT", f"{at}?digest={digest}", data[2 * MIB:], last)
-                    if after:
-                        assert (wrong.status, wrong.code()) == (400, "DIGEST_INVALID"), (way, wrong.status, wrong.body)
-                    else:
-                        for refused in (wrong, closed):
-                            assert (refused.status, refused.code()) == (400, "UNSUPPORTED"), (way, refused.status, refused.body)
-                            assert b"without --sha512" in refused.body, refused.body
-                        digest = sha256(data)
-                        closed = client.ask("PUT", f"{at}?digest={digest}", data[2 * MIB:], last)
-                    assert (closed.status, closed["Docker-Content-Digest"]) == (201, digest), (way, closed.status, closed.body)
-                    assert client.ask("GET", f"/v2/acme/one/blobs/{digest}").body == data
+                    for at, (*_, sent) in uploads:
+                        digest, rest = sha512(data), {**PATCH, "Content-Range": f"{sent}-{len(data) - 1}"}
+                        assert client.ask("GET", at)["Range"] == f"0-{sent - 1}"
+                        assert client.ask("PATCH", at, data[sent:], rest).status == 202
+                        wrong = client.ask("PUT", f"{at}?digest={sha512(data[1:])}")
+                        closed = client.ask("PUT", f"{at}?digest={digest}")
+                        if after:
+                            assert (wrong.status, wrong.code()) == (400, "DIGEST_INVALID"), (way, wrong.status, wrong.body)
+                        else:
+                            for refused in (wrong, closed):
+                                assert (refused.status, refused.code()) == (400, "UNSUPPORTED"), (way, refused.status, refused.body)
+                                assert b"without --sha512" in refused.body, refused.body
+                            digest = sha256(data)
+                            closed = client.ask("PUT", f"{at}?digest={digest}")
+                        assert (closed.status, closed["Docker-Content-Digest"]) == (201, digest), (way, closed.status, closed.body)
+                        assert client.ask("GET", f"/v2/acme/one/blobs/{digest}").body == data
                     by_signal(server)
                 # What was closed is there, however it was hashed.
                 with serving("--data", path) as server:
