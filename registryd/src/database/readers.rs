@@ -1,11 +1,11 @@
 //! The connections that read the database. A thread has one for a short look, and others wait if all are in use. A registry without a
-//! folder has one, to a database in memory, which it writes too.
+//! folder has one, to a database in memory, which it writes too. Only the writer's thread writes the database of a folder.
 use crate::database::schema;
 use crate::operation::exit::{end_with, Failure};
 use crate::operation::locks::guard_of;
 use rusqlite::{Connection, ErrorCode, OpenFlags, Transaction};
 use std::path::Path;
-use std::sync::{Condvar, Mutex};
+use std::sync::{Arc, Condvar, Mutex};
 use std::time::Duration;
 use tokio::runtime::{Handle, RuntimeFlavor};
 
@@ -54,21 +54,6 @@ impl Readers {
         readers
     }
 
-    /// Makes a database in memory.
-    ///
-    /// # Panics
-    ///
-    /// Panics if there is no memory for it.
-    pub(crate) fn of_memory() -> Readers {
-        let made = Connection::open_in_memory().and_then(|mut connection| {
-            schema::check_or_make(&mut connection)?;
-            connection.execute_batch("PRAGMA foreign_keys = ON")?;
-            connection.set_prepared_statement_cache_capacity(STATEMENTS);
-            Ok(connection)
-        });
-        Readers { is_in_memory: true, ..Readers::of(vec![made.expect("memory for an empty database")]) }
-    }
-
     fn lend(&self) -> Lent<'_> {
         let mut state = guard_of(self.state.lock());
         loop {
@@ -105,18 +90,6 @@ impl Readers {
         }
     }
 
-    /// Makes changes in a database in memory.
-    pub(crate) fn write<T>(&self, change: impl FnOnce(&Transaction<'_>) -> rusqlite::Result<T>) -> T {
-        let mut lent = self.lend();
-        let connection = lent.connection.as_mut().expect("a connection until it is given back");
-        let made = connection.transaction().and_then(|transaction| {
-            let made = change(&transaction)?;
-            transaction.commit()?;
-            Ok(made)
-        });
-        made.unwrap_or_else(unread)
-    }
-
     /// Takes all connections, after no thread uses one. Looks wait until there are some again.
     pub(super) fn take_all(&self) -> Vec<Connection> {
         let mut state = guard_of(self.state.lock());
@@ -145,6 +118,44 @@ impl Drop for Lent<'_> {
     }
 }
 
+/// A database in memory, which each thread may write.
+pub(crate) struct MemoryRows(Arc<Readers>);
+
+impl MemoryRows {
+    /// Makes an empty database.
+    ///
+    /// # Panics
+    ///
+    /// Panics if there is no memory for it.
+    pub(crate) fn new() -> MemoryRows {
+        let made = Connection::open_in_memory().and_then(|mut connection| {
+            schema::check_or_make(&mut connection)?;
+            connection.execute_batch("PRAGMA foreign_keys = ON")?;
+            connection.set_prepared_statement_cache_capacity(STATEMENTS);
+            Ok(connection)
+        });
+        let readers = Readers::of(vec![made.expect("memory for an empty database")]);
+        MemoryRows(Arc::new(Readers { is_in_memory: true, ..readers }))
+    }
+
+    /// Returns the connection that reads it.
+    pub(crate) fn readers(&self) -> Arc<Readers> {
+        self.0.clone()
+    }
+
+    /// Makes changes.
+    pub(crate) fn write<T>(&self, change: impl FnOnce(&Transaction<'_>) -> rusqlite::Result<T>) -> T {
+        let mut lent = self.0.lend();
+        let connection = lent.connection.as_mut().expect("a connection until it is given back");
+        let made = connection.transaction().and_then(|transaction| {
+            let made = change(&transaction)?;
+            transaction.commit()?;
+            Ok(made)
+        });
+        made.unwrap_or_else(unread)
+    }
+}
+
 /// Returns whether this thread runs requests, which another thread can go on with.
 fn serves_requests() -> bool {
     Handle::try_current().map_or(false, |handle| handle.runtime_flavor() == RuntimeFlavor::MultiThread)
@@ -167,13 +178,15 @@ fn unread<T>(error: rusqlite::Error) -> T {
 /// Opens the connections that read a database.
 pub(super) fn open(path: &Path) -> rusqlite::Result<Vec<Connection>> {
     let processors = std::thread::available_parallelism().map_or(COUNTS.0, usize::from);
-    let open = || {
-        let connection = Connection::open_with_flags(path, FLAGS)?;
-        schema::set_up_reader(&connection, CACHE)?;
-        connection.set_prepared_statement_cache_capacity(STATEMENTS);
-        Ok(connection)
-    };
+    let open = || Connection::open_with_flags(path, FLAGS).and_then(set_up);
     (0..processors.clamp(COUNTS.0, COUNTS.1)).map(|_| open()).collect()
+}
+
+/// Sets up a connection that reads a database. It cannot write it from then on.
+pub(super) fn set_up(connection: Connection) -> rusqlite::Result<Connection> {
+    schema::set_up_reader(&connection, CACHE)?;
+    connection.set_prepared_statement_cache_capacity(STATEMENTS);
+    Ok(connection)
 }
 
 /// Opens a database that nobody writes any more, without its log and without a lock.
@@ -187,7 +200,27 @@ pub(super) fn open_last(path: &Path) -> rusqlite::Result<Connection> {
 mod tests {
     use super::*;
     use std::sync::atomic::{AtomicUsize, Ordering};
-    use std::sync::Arc;
+
+    /// The number of SQLite's steps after which a look has its snapshot of the database.
+    const STEPS_TO_SNAPSHOT: usize = 2;
+
+    impl Readers {
+        /// Leaves one connection, which calls `act` once, during its next look. That look does not see what `act` changes. Its statement has to be
+        /// prepared before, because the steps of a preparation count too.
+        pub(crate) fn act_in_next_look(&self, act: impl FnMut() + Send + 'static) {
+            let connection = self.take_all().pop().expect("a connection");
+            let (act, mut steps) = (Mutex::new(act), 0);
+            let step = move || {
+                steps += 1;
+                if steps == STEPS_TO_SNAPSHOT {
+                    act.lock().unwrap()();
+                }
+                false
+            };
+            connection.progress_handler(1, Some(step));
+            self.put(vec![connection]);
+        }
+    }
 
     fn in_memory(count: usize) -> Readers {
         Readers::of((0..count).map(|_| Connection::open_in_memory().unwrap()).collect())

@@ -221,7 +221,7 @@ impl Database {
             Err(error) => {
                 let connection = Database::open_alone(&self.path)?;
                 match &self.readers {
-                    Some(readers) => readers.put(vec![connection]),
+                    Some(readers) => readers.put(vec![readers::set_up(connection)?]),
                     None => self.connection = connection,
                 }
                 return Err(error);
@@ -290,7 +290,10 @@ impl Database {
     pub(crate) fn readers(&mut self) -> Result<Arc<Readers>, OpenError> {
         let of_sqlite = |error| OpenError::of_sqlite(&self.path, error);
         let connections = match self.is_unwritten {
-            true => vec![std::mem::replace(&mut self.connection, Connection::open_in_memory().map_err(of_sqlite)?)],
+            true => {
+                let alone = std::mem::replace(&mut self.connection, Connection::open_in_memory().map_err(of_sqlite)?);
+                vec![readers::set_up(alone).map_err(of_sqlite)?]
+            }
             false => readers::open(&self.path).map_err(of_sqlite)?,
         };
         Ok(self.readers.insert(Arc::new(Readers::of(connections))).clone())
@@ -747,6 +750,19 @@ mod tests {
     }
 
     #[test]
+    fn readers_cannot_write() {
+        let folder = TestFolder::new();
+        folder.open().commit([put("a", "x/a", Some("v1"))].iter(), &[], 1).unwrap();
+        for has_room in [true, false] {
+            let mut database = if has_room { folder.open() } else { Database::open_without_room(&folder.0, true).unwrap() };
+            let readers = database.readers().unwrap();
+            let deleted = readers.read(|rows| Ok(rows.execute("DELETE FROM tags", [])));
+            assert_eq!(deleted.unwrap_err().sqlite_error_code(), Some(ErrorCode::ReadOnly));
+            database.close().unwrap();
+        }
+    }
+
+    #[test]
     fn a_mark_that_was_not_written_on_a_disk_without_room_is_written_with_the_next_change() {
         let folder = TestFolder::new();
         let mut before = folder.open();
@@ -760,7 +776,8 @@ mod tests {
         database.take().unwrap();
         let readers = database.readers().unwrap();
         assert!(database.commit([put("a", "x/a", Some("v1"))].iter(), &[], 1).is_err());
-        readers.read(|rows| rows.execute_batch("DROP TRIGGER unmarked"));
+        assert!(readers.read(|rows| Ok(rows.execute_batch("DROP TRIGGER unmarked"))).is_err());
+        readers.read(|rows| rows.execute_batch("PRAGMA query_only = OFF; DROP TRIGGER unmarked"));
         assert_eq!(database.commit([put("a", "x/a", Some("v1"))].iter(), &[], 1).unwrap(), Committed::Made);
     }
 

@@ -339,7 +339,7 @@ fn see_numbers(numbers: &mut HashMap<String, UploadNumbers>, batch: &[Waiting]) 
 }
 
 #[cfg(test)]
-mod tests {
+pub(crate) mod tests {
     use super::*;
     use crate::events::event::tests::report;
     use crate::events::receivers::tests::receiver;
@@ -353,7 +353,8 @@ mod tests {
         path
     }
 
-    fn started(folder: &std::path::Path) -> (Arc<Writer>, WriterThread, Arc<ManifestTable>) {
+    /// Starts the thread of a folder's database. Returns it with the writer and the table over the database.
+    pub(crate) fn started(folder: &std::path::Path) -> (Arc<Writer>, WriterThread, Arc<ManifestTable>) {
         let room = Arc::new(DiskRoom::new(folder.to_path_buf(), 0, 0));
         let writer = Writer::new(Commits::new(), Duration::from_secs(60), room, None);
         let mut database = Database::open(folder, true).unwrap();
@@ -362,7 +363,8 @@ mod tests {
         (writer, thread, tags)
     }
 
-    fn put(tag: &str) -> Change {
+    /// Returns the push of a manifest under a tag.
+    pub(crate) fn put(tag: &str) -> Change {
         let (repo, digest) = ("acme/web".to_string(), "sha256:a".to_string());
         let facts = Facts { media_type: "x/a".to_string(), ..Facts::default() };
         Change::PutManifest { repo, digest, facts, tag: Some(tag.to_string()) }

@@ -133,6 +133,7 @@ mod tests {
     use super::*;
     use crate::metadata::bounds::Bounds;
     use crate::metadata::document::Facts;
+    use crate::metadata::memory_table::MemoryTable;
     use crate::metadata::repository::Removal;
 
     const REPO: &str = "acme/web";
@@ -143,8 +144,8 @@ mod tests {
     }
 
     /// Makes a table in which each tag was pushed at a time, and names a manifest of its own.
-    fn table(tags: &[(&str, u64)]) -> ManifestTable {
-        let table = ManifestTable::default();
+    fn table(tags: &[(&str, u64)]) -> MemoryTable {
+        let table = MemoryTable::default();
         for (number, (tag, pushed)) in tags.iter().enumerate() {
             table.put(REPO, &digest(number as u64), Facts::default(), Some(tag), *pushed);
         }

@@ -323,10 +323,11 @@ impl ManifestTable {
 mod tests {
     use super::*;
     use crate::metadata::document::Facts;
+    use crate::metadata::memory_table::MemoryTable;
 
     #[test]
     fn pages_follow_one_another() {
-        let table = ManifestTable::default();
+        let table = MemoryTable::default();
         for tag in ["v3", "v1", "v2"] {
             table.put("acme/web", "sha256:a", Facts::default(), Some(tag), 1);
         }
@@ -342,7 +343,7 @@ mod tests {
 
     #[test]
     fn rows_begin_with_a_prefix() {
-        let table = ManifestTable::default();
+        let table = MemoryTable::default();
         for (number, tag) in ["v1", "v10", "v2", "w"].into_iter().enumerate() {
             table.put("acme/web", "sha256:a", Facts::default(), Some(tag), number as u64);
         }
@@ -371,7 +372,7 @@ mod tests {
 
     #[test]
     fn images_are_neither_indexes_nor_referrers() {
-        let table = ManifestTable::default();
+        let table = MemoryTable::default();
         let facts = |lists: &[&str], subject: Option<&str>| Facts {
             lists: lists.iter().map(|text| text.to_string()).collect(),
             subject: subject.map(str::to_string),
@@ -388,7 +389,7 @@ mod tests {
 
     #[test]
     fn a_page_has_a_bound() {
-        let table = ManifestTable::default();
+        let table = MemoryTable::default();
         for number in 0..=MAX_PAGE {
             table.put("acme/web", "sha256:a", Facts::default(), Some(&format!("v{number:05}")), 1);
         }

@@ -9,7 +9,7 @@
 use crate::database::change::{Change, Done};
 use crate::database::lookups;
 use crate::database::readers::Readers;
-use crate::database::statements::{self, Outcome, UploadChanges};
+use crate::database::statements::Outcome;
 use crate::events::event::Effect;
 use crate::metadata::bounds::Totals;
 use crate::metadata::document::Facts;
@@ -19,7 +19,7 @@ use crate::metadata::pushes::Pushes;
 use crate::metadata::recent_uses::RecentUses;
 use crate::metadata::repository::{Kept, NamedManifest, Removal};
 use crate::metadata::reserved_pushes::Tenant;
-use crate::metadata::tag::{ExpiredTag, Pull, TagTimes};
+use crate::metadata::tag::{Pull, TagTimes};
 use crate::operation::locks::guard_of;
 use std::collections::HashMap;
 use std::sync::{Arc, Mutex};
@@ -45,13 +45,6 @@ pub(crate) struct ManifestTable {
 /// Returns the totals of one manifest.
 fn one(size: u64) -> Totals {
     Totals { manifests: 1, manifest_bytes: size, tags: 0 }
-}
-
-impl Default for ManifestTable {
-    /// Makes a table with a database in memory.
-    fn default() -> ManifestTable {
-        ManifestTable::over(Arc::new(Readers::of_memory()))
-    }
 }
 
 impl ManifestTable {
@@ -93,12 +86,6 @@ impl ManifestTable {
             }
         }
         result
-    }
-
-    /// Makes a change in a database in memory.
-    pub(super) fn make(&self, change: &Change, now: u64) -> Done {
-        let outcome = self.rows.write(|rows| statements::make(rows, change, now, &mut UploadChanges::default()));
-        self.made(change, outcome, now)
     }
 
     /// Notes a change that the rows have from this time on, and returns what it did.
@@ -174,29 +161,6 @@ impl ManifestTable {
     /// Returns the first tag of a manifest that `is_wanted` returns true for.
     pub(crate) fn find_tag_of(&self, repo: &str, digest: &str, is_wanted: impl Fn(&str) -> bool) -> Option<String> {
         self.rows.read(|rows| lookups::tags_of(rows, (repo, digest), 1, &is_wanted)).items.into_iter().next()
-    }
-
-    /// Adds a manifest that the store accepted, and its tag if it was put under one.
-    pub(crate) fn put(&self, repo: &str, digest: &str, facts: Facts, tag: Option<&str>, now: u64) {
-        let (repo, digest) = (repo.to_string(), digest.to_string());
-        self.make(&Change::PutManifest { repo, digest, facts, tag: tag.map(str::to_string) }, now);
-    }
-
-    /// Removes a tag. Returns whether it was there.
-    pub(super) fn remove_tag(&self, repo: &str, tag: &str, now: u64) -> bool {
-        let removed = self.by_tag(repo, tag).map(|_| {
-            let change = Change::RemoveTag { repo: repo.to_string(), tag: tag.to_string() };
-            self.make(&change, now)
-        });
-        removed.map_or(false, |done| done != Done::Removed(Vec::new()))
-    }
-
-    /// Removes tags, but for those that were pushed meanwhile, and returns the names of those that it removed.
-    pub(crate) fn expire_tags(&self, repo: &str, tags: &[ExpiredTag], now: u64) -> Vec<String> {
-        match self.make(&Change::ExpireTags { repo: repo.to_string(), tags: tags.to_vec() }, now) {
-            Done::Removed(names) => names,
-            Done::Nothing | Done::RemovedAll(_) => Vec::new(),
-        }
     }
 
     /// Notes that a client pulled a tag. Returns the pulls that are to be recorded.
@@ -322,6 +286,7 @@ impl ManifestTable {
 mod tests {
     use super::*;
     use crate::metadata::manifest_lists::Overview;
+    use crate::metadata::memory_table::MemoryTable;
     use crate::metadata::tag::RemovedTag;
 
     const TYPE: &str = "application/vnd.oci.image.manifest.v1+json";
@@ -334,7 +299,7 @@ mod tests {
         RemovedTag { name: name.to_string(), times: TagTimes { pushed: 1, pulled: 0 } }
     }
 
-    impl ManifestTable {
+    impl MemoryTable {
         pub(crate) fn add(&self, digest: &str, media_type: &str, tag: Option<&str>) {
             self.put("acme/web", digest, facts(media_type), tag, 1);
         }
@@ -376,20 +341,20 @@ mod tests {
 
     #[test]
     fn a_table_over_rows_has_the_totals_of_their_tenants() {
-        let table = ManifestTable::default();
+        let table = MemoryTable::default();
         for (repo, digest, tag) in
             [("acme/a", "a", Some("v1")), ("acme/b", "a", None), ("acme/b", "b", Some("v1")), ("other", "a", None)]
         {
             table.put(repo, digest, Facts { size: 7, ..facts(TYPE) }, tag, 1);
         }
-        let again = ManifestTable::over(table.rows);
+        let again = ManifestTable::over(table.rows.clone());
         assert_eq!(again.totals("acme"), Totals { manifests: 3, manifest_bytes: 21, tags: 2 });
         assert_eq!((again.totals("other"), again.totals("none")), (one(7), Totals::default()));
     }
 
     #[test]
     fn a_manifests_tags_go_with_it() {
-        let table = ManifestTable::default();
+        let table = MemoryTable::default();
         table.add("sha256:a", "text/a", Some("v1"));
         table.add("sha256:b", "text/b", Some("v2"));
         table.add("sha256:a", "text/a", Some("v3"));
@@ -408,7 +373,7 @@ mod tests {
 
     #[test]
     fn tags_that_were_removed_come_back() {
-        let table = ManifestTable::default();
+        let table = MemoryTable::default();
         for tag in ["v1", "v2", "v3"] {
             table.add("sha256:a", TYPE, Some(tag));
         }
@@ -427,7 +392,7 @@ mod tests {
 
     #[test]
     fn what_holds_a_manifest_is_known() {
-        let table = ManifestTable::default();
+        let table = MemoryTable::default();
         let put = |digest: &str, subject: Option<&str>, lists: &[&str], now| {
             let lists = lists.iter().map(|digest| digest.to_string()).collect();
             let facts = Facts { subject: subject.map(str::to_string), lists, size: 7, ..facts(TYPE) };
@@ -473,7 +438,7 @@ mod tests {
 
     #[test]
     fn a_request_for_a_manifest_is_recorded_once_in_an_hour() {
-        let table = ManifestTable::default();
+        let table = MemoryTable::default();
         table.add("sha256:a", TYPE, None);
         let is_due = |repo: &str, digest: &str, now| !table.touch(repo, digest, now).is_empty();
         let times = (0..4 * TOUCH_RECORDED).step_by(600);
@@ -491,7 +456,7 @@ mod tests {
 
     #[test]
     fn a_manifest_that_is_leaving_is_not_seen() {
-        let table = ManifestTable::default();
+        let table = MemoryTable::default();
         table.add("sha256:a", TYPE, Some("v1"));
         table.add("sha256:b", TYPE, Some("v2"));
         table.begin_removal("acme/web", "sha256:a", Removal::Asked).unwrap();

@@ -6,16 +6,25 @@ use crate::events::queue::Queue;
 use crate::metadata::clock::now;
 use crate::metadata::document::Facts;
 use crate::metadata::manifest_table::ManifestTable;
+use crate::metadata::memory_table::MemoryTable;
 use crate::metadata::pulls::UnrecordedPulls;
 use crate::metadata::repository::{Kept, Removal};
 use crate::metadata::tag::{ExpiredTag, Pull, RemovedTag};
 use std::ops::Deref;
 use std::sync::Arc;
 
-/// The tags, and the writer of the database if there is one.
+/// Where the rows are, with what changes them.
+enum Place {
+    /// In memory. Each request changes them.
+    Memory(MemoryTable),
+    /// In the database. Only its thread changes them.
+    Database(Arc<Writer>),
+}
+
+/// The tags, and where their rows are.
 pub(crate) struct Manifests {
     table: Arc<ManifestTable>,
-    writer: Option<Arc<Writer>>,
+    place: Place,
     pulls: UnrecordedPulls,
     /// The queues of events, if there are receivers.
     queue: Option<Arc<Queue>>,
@@ -33,8 +42,16 @@ impl Deref for Manifests {
 }
 
 impl Manifests {
-    pub(crate) fn new(table: Arc<ManifestTable>, writer: Option<Arc<Writer>>, queue: Option<Arc<Queue>>) -> Manifests {
-        Manifests { table, writer, pulls: UnrecordedPulls::default(), queue }
+    /// Makes the manifests of a registry without a folder.
+    pub(crate) fn in_memory(queue: Option<Arc<Queue>>) -> Manifests {
+        let memory = MemoryTable::default();
+        let table = memory.table.clone();
+        Manifests { table, place: Place::Memory(memory), pulls: UnrecordedPulls::default(), queue }
+    }
+
+    /// Makes the manifests of a database, which this writer changes.
+    pub(crate) fn over(table: Arc<ManifestTable>, writer: Arc<Writer>, queue: Option<Arc<Queue>>) -> Manifests {
+        Manifests { table, place: Place::Database(writer), pulls: UnrecordedPulls::default(), queue }
     }
 
     /// Makes a change of this process alone, and adds its events.
@@ -47,7 +64,7 @@ impl Manifests {
 
     /// Returns whether the manifests and tags survive the end of this program.
     pub(crate) fn is_kept(&self) -> bool {
-        self.writer.is_some()
+        matches!(self.place, Place::Database(_))
     }
 
     /// Adds a manifest that the store accepted, and its tag if it was put under one.
@@ -59,10 +76,10 @@ impl Manifests {
         tag: Option<&str>,
         report: Option<Report>,
     ) -> Result<(), WriteFailure> {
-        let writer = match &self.writer {
-            Some(writer) => writer,
-            None => {
-                self.make(report, || (self.table.put(repo, digest, facts, tag, now()), Effect::Made));
+        let writer = match &self.place {
+            Place::Database(writer) => writer,
+            Place::Memory(table) => {
+                self.make(report, || (table.put(repo, digest, facts, tag, now()), Effect::Made));
                 return Ok(());
             }
         };
@@ -79,27 +96,27 @@ impl Manifests {
 
     /// Makes a change that no request waits for.
     fn note(&self, change: Change) {
-        match &self.writer {
-            Some(writer) => writer.note(change),
-            None => drop(self.table.make(&change, now())),
+        match &self.place {
+            Place::Database(writer) => writer.note(change),
+            Place::Memory(table) => drop(table.make(&change, now())),
         }
     }
 
     /// Records the time, by which the ages of manifests count.
     pub(crate) fn record_time(&self) {
-        if let Some(writer) = &self.writer {
+        if let Place::Database(writer) = &self.place {
             writer.note(Change::KeepTime);
         }
     }
 
     /// Removes a tag. Returns whether it was there.
     pub(crate) async fn remove_tag(&self, repo: &str, tag: &str, report: Option<Report>) -> Result<bool, WriteFailure> {
-        let writer = match &self.writer {
-            // It may be pushed meanwhile. Only the writer's thread changes the database.
-            Some(_) if self.table.by_tag(repo, tag).is_none() => return Ok(false),
-            Some(writer) => writer,
-            None => {
-                return Ok(self.make(report, || match self.table.remove_tag(repo, tag, now()) {
+        let writer = match &self.place {
+            // No change is synced if there is no tag.
+            Place::Database(_) if self.table.by_tag(repo, tag).is_none() => return Ok(false),
+            Place::Database(writer) => writer,
+            Place::Memory(table) => {
+                return Ok(self.make(report, || match table.remove_tag(repo, tag, now()) {
                     true => (true, Effect::Made),
                     false => (false, Effect::Nothing),
                 }));
@@ -134,11 +151,11 @@ impl Manifests {
         tags: Vec<ExpiredTag>,
         report: Option<Report>,
     ) -> Result<Vec<String>, WriteFailure> {
-        let writer = match &self.writer {
-            Some(writer) => writer,
-            None => {
+        let writer = match &self.place {
+            Place::Database(writer) => writer,
+            Place::Memory(table) => {
                 let expire = || {
-                    let removed = self.table.expire_tags(repo, &tags, now());
+                    let removed = table.expire_tags(repo, &tags, now());
                     (removed.clone(), Effect::Tags(removed))
                 };
                 return Ok(self.make(report, expire));
@@ -163,8 +180,8 @@ impl Manifests {
         if let Err(kept) = self.table.begin_removal(repo, digest, removal) {
             return Ok(Err(kept));
         }
-        let writer = match &self.writer {
-            Some(writer) if self.table.is_known(repo, digest) => writer,
+        let writer = match &self.place {
+            Place::Database(writer) if self.table.is_known(repo, digest) => writer,
             _ => return Ok(Ok(RemovedTags(Vec::new()))),
         };
         let change = Change::RemoveManifest { repo: repo.to_string(), digest: digest.to_string() };
@@ -182,20 +199,20 @@ impl Manifests {
 
     /// Removes a manifest that the store has deleted, and records its events if they are not recorded yet.
     pub(crate) async fn finish_removal(&self, repo: &str, digest: &str, report: Option<Report>) -> Result<(), WriteFailure> {
-        match (&self.writer, report) {
-            (Some(writer), report) => {
+        match &self.place {
+            Place::Database(writer) => {
                 self.table.finish_removal(repo, digest);
                 if let Some(report) = report {
                     writer.write_reported(Change::AddEvents, Some(report)).await?;
                 }
             }
-            (None, report) => self.make(report, || {
+            Place::Memory(table) => self.make(report, || {
                 let change = Change::RemoveManifest { repo: repo.to_string(), digest: digest.to_string() };
-                let tags = match self.table.make(&change, now()) {
+                let tags = match table.make(&change, now()) {
                     Done::RemovedAll(tags) => tags.into_iter().map(|tag| tag.name).collect(),
                     Done::Nothing | Done::Removed(_) => Vec::new(),
                 };
-                (self.table.finish_removal(repo, digest), Effect::Tags(tags))
+                (table.finish_removal(repo, digest), Effect::Tags(tags))
             }),
         }
         Ok(())
@@ -209,11 +226,42 @@ impl Manifests {
         tags: RemovedTags,
         report: impl FnOnce(&Facts) -> Option<Report>,
     ) -> Result<(), WriteFailure> {
-        if let (Some(writer), Some((facts, since))) = (&self.writer, self.table.any_facts(repo, digest)) {
+        if let (Place::Database(writer), Some((facts, since))) = (&self.place, self.table.any_facts(repo, digest)) {
             let (report, repo, digest) = (report(&facts), repo.to_string(), digest.to_string());
             writer.write_reported(Change::RestoreManifest { repo, digest, facts, since, tags: tags.0 }, report).await?;
         }
         self.table.end_removal(repo, digest);
         Ok(())
+    }
+}
+
+#[cfg(test)]
+mod tests {
+    use super::*;
+    use crate::database::test_folder::TestFolder;
+    use crate::database::writer::tests::{put, started};
+
+    /// Pushes a tag, and waits until it is visible. No other task of this thread runs meanwhile.
+    fn push(writer: &Arc<Writer>, tag: &str) {
+        let (writer, change) = (writer.clone(), put(tag));
+        let runtime = || tokio::runtime::Builder::new_current_thread().enable_time().build().unwrap();
+        let pushed = std::thread::spawn(move || runtime().block_on(writer.write(change)));
+        assert_eq!(pushed.join().unwrap(), Ok(Done::Nothing));
+    }
+
+    #[tokio::test]
+    async fn a_tag_that_is_pushed_during_the_look_for_it_stays() {
+        let folder = TestFolder::new();
+        let (writer, thread, table) = started(&folder.0);
+        let manifests = Manifests::over(table.clone(), writer.clone(), None);
+        // This prepares the statement of the look.
+        assert_eq!(manifests.remove_tag("acme/web", "v1", None).await, Ok(false));
+        let pushing = writer.clone();
+        table.rows.act_in_next_look(move || push(&pushing, "v1"));
+        assert_eq!(manifests.remove_tag("acme/web", "v1", None).await, Ok(false));
+        assert!(table.by_tag("acme/web", "v1").is_some());
+        assert_eq!(manifests.remove_tag("acme/web", "v1", None).await, Ok(true));
+        assert_eq!(table.by_tag("acme/web", "v1"), None);
+        assert_eq!(writer.end(thread).await, Ok(()));
     }
 }

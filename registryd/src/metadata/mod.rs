@@ -12,6 +12,7 @@ pub(crate) mod manifest_lists;
 pub(crate) mod manifest_table;
 pub(crate) mod manifests;
 pub(crate) mod media_type;
+pub(crate) mod memory_table;
 pub(crate) mod names;
 pub(crate) mod open_uploads;
 mod pulls;

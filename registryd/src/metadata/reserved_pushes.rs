@@ -137,6 +137,7 @@ impl Drop for ReservedPush<'_> {
 mod tests {
     use super::*;
     use crate::metadata::document::Facts;
+    use crate::metadata::memory_table::MemoryTable;
     use crate::metadata::repository::Removal;
     use crate::metadata::tag::TagTimes;
 
@@ -150,7 +151,7 @@ mod tests {
 
     #[test]
     fn totals_are_of_what_a_tenant_has() {
-        let table = ManifestTable::default();
+        let table = MemoryTable::default();
         let acme = || table.totals("acme");
         table.put("acme/web", "sha256:a", of_size(10), Some("v1"), 1);
         table.put("acme/web", "sha256:a", of_size(10), Some("v2"), 1);
@@ -177,7 +178,7 @@ mod tests {
 
     #[test]
     fn pushes_at_the_same_time_exceed_no_bound_together() {
-        let table = ManifestTable::default();
+        let table = MemoryTable::default();
         let bounds = Bounds { manifests: Some(2), manifest_bytes: Some(25), tags: Some(1) };
         let first = table.reserve("acme/web", ("sha256:a", 10), Some("v1"), &bounds).ok().unwrap();
         assert_eq!(table.totals("acme"), totals(1, 10, 1));
@@ -202,7 +203,7 @@ mod tests {
 
     #[test]
     fn a_push_that_fails_leaves_nothing() {
-        let table = ManifestTable::default();
+        let table = MemoryTable::default();
         let none = Bounds { manifests: Some(0), ..Bounds::default() };
         assert!(table.reserve("acme/web", ("sha256:a", 10), Some("v1"), &none).is_err());
         drop(table.reserve("acme/api", ("sha256:a", 10), Some("v1"), &Bounds::default()));
@@ -212,7 +213,7 @@ mod tests {
 
     #[test]
     fn a_push_is_checked_before_its_content_is_read() {
-        let table = ManifestTable::default();
+        let table = MemoryTable::default();
         table.put("acme/web", "sha256:a", of_size(10), Some("v1"), 1);
         let check = |reference, len, bounds: &Bounds| table.check_push("acme/web", reference, len, bounds).is_ok();
         let manifests = Bounds { manifests: Some(1), ..Bounds::default() };

@@ -167,6 +167,7 @@ impl Case<'_> {
 mod tests {
     use super::*;
     use crate::metadata::document::Facts;
+    use crate::metadata::memory_table::MemoryTable;
 
     const REPO: &str = "acme/app";
     const IMAGE: &str = "sha256:a";
@@ -178,7 +179,7 @@ mod tests {
 
     #[test]
     fn candidates_are_a_tag_and_the_newest_referrers() {
-        let table = ManifestTable::default();
+        let table = MemoryTable::default();
         let find = || Candidates::find(&table, REPO, IMAGE);
         assert_eq!(find(), Candidates { digests: Vec::new(), more: false });
         table.put(REPO, "sha256:1", facts(TRIED.artifact_type, Some(IMAGE), 5), None, 10);
@@ -204,7 +205,7 @@ mod tests {
 
     #[test]
     fn candidates_are_bounded() {
-        let table = ManifestTable::default();
+        let table = MemoryTable::default();
         for number in 0..=MOST_TRIED as u64 {
             table.put(REPO, &format!("sha256:{number}"), facts(TRIED.artifact_type, Some(IMAGE), 5), None, number);
         }

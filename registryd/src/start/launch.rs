@@ -112,7 +112,7 @@ async fn recover(store: &Store, mut child: Child, opened: Option<Opened>) -> Res
 struct Tables {
     uploads: OpenUploads,
     repositories: Repositories,
-    manifests: Arc<ManifestTable>,
+    manifests: Manifests,
     loose_blobs: Vec<(String, String)>,
     robots: Robots,
     pulls_since: Option<u64>,
@@ -136,7 +136,7 @@ impl Tables {
             (Some(recovered), Some(writer)) => (recovered, writer),
             _ => {
                 clock::begin(None);
-                let (manifests, loose_blobs) = (Arc::default(), Vec::new());
+                let (manifests, loose_blobs) = (Manifests::in_memory(queue.clone()), Vec::new());
                 let (robots, cached) = (Robots::default(), CachedContents::default());
                 let (pulls_since, moves, database) = (Some(clock::now()), Vec::new(), None);
                 return Ok(Tables {
@@ -160,8 +160,9 @@ impl Tables {
         if let Some(queue) = queue {
             queue.restore(recovered.events);
         }
-        let manifests = Arc::new(recovered.manifests);
-        let thread = writer.start(recovered.database, manifests.clone(), recovered.recorded)?;
+        let table = Arc::new(recovered.manifests);
+        let manifests = Manifests::over(table.clone(), writer.clone(), queue.clone());
+        let thread = writer.start(recovered.database, table, recovered.recorded)?;
         let database = Some((writer.clone(), thread));
         let robots = Robots::new(Some(writer.clone()), recovered.robots, &recovered.moves);
         let cached = CachedContents::new(Some(writer.clone()), recovered.cached);
@@ -244,7 +245,7 @@ pub(crate) async fn start(options: &Options, files: Files, address: SocketAddr) 
         keeps_untagged: options.keep_untagged,
         bounds_by_tenant: bounds_by_tenant(options, &manifests),
         events: receivers.zip(queue.as_ref()).map(recorder),
-        manifests: Manifests::new(manifests, writer, queue),
+        manifests,
         debug: options.debug_scope(),
         draining: Default::default(),
         started: clock::time_of_day(),
