@@ -19,7 +19,7 @@ pub enum ContentError {
     /// The store keeps no files.
     #[error("the store keeps no files")]
     NoFiles,
-    /// The content was cut within a piece, and can no more grow.
+    /// The content was cut within a piece and can no more grow, or `Content::complete` was given bytes of another content.
     #[error("it was cut within a piece")]
     Cut,
     /// These are not the notes of a chunk.

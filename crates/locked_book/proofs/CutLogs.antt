@@ -20,11 +20,12 @@ use Rattle.store_model.specs.Durable.{Agrees, BlobLinked, BlobStored, BlobUnlink
 use Rattle.store_model.specs.Histories.{Step}
 use Rattle.store_model.proofs.Durable.Crashes.{stores_survive_crashes}
 use Rattle.locked_book.specs.CutLogs.{AgreesByNotes, CutLogsRestore, SameLogsRestart, changes_in, logged_in}
+use Rattle.locked_book.specs.Described.{described}
 use Rattle.locked_book.specs.History.{steps_of}
 use Rattle.locked_book.specs.Logging.{has_log, is_noted, logged_change, logged_step}
 use Rattle.locked_book.specs.Names.{StoreNames}
 use Rattle.locked_book.specs.Restoring.{logged_changes, opening_state, records_of}
-use Rattle.locked_book.proofs.Fitting.{Describes, all_described, described, all_fit, history_described}
+use Rattle.locked_book.proofs.Fitting.{Describes, all_described, all_fit, history_described}
 use Rattle.locked_book.proofs.Restoring.{history_records}
 
 steps_of-append : (xs ys : List (Entry Step)) → steps_of (xs ++ ys) ≡ steps_of xs ++ steps_of ys

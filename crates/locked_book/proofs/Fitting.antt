@@ -58,6 +58,7 @@ use Rattle.store_model.proofs.Durable.Crashes.{step_sound}
 use Rattle.store_model.proofs.Durable.Histories.{after_record_tenants, step_agrees}
 use Rattle.store_model.proofs.Invariant.SessionTenants.{session_owner}
 use Rattle.locked_book.specs.CutLogs.{changes_in}
+use Rattle.locked_book.specs.Described.{described, place}
 use Rattle.locked_book.specs.Logging.{is_beyond, is_noted, length_after, logged_change, name_at}
 use Rattle.locked_book.specs.History.{steps_of}
 use Rattle.locked_book.specs.Names.{StoreNames}
@@ -147,28 +148,6 @@ Describes tenants c = IsChange (logged_change tenants false c) × IsChange (logg
 -- the same of a change without a chunk, whose description has no notes
 plain : {A K : Type 0} → A → K → A × A × K
 plain fits keyed = (fits, fits, keyed)
-
--- the place of the tenant with this name
-abbrev place : List Tenant → Text → ℕ
-place tenants name = option_map_or (λ t. t) (position (λ x. same_text x.name name) tenants) 0
-
--- the change that is described
-abbrev pub described : List Tenant → Bool → logged.Change → Change
-described tenants files (logged.SessionOpened repo n) = SessionOpened repo (session_key tenants repo n)
-described tenants files (logged.ChunkReceived tenant n bytes) = ChunkReceived (place tenants tenant, n) (as_kept files bytes)
-described tenants files (logged.SessionSealed tenant n digest last) = SessionSealed (place tenants tenant, n) digest (as_kept files last)
-described tenants files (logged.SessionDropped tenant n) = SessionDropped (place tenants tenant, n)
-described tenants files (logged.BlobLinked repo digest) = BlobLinked repo digest
-described tenants files (logged.BlobUnlinked repo digest) = BlobUnlinked repo digest
-described tenants files (logged.ManifestPut repo bytes) = ManifestPut repo bytes
-described tenants files (logged.ManifestDeleted repo digest) = ManifestDeleted repo digest
-described tenants files (logged.RepoAdded repo) = RepoAdded repo
-described tenants files (logged.RepoRemoved repo) = RepoRemoved repo
-described tenants files (logged.NumberSet tenant n) = NumberSet (place tenants tenant) n
-described tenants files (logged.BlobStored digest bytes) = BlobStored digest (as_kept files bytes)
-described tenants files (logged.ChunkNoted tenant n notes) = ChunkReceived (place tenants tenant, n) (read_notes notes)
-described tenants files (logged.SealNoted tenant n digest notes) = SessionSealed (place tenants tenant, n) digest (read_notes notes)
-described tenants files (logged.BlobNoted tenant n digest notes) = BlobStored digest (read_notes notes)
 
 place_owned : (tenants : List Tenant) (key : SessionNumber) → IsOwned tenants key → place tenants (name_at tenants key.0) ≡ key.0
 place_owned tenants key owned = ap (place tenants) (known_name tenants owned.0 key.0 owned.1) ∙ ap (λ o. option_map_or (λ t. t) o 0) owned.1

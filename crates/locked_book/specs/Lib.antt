@@ -12,3 +12,4 @@ pub mod Recording
 pub mod Durability
 pub mod Restoring
 pub mod CutLogs
+pub mod Described

@@ -5,7 +5,8 @@ ghost use Rattle.log_frames.specs.Heads.{HasNoHead, IsHeadOf};
 
 use crate::cursor::Cursor;
 use crate::sum::{is_sum, sum_words};
-use crate::words::{four_words, three_words, u64_at};
+use crate::words::{four_words, three_words};
+use byte_fields::u64_at;
 
 /// The greatest length of a payload, in bytes.
 pub const MAX_PAYLOAD: u64 = 2_199_023_255_552;

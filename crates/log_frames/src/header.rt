@@ -6,7 +6,8 @@ use crate::cursor::Cursor;
 use crate::fault::ReadFault;
 use crate::fill::fill;
 use crate::sum::{BASIS, is_sum, sum_words};
-use crate::words::{four_words, three_words, u64_at};
+use crate::words::{four_words, three_words};
+use byte_fields::u64_at;
 use std::io::Read;
 
 /// The length of a header, in bytes.

@@ -6,7 +6,7 @@ ghost use Rattle.log_frames.specs.Scans.{Finds, FindsAtFront, FindsIn};
 use crate::fault::ReadFault;
 use crate::fill::gather;
 use crate::head::{FrameHead, read_head};
-use crate::words::u64_at;
+use byte_fields::u64_at;
 use std::io::Read;
 
 /// The number of bytes that are read at a time.

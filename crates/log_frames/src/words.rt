@@ -1,5 +1,5 @@
 //! Numbers of 64 bits as bytes, the low byte first.
-ghost use Rattle.std.specs.Prelude.{◌≡◌, ◌≤◌, ◌++◌, length};
+ghost use Rattle.std.specs.Prelude.{◌≡◌, ◌++◌};
 ghost use Rattle.std.specs.Int.{w64, to_le_bytes};
 
 /// Returns the bytes of three numbers.
@@ -29,16 +29,4 @@ pub fn four_words(a: u64, b: u64, c: u64, d: u64) -> [u8; 32]
         b[7], c[0], c[1], c[2], c[3], c[4], c[5], c[6], c[7], d[0], d[1], d[2], d[3], d[4], d[5],
         d[6], d[7],
     ]
-}
-
-/// Returns the number in the first eight bytes, and the bytes after them.
-pub fn u64_at(bytes: &[u8]) -> (u64, &[u8])
-    requires { 8 ≤ length bytes.now }
-    ensures { bytes.now ≡ to_le_bytes w64 result.0 ++ result.1.now }
-{
-    let (front, rest) = bytes.split_at(8);
-    let number = u64::from_le_bytes([
-        front[0], front[1], front[2], front[3], front[4], front[5], front[6], front[7],
-    ]);
-    (number, rest)
 }

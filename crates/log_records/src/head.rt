@@ -1,10 +1,10 @@
 //! The head of a record.
 ghost use Rattle.std.specs.Prelude.{◌≡◌, ◌≤◌, ◌++◌, length, true, false};
-ghost use Rattle.std.specs.Int.{w16, w32, w64, to_le_bytes};
 ghost use Rattle.log_records.specs.Changes.{max_body};
 ghost use Rattle.log_records.specs.Records.{IsHead, IsPlain, head_bytes, payload_len};
 
 use crate::kind::Kind;
+use byte_fields::{u16_at, u32_at, u64_at};
 
 /// The length of a head, in bytes.
 pub const HEAD_LEN: usize = 24;
@@ -94,37 +94,6 @@ pub fn head_bytes(head: &Head) -> [u8; 24]
         body_len[6],
         body_len[7],
     ]
-}
-
-/// Returns the number in the first two bytes, and the bytes after them.
-fn u16_at(bytes: &[u8]) -> (u16, &[u8])
-    requires { 2 ≤ length bytes.now }
-    ensures { bytes.now ≡ to_le_bytes w16 result.0 ++ result.1.now }
-{
-    let (front, rest) = bytes.split_at(2);
-    (u16::from_le_bytes([front[0], front[1]]), rest)
-}
-
-/// Returns the number in the first four bytes, and the bytes after them.
-fn u32_at(bytes: &[u8]) -> (u32, &[u8])
-    requires { 4 ≤ length bytes.now }
-    ensures { bytes.now ≡ to_le_bytes w32 result.0 ++ result.1.now }
-{
-    let (front, rest) = bytes.split_at(4);
-    let number = u32::from_le_bytes([front[0], front[1], front[2], front[3]]);
-    (number, rest)
-}
-
-/// Returns the number in the first eight bytes, and the bytes after them.
-fn u64_at(bytes: &[u8]) -> (u64, &[u8])
-    requires { 8 ≤ length bytes.now }
-    ensures { bytes.now ≡ to_le_bytes w64 result.0 ++ result.1.now }
-{
-    let (front, rest) = bytes.split_at(8);
-    let number = u64::from_le_bytes([
-        front[0], front[1], front[2], front[3], front[4], front[5], front[6], front[7],
-    ]);
-    (number, rest)
 }
 
 /// Returns the fields of a head's 24 bytes, whatever the bytes are.

@@ -1,6 +1,5 @@
 //! Reads requests.
 ghost use Rattle.std.specs.Prelude.{◌≡◌, ◌≤◌, ◌<◌, ◌++◌, IfOk, IfSome, IsNone, IsErrOf, length, false, true, vec_len};
-ghost use Rattle.std.specs.Int.{w16, w32, w64, to_le_bytes};
 ghost use Rattle.wire_format.specs.Frames.{body_of, digest_of, head_bytes, payload_len, repo_of, source_of};
 ghost use Rattle.wire_format.specs.Connections.{EndsWithin, FailsByRead, HasEnded, IsDroppedFrom, IsPartial, IsReadInto, TakesHead, TakesLongHead};
 ghost use Rattle.wire_format.specs.declared.fault.FrameFault.TheVariants.{CutOff, Malformed};
@@ -9,6 +8,7 @@ ghost use Rattle.watched_reader.specs.Watching.{inner_of};
 
 use crate::fault::FrameFault;
 use crate::fill::{fill, fill_front, skip};
+use byte_fields::{u16_at, u32_at, u64_at};
 use std::io::Read;
 use watched_reader::Watched;
 
@@ -117,37 +117,6 @@ impl<'b> RequestFrame<'b> {
             + usize::from(self.head.source_len);
         &self.payload[start..]
     }
-}
-
-/// Returns the number in the first two bytes, and the bytes after them.
-fn u16_at(bytes: &[u8]) -> (u16, &[u8])
-    requires { 2 ≤ length bytes.now }
-    ensures { bytes.now ≡ to_le_bytes w16 result.0 ++ result.1.now }
-{
-    let (front, rest) = bytes.split_at(2);
-    (u16::from_le_bytes([front[0], front[1]]), rest)
-}
-
-/// Returns the number in the first four bytes, and the bytes after them.
-fn u32_at(bytes: &[u8]) -> (u32, &[u8])
-    requires { 4 ≤ length bytes.now }
-    ensures { bytes.now ≡ to_le_bytes w32 result.0 ++ result.1.now }
-{
-    let (front, rest) = bytes.split_at(4);
-    let number = u32::from_le_bytes([front[0], front[1], front[2], front[3]]);
-    (number, rest)
-}
-
-/// Returns the number in the first eight bytes, and the bytes after them.
-fn u64_at(bytes: &[u8]) -> (u64, &[u8])
-    requires { 8 ≤ length bytes.now }
-    ensures { bytes.now ≡ to_le_bytes w64 result.0 ++ result.1.now }
-{
-    let (front, rest) = bytes.split_at(8);
-    let number = u64::from_le_bytes([
-        front[0], front[1], front[2], front[3], front[4], front[5], front[6], front[7],
-    ]);
-    (number, rest)
 }
 
 /// Decodes a head.
