@@ -149,19 +149,19 @@ Describes tenants c = IsChange (logged_change tenants false c) × IsChange (logg
 plain : {A K : Type 0} → A → K → A × A × K
 plain fits keyed = (fits, fits, keyed)
 
-place_owned : (tenants : List Tenant) (key : SessionNumber) → IsOwned tenants key → place tenants (name_at tenants key.0) ≡ key.0
+pub place_owned : (tenants : List Tenant) (key : SessionNumber) → IsOwned tenants key → place tenants (name_at tenants key.0) ≡ key.0
 place_owned tenants key owned = ap (place tenants) (known_name tenants owned.0 key.0 owned.1) ∙ ap (λ o. option_map_or (λ t. t) o 0) owned.1
 
--- the notes of a short chunk are read as the chunk is kept, if contents may lie in files
-read_kept : (files : Bool) (bytes : Text) → length bytes ≤ 2 ^ 40 → files ≡ true → read_notes (chunk_notes bytes) ≡ as_kept files bytes
-read_kept files bytes short so = notes_are_read_back bytes (omega (arith, short)) ∙ ap (λ f. as_kept f bytes) (sym so)
+-- the notes of a chunk are read as the chunk is kept, if contents may lie in files
+read_kept : (files : Bool) (bytes : Text) → files ≡ true → read_notes (chunk_notes bytes) ≡ as_kept files bytes
+read_kept files bytes so = notes_are_read_back bytes ∙ ap (λ f. as_kept f bytes) (sym so)
 
-described_is : (tenants : List Tenant) (files noted : Bool) (c : Change) → IsKeyed tenants c → (noted ≡ true → files ≡ true) → described tenants files (logged_change tenants noted c) ≡ kept_change files c
+pub described_is : (tenants : List Tenant) (files noted : Bool) (c : Change) → IsKeyed tenants c → (noted ≡ true → files ≡ true) → described tenants files (logged_change tenants noted c) ≡ kept_change files c
 described_is tenants files noted (SessionOpened repo key) keyed so = ap (SessionOpened repo) (sym keyed)
 described_is tenants files false (ChunkReceived key bytes) keyed so = ap (λ t. ChunkReceived (t, key.1) (as_kept files bytes)) (place_owned tenants key keyed.0)
-described_is tenants files true (ChunkReceived key bytes) keyed so = λ i. ChunkReceived (place_owned tenants key keyed.0 i, key.1) (read_kept files bytes keyed.1 (so refl) i)
+described_is tenants files true (ChunkReceived key bytes) keyed so = λ i. ChunkReceived (place_owned tenants key keyed.0 i, key.1) (read_kept files bytes (so refl) i)
 described_is tenants files false (SessionSealed key digest last) keyed so = ap (λ t. SessionSealed (t, key.1) digest (as_kept files last)) (place_owned tenants key keyed.0)
-described_is tenants files true (SessionSealed key digest last) keyed so = λ i. SessionSealed (place_owned tenants key keyed.0 i, key.1) digest (read_kept files last keyed.1 (so refl) i)
+described_is tenants files true (SessionSealed key digest last) keyed so = λ i. SessionSealed (place_owned tenants key keyed.0 i, key.1) digest (read_kept files last (so refl) i)
 described_is tenants files noted (SessionDropped key) keyed so = ap (λ t. SessionDropped (t, key.1)) (place_owned tenants key keyed)
 described_is tenants files noted (BlobLinked repo digest) keyed so = refl
 described_is tenants files noted (BlobUnlinked repo digest) keyed so = refl
@@ -370,7 +370,7 @@ module _ (C : Catalog) (lawful : WellFormed C) where
 abbrev StepFits : List Tenant → Step → Type 0
 StepFits tenants step = IfSome (change_of tenants step) (Describes tenants)
 
-step_fits : (s : State) (step : Step) (X : Catalog) → MayLeadTo s step X → IsWellFormedStep step → WellFormed s.catalog → StepFits s.catalog.tenants step
+pub step_fits : (s : State) (step : Step) (X : Catalog) → MayLeadTo s step X → IsWellFormedStep step → WellFormed s.catalog → StepFits s.catalog.tenants step
 step_fits s (CommandCall command (Ok x)) X leaves right lawful = command_fits s.catalog lawful command x X leaves right
 step_fits s (CommandCall command (Err e)) X leaves right lawful = tt
 step_fits s (SweepCall swept) X leaves right lawful = tt

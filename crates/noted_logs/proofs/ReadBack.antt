@@ -4,7 +4,7 @@ use Rattle.std.specs.Prelude.{drop, take}
 use Rattle.std.specs.Int.{w64, from_le_bytes, to_le_bytes}
 use Rattle.std.specs.List.{flat_map}
 use Rattle.std.proofs.Math.Seq.{drop-append_seam, take-append_seam}
-use Rattle.std.proofs.lemmas.List.{length-drop, take-append-drop}
+use Rattle.std.proofs.lemmas.List.{length-take}
 use Rattle.std.proofs.lemmas.Nat.{from_le_bytes-to_le_bytes_8}
 use Prim.Native.Nat.{zero, suc}
 use Rattle.content_files.specs.Notes.{piece_sum, unread}
@@ -31,14 +31,9 @@ one_read n piece rest short =
     let back : drop 16 (note_bytes piece ++ rest) ≡ rest = drop-append_seam (note_bytes piece) rest in
     (λ i. read_note (front i) ++ read_in n (back i)) ∙ ap (λ p. p ++ read_in n rest) (note_is_read piece short)
 
-front_short : (n : ℕ) (xs : List ℕ) → length (take n xs) ≤ length xs
-front_short n xs = omega (arith, ap length (take-append-drop n xs), length-append (take n xs) (drop n xs))
-
-back_short : (n : ℕ) (xs : List ℕ) → length (drop n xs) ≤ length xs
-back_short n xs = omega (arith, ap length (take-append-drop n xs), length-append (take n xs) (drop n xs))
-
-trans_small : (a b c : ℕ) → a ≤ b → b < c → a < c
-trans_small a b c le small = omega (arith, le, small)
+-- a piece is short
+piece_short : (xs : List ℕ) → length (take 1048576 xs) < 2 ^ 64
+piece_short xs = omega (arith, length-take 1048576 xs)
 
 within_itself : (n : ℕ) → n ≤ n
 within_itself n = omega arith
@@ -57,14 +52,13 @@ piece_read m n piece rest short again within =
     length-append (note_bytes piece) (flat_map note_bytes (cut_in m rest)) in
     one_read n piece (flat_map note_bytes (cut_in m rest)) short ∙ ap (λ l. noted_piece piece ++ l) (again (omega (arith, size, within)))
 
-notes_read : (m n : ℕ) (bytes : List ℕ) → length bytes < 2 ^ 64 → length (flat_map note_bytes (cut_in m bytes)) ≤ n →
+notes_read : (m n : ℕ) (bytes : List ℕ) → length (flat_map note_bytes (cut_in m bytes)) ≤ n →
     read_in n (flat_map note_bytes (cut_in m bytes)) ≡ flat_map noted_piece (cut_in m bytes)
-notes_read zero n bytes short within = none_read n
-notes_read (suc m) n [] short within = none_read n
-notes_read (suc m) zero (b ∷ bytes) short within = absurd (positive (note_bytes (take 1048576 (b ∷ bytes))) (flat_map note_bytes (cut_in m (drop 1048576 (b ∷ bytes)))) refl within)
-notes_read (suc m) (suc n) (b ∷ bytes) short within =
-    piece_read m n (take 1048576 (b ∷ bytes)) (drop 1048576 (b ∷ bytes)) (trans_small _ _ _ (front_short 1048576 (b ∷ bytes)) short)
-    (notes_read m n (drop 1048576 (b ∷ bytes)) (trans_small _ _ _ (back_short 1048576 (b ∷ bytes)) short)) within
+notes_read zero n bytes within = none_read n
+notes_read (suc m) n [] within = none_read n
+notes_read (suc m) zero (b ∷ bytes) within = absurd (positive (note_bytes (take 1048576 (b ∷ bytes))) (flat_map note_bytes (cut_in m (drop 1048576 (b ∷ bytes)))) refl within)
+notes_read (suc m) (suc n) (b ∷ bytes) within =
+    piece_read m n (take 1048576 (b ∷ bytes)) (drop 1048576 (b ∷ bytes)) (piece_short (b ∷ bytes)) (notes_read m n (drop 1048576 (b ∷ bytes))) within
 
 pub notes_are_read_back : NotesAreReadBack
-notes_are_read_back bytes short = notes_read (length bytes) (length (flat_map note_bytes (cut_in (length bytes) bytes))) bytes short (within_itself (length (flat_map note_bytes (cut_in (length bytes) bytes))))
+notes_are_read_back bytes = notes_read (length bytes) (length (flat_map note_bytes (cut_in (length bytes) bytes))) bytes (within_itself (length (flat_map note_bytes (cut_in (length bytes) bytes))))

@@ -1,5 +1,5 @@
 -- The notes of a durable state: its contents with each chunk replaced by what a process knows of it that has not read it.
-use Rattle.std.specs.Prelude.{◌≡◌, ℕ, ◌^◌, ◌<◌, Bool, true, false, List, Option, Some, None, length, map}
+use Rattle.std.specs.Prelude.{◌≡◌, ℕ, Bool, true, false, List, Option, Some, None, map}
 use Rattle.std.specs.Option.{option_map}
 use Rattle.std.specs.List.{concat}
 use Rattle.std.specs.FinMap as fmap
@@ -69,4 +69,4 @@ NotesDetermine = (tenants : List Tenant) (cs ds : List Change) → map noted_cha
 
 -- the notes of a chunk are read as what a process knows of it that has not read it
 abbrev pub NotesAreReadBack : Type 0
-NotesAreReadBack = (bytes : Text) → length bytes < 2 ^ 64 → read_notes (chunk_notes bytes) ≡ noted bytes
+NotesAreReadBack = (bytes : Text) → read_notes (chunk_notes bytes) ≡ noted bytes
