@@ -27,7 +27,7 @@ pub use error::ContentError;
 pub use home::Home;
 pub use name::ContentName;
 pub use note::{reveal_read, sum_of};
-pub use noted_chunk::{noted_len, read_chunk};
+pub use noted_chunk::{noted_len, notes_of, read_chunk};
 pub use pieces::MAX_PIECE;
 pub use store::{ContentStore, NoFiles};
 pub use written::{Unsynced, Written, read_back, write_unsynced};

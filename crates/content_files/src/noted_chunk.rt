@@ -46,8 +46,16 @@ pub fn noted_len(notes: &[u8]) -> Option<u64>
     Some(len)
 }
 
-/// Returns the notes of a chunk's pieces.
-pub(crate) fn notes_of(alloc: Global, bytes: &[u8]) -> Result<Vec<u8>, AllocError>
+/// Returns the notes of a chunk's pieces: for each its length and its sum, 16 bytes. Every piece but the last has a MiB.
+///
+/// # Errors
+///
+/// - if memory runs out.
+///
+/// # Cost
+///
+/// Linear in the chunk's length, and an allocation of the notes' length.
+pub fn notes_of(alloc: Global, bytes: &[u8]) -> Result<Vec<u8>, AllocError>
     ensures { IfOk result (λ v. v.items ≡ chunk_notes bytes.now) }
 {
     let mut notes = Vec::new(alloc);
