@@ -1,14 +1,15 @@
 -- The notes of a chunk, read back.
-use Rattle.std.proofs.Common.{◌≡◌, ◌∙◌, ◌≤◌, ◌<◌, ◌+◌, ◌^◌, ◌%◌, ℕ, List, [], ◌∷◌, ◌++◌, ap, arith, length, length-append, refl}
-use Rattle.std.specs.Prelude.{drop, take}
+use Rattle.std.proofs.Common.{◌≡◌, ◌∙◌, ◌≤◌, ◌<◌, ◌+◌, ◌^◌, ◌%◌, ℕ, List, [], ◌∷◌, ◌++◌, ap, arith, length, length-append, refl, sym}
+use Rattle.std.specs.Prelude.{drop, map, take}
 use Rattle.std.specs.Int.{w64, from_le_bytes, to_le_bytes}
-use Rattle.std.specs.List.{flat_map}
+use Rattle.std.specs.List.{AllByRecursion, concat, flat_map}
 use Rattle.std.proofs.Math.Seq.{drop-append_seam, take-append_seam}
+use Rattle.std.proofs.lemmas.Grind.{flat_map-append}
 use Rattle.std.proofs.lemmas.List.{length-take}
 use Rattle.std.proofs.lemmas.Nat.{from_le_bytes-to_le_bytes_8}
 use Prim.Native.Nat.{zero, suc}
 use Rattle.content_files.specs.Notes.{piece_sum, unread}
-use Rattle.content_files.specs.Chunks.{cut_in, note_bytes, noted_piece, read_in, read_note}
+use Rattle.content_files.specs.Chunks.{chunk_notes, cut_in, note_bytes, noted, noted_piece, pieces_in, read_in, read_note, read_notes}
 use Rattle.noted_logs.specs.Noted.{NotesAreReadBack}
 
 -- a note is read as its piece, unread
@@ -31,10 +32,6 @@ one_read n piece rest short =
     let back : drop 16 (note_bytes piece ++ rest) ≡ rest = drop-append_seam (note_bytes piece) rest in
     (λ i. read_note (front i) ++ read_in n (back i)) ∙ ap (λ p. p ++ read_in n rest) (note_is_read piece short)
 
--- a piece is short
-piece_short : (xs : List ℕ) → length (take 1048576 xs) < 2 ^ 64
-piece_short xs = omega (arith, length-take 1048576 xs)
-
 within_itself : (n : ℕ) → n ≤ n
 within_itself n = omega arith
 
@@ -42,23 +39,51 @@ within_itself n = omega arith
 positive : (note rest : List ℕ) → length note ≡ 16 → length (note ++ rest) ≤ 0 → ⊥
 positive note rest size none = omega (arith, size, none, length-append note rest)
 
--- a piece, and those after it
-piece_read : (m n : ℕ) (piece rest : List ℕ) → length piece < 2 ^ 64 →
-    (length (flat_map note_bytes (cut_in m rest)) ≤ n → read_in n (flat_map note_bytes (cut_in m rest)) ≡ flat_map noted_piece (cut_in m rest)) →
-    length (note_bytes piece ++ flat_map note_bytes (cut_in m rest)) ≤ suc n →
-    read_in (suc n) (note_bytes piece ++ flat_map note_bytes (cut_in m rest)) ≡ noted_piece piece ++ flat_map noted_piece (cut_in m rest)
-piece_read m n piece rest short again within =
-    let size : length (note_bytes piece ++ flat_map note_bytes (cut_in m rest)) ≡ 16 + length (flat_map note_bytes (cut_in m rest)) =
-    length-append (note_bytes piece) (flat_map note_bytes (cut_in m rest)) in
-    one_read n piece (flat_map note_bytes (cut_in m rest)) short ∙ ap (λ l. noted_piece piece ++ l) (again (omega (arith, size, within)))
+-- pieces whose lengths fit into a note
+abbrev AreShort : List (List ℕ) → Type 0
+AreShort pieces = AllByRecursion (λ p. length p < 2 ^ 64) pieces
 
-notes_read : (m n : ℕ) (bytes : List ℕ) → length (flat_map note_bytes (cut_in m bytes)) ≤ n →
-    read_in n (flat_map note_bytes (cut_in m bytes)) ≡ flat_map noted_piece (cut_in m bytes)
-notes_read zero n bytes within = none_read n
-notes_read (suc m) n [] within = none_read n
-notes_read (suc m) zero (b ∷ bytes) within = absurd (positive (note_bytes (take 1048576 (b ∷ bytes))) (flat_map note_bytes (cut_in m (drop 1048576 (b ∷ bytes)))) refl within)
-notes_read (suc m) (suc n) (b ∷ bytes) within =
-    piece_read m n (take 1048576 (b ∷ bytes)) (drop 1048576 (b ∷ bytes)) (piece_short (b ∷ bytes)) (notes_read m n (drop 1048576 (b ∷ bytes))) within
+piece_short : (xs : List ℕ) → length (take 1048576 xs) < 2 ^ 64
+piece_short xs = omega (arith, length-take 1048576 xs)
+
+-- the pieces of a chunk are short
+cut_short : (n : ℕ) (bytes : List ℕ) → AreShort (cut_in n bytes)
+cut_short zero bytes = tt
+cut_short (suc n) [] = tt
+cut_short (suc n) (b ∷ bytes) = (piece_short (b ∷ bytes), cut_short n (drop 1048576 (b ∷ bytes)))
+
+short_both : (pieces others : List (List ℕ)) → AreShort pieces → AreShort others → AreShort (pieces ++ others)
+short_both [] others all more = more
+short_both (p ∷ pieces) others all more = (all.0, short_both pieces others all.1 more)
+
+-- and so are those of several chunks
+pieces_short : (chunks : List (List ℕ)) → AreShort (flat_map pieces_in chunks)
+pieces_short [] = tt
+pieces_short (c ∷ chunks) = short_both (pieces_in c) (flat_map pieces_in chunks) (cut_short (length c) c) (pieces_short chunks)
+
+-- the notes of pieces are read as the pieces, unread
+pieces_read : (n : ℕ) (pieces : List (List ℕ)) → AreShort pieces → length (flat_map note_bytes pieces) ≤ n → read_in n (flat_map note_bytes pieces) ≡ flat_map noted_piece pieces
+pieces_read n [] short within = none_read n
+pieces_read zero (p ∷ pieces) short within = absurd (positive (note_bytes p) (flat_map note_bytes pieces) refl within)
+pieces_read (suc n) (p ∷ pieces) short within =
+    let size : length (note_bytes p ++ flat_map note_bytes pieces) ≡ 16 + length (flat_map note_bytes pieces) = length-append (note_bytes p) (flat_map note_bytes pieces) in
+    one_read n p (flat_map note_bytes pieces) short.0 ∙ ap (λ l. noted_piece p ++ l) (pieces_read n pieces short.1 (omega (arith, size, within)))
+
+all_read : (pieces : List (List ℕ)) → AreShort pieces → read_notes (flat_map note_bytes pieces) ≡ flat_map noted_piece pieces
+all_read pieces short = pieces_read (length (flat_map note_bytes pieces)) pieces short (within_itself (length (flat_map note_bytes pieces)))
 
 pub notes_are_read_back : NotesAreReadBack
-notes_are_read_back bytes = notes_read (length bytes) (length (flat_map note_bytes (cut_in (length bytes) bytes))) bytes (within_itself (length (flat_map note_bytes (cut_in (length bytes) bytes))))
+notes_are_read_back bytes = all_read (pieces_in bytes) (cut_short (length bytes) bytes)
+
+notes_of_chunks : (chunks : List (List ℕ)) → flat_map chunk_notes chunks ≡ flat_map note_bytes (flat_map pieces_in chunks)
+notes_of_chunks [] = refl
+notes_of_chunks (c ∷ chunks) = ap (λ l. chunk_notes c ++ l) (notes_of_chunks chunks) ∙ sym (flat_map-append note_bytes (pieces_in c) (flat_map pieces_in chunks))
+
+chunks_noted : (chunks : List (List ℕ)) → concat (map noted chunks) ≡ flat_map noted_piece (flat_map pieces_in chunks)
+chunks_noted [] = refl
+chunks_noted (c ∷ chunks) = ap (λ l. noted c ++ l) (chunks_noted chunks) ∙ sym (flat_map-append noted_piece (pieces_in c) (flat_map pieces_in chunks))
+
+-- the notes of several chunks are read as these chunks, unread
+pub chunks_are_read_back : (chunks : List (List ℕ)) → read_notes (flat_map chunk_notes chunks) ≡ concat (map noted chunks)
+chunks_are_read_back chunks =
+    ap read_notes (notes_of_chunks chunks) ∙ all_read (flat_map pieces_in chunks) (pieces_short chunks) ∙ sym (chunks_noted chunks)
