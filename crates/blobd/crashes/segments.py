@@ -1,5 +1,7 @@
 """Logs of several files: damage in them, files that are missing or wrong, and crashes while the next one begins."""
+import re
 import shutil
+import struct
 import time
 
 from data_folder import HEADER, WORD, Ended, FolderLog, LogReading, Trace, content_files, data_files, framed, log_files, log_length
@@ -219,24 +221,32 @@ def unsound_rewriting(room):
 
 
 def differing_rewriting(room):
-    """Tests that a base which leaves another state than the files that it was written from does not take their place: when it was written, it
-    gets the first records of the log alone."""
+    """Tests that a base which leaves another state than the files that it was written from does not take their place, nor one whose records
+    are not taken: when it was written, it gets the first records of the log alone, and others."""
     made = Segments(room)
     first = made.files[made.log.paths[0].name]
     begun = [first[frame.place + 32:frame.place + 32 + frame.length] for frame in LogReading(first).frames if frame.length > 0][:2]
-    other = room.path / "other-base"
-    other.write_bytes(framed(made.log.numbers()[-2], begun))
+    name = b"other/one"
+    other, request = room.path / "other-base", made.folder / "rewrite"
+    other.write_bytes(b"")
     blobd = room.starts(made.folder, "--sync", "each", settings={"CRASH_BASE": str(other)}, **made.words)
     blobd.opens()
-    request = made.folder / "rewrite"
-    request.write_bytes(b"")
-    wait_until("the removal of a request", lambda: not request.exists())
-    time.sleep(3.5)  # It waits for a change at two looks.
+    bases = {
+        "the new log has another state": begun,
+        r"/owner-\d+/base\.new: frames that are not whole records": [begun[0], begun[1][:-1]],
+        r"/owner-\d+/base\.new: a tenant that the store does not have": [struct.pack("<IHHQQ", 2, len(name), 0, 1, 0) + name],
+    }
+    for payloads in bases.values():
+        other.write_bytes(framed(made.log.numbers()[-2], payloads))
+        request.write_bytes(b"")
+        wait_until("the removal of a request", lambda: not request.exists())
+        time.sleep(3.5)  # It waits for a change at two looks.
     status, text = blobd.ends()
     compares("the status of a program whose rewriting differs", status, 0)
     number = len(made.log.paths) - 1
-    told = f"blobd: {made.folder}/base.{number} was not written: the new log has another state\n"
-    compares(f"whether {text!r} says that the state differs", told in text, True)
+    for reason in bases:
+        told = rf"blobd: {re.escape(str(made.folder))}/base\.{number} was not written: {reason}\n"
+        compares(f"whether {text!r} has the reason {reason}", re.search(told, text) is not None, True)
     last = made.log.last.name
     compares("the files after a rewriting that differs", {**log_files(made.folder), last: b""} == {**made.files, last: b""}, True)
     found, wanted = made.runs(made.files, made.state)

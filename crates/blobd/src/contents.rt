@@ -82,6 +82,15 @@ impl<'c> ServedContents<'c> {
         self.tenants
     }
 
+    /// Returns a copy of the names of the tenants.
+    pub fn copied_tenants(&self, alloc: Global) -> Result<Vec<String>, AllocError> {
+        let mut names = Vec::with_capacity(alloc, self.tenants.len())?;
+        for tenant in self.tenants {
+            names.push(tenant.clone()?)?;
+        }
+        Ok(names)
+    }
+
     /// Returns the name of a content's file below the folder of the log, for messages.
     pub fn shown(&self, alloc: Global, name: ContentName) -> Result<String, AllocError> {
         let (data, number) = (self.data, name.number);

@@ -94,11 +94,13 @@ pub struct ServedLog<S: Naming> {
 }
 
 /// Returns the files that follow the last one of a folder's log, which has this number and id, and the watch that rewrites the closed ones.
+/// The store's tenants have these names.
 fn following(
     alloc: Global,
     host: HostRuntime,
     folder: &str,
     owner: u64,
+    tenants: Vec<String>,
     outcome: Outcome,
     number: u64,
     id: u64,
@@ -107,7 +109,7 @@ fn following(
 {
     let close = CloseRequest::new(alloc)?;
     let path = String::from_str(alloc, folder)?;
-    let watch = Watch::new(host, path, owner, outcome, close.share()?);
+    let watch = Watch::new(host, path, owner, tenants, outcome, close.share()?);
     let path = String::from_str(alloc, folder)?;
     let next = NextSegments::after(host, path, owner, number, id, close)?;
     Ok((next, watch))
@@ -184,7 +186,8 @@ fn serve_log_parts<
         outcome,
     } = examined;
     let (number, id) = (log.number, log.last.id);
-    let (next, watch) = following(alloc, host, folder, owner, outcome, number, id)?;
+    let tenants = contents.files.copied_tenants(alloc)?;
+    let (next, watch) = following(alloc, host, folder, owner, tenants, outcome, number, id)?;
     let replayed = ReplayedDisk::new(alloc)?;
     let (store, device) = Store::<S>::with_log(parts, replayed);
     let (started, left) = replay_contents(rt, &host, folder, &store, device, log, next, contents)?;

@@ -108,11 +108,12 @@ fn segments_of(log: OpenLog) -> Result<(Vec<Segment>, u64), Stop<'static>> {
     Ok((segments, number))
 }
 
-/// Rewrites a log if it is the time to, and opens it again then.
+/// Rewrites a log of a store with these tenants if it is the time to, and opens it again then.
 fn examined<'w>(
     rt: &HostRuntime,
     folder: &DataFolder<'w>,
     how: LogOptions<'w>,
+    tenants: &[String],
     log: OpenLog,
     when: When,
 ) -> Result<ExaminedLog<'w>, Stop<'w>> {
@@ -122,6 +123,7 @@ fn examined<'w>(
         rt,
         folder.path,
         owner,
+        tenants,
         segments.as_mut_slice(),
         number,
         when,
@@ -160,7 +162,7 @@ fn examined<'w>(
 }
 
 /// Opens the log of a folder, and makes it before if there is none. A torn end is cut off, and if less than half of the log is needed,
-/// it is rewritten.
+/// it is rewritten. The store's tenants have these names, in their order.
 ///
 /// # Errors
 ///
@@ -171,9 +173,10 @@ pub fn open_folder<'w>(
     rt: &HostRuntime,
     folder: &DataFolder<'w>,
     how: LogOptions<'w>,
+    tenants: &[String],
 ) -> Result<ExaminedLog<'w>, Stop<'w>> {
     let log = open_mended(rt, folder, how)?;
-    examined(rt, folder, how, log, When::Wasteful)
+    examined(rt, folder, how, tenants, log, When::Wasteful)
 }
 
 /// Returns the stop for a log that was not converted. Prints the file of a content that cannot be written.
@@ -199,7 +202,7 @@ fn convert_log<'w>(
     log: OpenLog,
     files: &ServedContents<'_>,
 ) -> Result<bool, Stop<'w>> {
-    let examined = examined(rt, folder, how, log, When::Always)?;
+    let examined = examined(rt, folder, how, files.tenants(), log, When::Always)?;
     let (mut segments, number) = segments_of(examined.log)?;
     match convert(
         rt,
@@ -233,7 +236,7 @@ pub fn open_converted<'w>(
         Err(error) => return Err(folder_stop(how.folder, error)),
     };
     if let Some(longest) = longest {
-        let log = open_folder(rt, folder, how)?;
+        let log = open_folder(rt, folder, how, files.tenants())?;
         return Ok((log, longest));
     }
     let log = open_mended(rt, folder, how)?;
@@ -242,7 +245,7 @@ pub fn open_converted<'w>(
             return Err(folder_stop(how.folder, error));
         }
     }
-    let log = open_folder(rt, folder, how)?;
+    let log = open_folder(rt, folder, how, files.tenants())?;
     Ok((log, LONGEST))
 }
 
@@ -315,10 +318,11 @@ fn reopened_smaller<'w>(
     rt: &HostRuntime,
     folder: &DataFolder<'w>,
     how: LogOptions<'w>,
+    tenants: &[String],
     stop: Stop<'w>,
 ) -> Result<ExaminedLog<'w>, Stop<'w>> {
     let log = open_mended(rt, folder, how)?;
-    let log = examined(rt, folder, how, log, When::Always)?;
+    let log = examined(rt, folder, how, tenants, log, When::Always)?;
     match log.outcome {
         Outcome::Rewritten(_) => Ok(log),
         Outcome::Kept(_) => Err(stop),
@@ -333,6 +337,7 @@ fn reopened<'w>(
     rt: &HostRuntime,
     folder: &DataFolder<'w>,
     how: LogOptions<'w>,
+    tenants: &[String],
     stop: Stop<'w>,
 ) -> Result<ExaminedLog<'w>, Stop<'w>> {
     let mending = match &stop {
@@ -341,12 +346,12 @@ fn reopened<'w>(
     };
     if let Some(mending) = mending {
         return match mend(rt, folder, mending) {
-            Ok(()) => open_folder(rt, folder, how),
+            Ok(()) => open_folder(rt, folder, how, tenants),
             Err(error) => Err(folder_stop(how.folder, error)),
         };
     }
     if stop.is_of_settings() {
-        return reopened_smaller(rt, folder, how, stop);
+        return reopened_smaller(rt, folder, how, tenants, stop);
     }
     Err(stop)
 }
@@ -374,7 +379,7 @@ pub fn serve_folder<
     match serve_once(rt, threads, options, how, log, contents, end, lines) {
         Ok(()) => Ok(()),
         Err(stop) => {
-            let log = reopened(rt, folder, how, stop)?;
+            let log = reopened(rt, folder, how, contents.files.tenants(), stop)?;
             serve_once(rt, threads, options, how, log, contents, end, lines)
         }
     }

@@ -9,6 +9,8 @@ use crate::room::{base_length, room_for_base};
 use crate::segment::Segment;
 use log_frames::{Cursor, header_bytes, write_frame};
 use log_rewriting::{Filter, Inventory, LogRewriting, RewriteError, take_inventory};
+use log_state::{Bytes, LogReading, ReadingError};
+use std::alloc::{AllocError, Global};
 use std::fs::File;
 use std::io::{self, BufReader, BufWriter, Seek, SeekFrom, Write};
 use store_replay::FolderFile;
@@ -156,6 +158,69 @@ fn write_base(
     }
 }
 
+/// Returns the names of tenants as a reading takes them.
+fn names_in_bytes(alloc: Global, tenants: &[String]) -> Result<Vec<Bytes>, AllocError> {
+    let mut names = Vec::new(alloc);
+    for tenant in tenants {
+        names.push(Bytes::copy(alloc, tenant.as_bytes())?)?;
+    }
+    Ok(names)
+}
+
+/// Returns the fault of a file whose records were not taken. It has the error with which a read failed.
+fn reading_fault(
+    file: FolderFile,
+    input: &BufReader<Progress<'_, HostRuntime, Noting<&File>>>,
+    error: ReadingError,
+) -> RewriteFault {
+    match error {
+        ReadingError::Failed(kind) => {
+            let error = input.get_ref().input().error(kind);
+            RewriteFault::of_file(file, RewriteError::of_read(error))
+        }
+        error => RewriteFault::of_reading(file, error),
+    }
+}
+
+/// Reads the records of segments. The store's tenants have these names, in their order.
+fn reading_of<'t>(
+    rt: &HostRuntime,
+    folder: &str,
+    tenants: &'t [Bytes],
+    segments: &mut [Segment],
+    buffer: &mut Vec<u8>,
+) -> Result<LogReading<'t>, RewriteFault> {
+    let work = Work::begin(rt, "comparing", length_of(segments));
+    let mut reading = LogReading::new(rt.alloc(), tenants)?;
+    for segment in segments {
+        let (name, id) = (segment.name, segment.id);
+        let mut input = match segment.frames(rt, folder, work) {
+            Ok(input) => input,
+            Err(error) => return Err(RewriteFault::of_file(name, RewriteError::of_read(error))),
+        };
+        reading = match reading.read(&mut input, buffer, id) {
+            Ok(reading) => reading,
+            Err(error) => return Err(reading_fault(name, &input, error)),
+        };
+    }
+    Ok(reading)
+}
+
+/// Returns whether segments and a base leave the same state in a store with these tenants, but for contents without a link.
+fn leave_same_state(
+    rt: &HostRuntime,
+    folder: &str,
+    tenants: &[String],
+    segments: &mut [Segment],
+    base: &mut [Segment],
+    buffer: &mut Vec<u8>,
+) -> Result<bool, RewriteFault> {
+    let names = names_in_bytes(rt.alloc(), tenants)?;
+    let old = reading_of(rt, folder, names.as_slice(), segments, buffer)?;
+    let new = reading_of(rt, folder, names.as_slice(), base, buffer)?;
+    Ok(old.leaves_same_state(&new))
+}
+
 /// Returns whether a base with this number of bytes of records may be written. Prints how much it needs if not.
 fn has_room(rt: &HostRuntime, folder: &str, records: u64) -> bool {
     let (needed, room) = (base_length(records), room_for_base(rt, folder));
@@ -173,6 +238,7 @@ fn rewrite(
     rt: &HostRuntime,
     folder: &str,
     owner: u64,
+    tenants: &[String],
     segments: &mut [Segment],
     when: When,
 ) -> Result<Outcome, RewriteFault> {
@@ -193,9 +259,10 @@ fn rewrite(
         return Ok(Outcome::Kept(was));
     }
     let filter = inventory.filter()?;
+    drop(inventory);
     let mut base = [write_base(rt, folder, owner, &filter, segments, &mut buffer, id)?];
-    let left = inventory_of(rt, folder, &mut base, &mut buffer)?;
-    if !inventory.has_same_state(&left) {
+    drop(filter); // So that memory has either what is needed of the segments, or the states that are compared.
+    if !leave_same_state(rt, folder, tenants, segments, &mut base, &mut buffer)? {
         return Err(RewriteFault::from(RewriteError::Differs));
     }
     let [base] = base;
@@ -228,7 +295,8 @@ pub(crate) fn replace(
 /// Rewrites the segments up to the one with this number, which are closed, into a base, if it is the time to, as this owner. Prints both lengths. If
 /// the base cannot be written, or needs more room than it may take, prints why, and the segments stay as they are.
 ///
-/// The base is synced, and leaves the same state as the segments, before it takes their place. A crash leaves either.
+/// The base is synced, and leaves the same state as the segments in a store with these tenants, before it takes their place. A crash
+/// leaves either. If a session is of another tenant, the segments stay as they are.
 ///
 /// # Errors
 ///
@@ -240,12 +308,13 @@ pub fn compact(
     rt: &HostRuntime,
     folder: &str,
     owner: u64,
+    tenants: &[String],
     segments: &mut [Segment],
     number: u64,
     when: When,
 ) -> Result<Outcome, FolderError> {
     let was = length_of(segments);
-    let outcome = match rewrite(rt, folder, owner, segments, when) {
+    let outcome = match rewrite(rt, folder, owner, tenants, segments, when) {
         Ok(outcome) => outcome,
         Err(error) => {
             let _ = eprint!(rt;

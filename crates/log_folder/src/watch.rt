@@ -29,6 +29,8 @@ pub struct Watch {
     folder: String,
     /// The owner that this process is.
     owner: u64,
+    /// The names of the store's tenants, in their order.
+    tenants: Vec<String>,
     /// The length of the closed segments from which on they are examined, in bytes.
     next: u64,
     /// The number of the last segment when they were last looked at.
@@ -72,12 +74,13 @@ fn open_closed(
 }
 
 impl Watch {
-    /// Begins after the segments of a folder were examined with this outcome, as this owner. It asks by this handle for the end of the
-    /// last segment.
+    /// Begins after the segments of a folder were examined with this outcome, as this owner. The store's tenants have these names, in
+    /// their order. It asks by this handle for the end of the last segment.
     pub fn new(
         rt: HostRuntime,
         folder: String,
         owner: u64,
+        tenants: Vec<String>,
         outcome: Outcome,
         close: CloseRequest,
     ) -> Watch {
@@ -85,6 +88,7 @@ impl Watch {
             rt,
             folder,
             owner,
+            tenants,
             next: next_length(outcome),
             last: 0,
             close,
@@ -134,6 +138,7 @@ impl Watch {
             &self.rt,
             folder,
             owner,
+            self.tenants.as_slice(),
             segments.as_mut_slice(),
             number,
             when,

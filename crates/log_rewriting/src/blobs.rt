@@ -9,7 +9,7 @@ use std::alloc::Global;
 use std::collections::{BTreeMap, BTreeSet};
 
 /// An open session, or the one whose seal made a blob.
-#[derive(Clone, Copy, Debug, PartialEq, Eq)]
+#[derive(Clone, Copy, Debug)]
 pub struct Session {
     /// Number of the session's repository.
     pub repo: usize,
@@ -316,39 +316,6 @@ impl Blobs {
     pub fn keep_as_move(&mut self, key: &BlobKey, offset: u64) -> bool {
         match self.blobs.get_mut(key) {
             Some(blob) => mark_creating(blob.moves.as_mut_slice(), offset),
-            None => false,
-        }
-    }
-
-    /// Returns whether the tenants hold the same blobs, with the same links, and the same sessions sealed their contents last.
-    pub fn is_same(&self, other: &Blobs) -> bool {
-        self.blobs.len() == other.blobs.len()
-            && self
-                .blobs
-                .iter()
-                .all(|(key, blob)| other.has_links(key, &blob.links))
-            && self.last.len() == other.last.len()
-            && self
-                .last
-                .iter()
-                .all(|(digest, last)| other.has_last(digest, last))
-    }
-
-    /// Returns whether the same session sealed a content last.
-    fn has_last(&self, digest: &Digest, last: &LastSeal) -> bool {
-        match self.last.get(digest) {
-            Some(found) => { found.tenant == last.tenant && found.seal.number == last.seal.number }
-            None => false,
-        }
-    }
-
-    /// Returns whether a blob exists with these links.
-    fn has_links(&self, key: &BlobKey, links: &BTreeMap<usize, Link>) -> bool {
-        match self.blobs.get(key) {
-            Some(blob) => {
-                blob.links.len() == links.len()
-                    && links.keys().all(|repo| blob.links.contains_key(repo))
-            }
             None => false,
         }
     }

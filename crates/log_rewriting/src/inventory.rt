@@ -184,30 +184,6 @@ impl Inventory {
         Ok(places)
     }
 
-    /// Returns whether another log leaves the same state: the same repositories, session numbers, links and manifests, the same
-    /// open sessions with records of the same length, and contents in files of the same sessions.
-    ///
-    /// A rewritten log has the state of the old one. A caller can check it before it uses the new log: it notes the changes of the
-    /// new log in a second inventory. Other contents of blobs need no check, because a replay computes their digests.
-    ///
-    /// # Cost
-    ///
-    /// Linear in the repositories, links, manifests and open sessions that exist, times a logarithm.
-    ///
-    /// # Memory
-    ///
-    /// The call does not allocate.
-    pub fn has_same_state(&self, other: &Inventory) -> bool {
-        self.names.is_same(&other.names)
-            && self.sessions == other.sessions
-            && self.blobs.is_same(&other.blobs)
-            && self.manifests.len() == other.manifests.len()
-            && self
-                .manifests
-                .keys()
-                .all(|key| other.manifests.contains_key(key))
-    }
-
     /// Notes a session that was opened.
     fn note_opened(&mut self, name: &[u8], number: u64, offset: u64) -> Result<(), InventoryError> {
         let repo = self.names.appear(self.alloc, name, offset)?;

@@ -10,7 +10,7 @@ use std::alloc::Global;
 use std::collections::BTreeMap;
 
 /// What an inventory knows of a tenant.
-#[derive(Clone, Copy, Debug, PartialEq, Eq)]
+#[derive(Clone, Copy, Debug)]
 pub struct Tenant {
     /// Number of the tenant, in the order of appearance.
     pub id: usize,
@@ -268,27 +268,6 @@ impl Names {
             }
         }
         live
-    }
-
-    /// Returns whether the same repositories exist, in the same order of appearance, and the tenants have the same numbers.
-    pub fn is_same(&self, other: &Names) -> bool {
-        self.is_within(other) && other.is_within(self)
-    }
-
-    /// Returns whether each repository that exists, and each tenant that had a session, is also in the other names.
-    fn is_within(&self, other: &Names) -> bool {
-        self.tenants.iter().all(|(name, tenant)| tenant.next == 1
-            || other.tenant(name.as_slice()) == Some(*tenant))
-            && self.ids.keys().all(|name| other.has(name.as_slice(), self.repo(name.as_slice())))
-    }
-
-    /// Returns whether a repository, if there is one, exists with this name, number and tenant.
-    fn has(&self, name: &[u8], repo: Option<Repo>) -> bool {
-        match (repo, self.repo(name)) {
-            (None, _) => true,
-            (Some(repo), Some(found)) => found.id == repo.id && found.tenant == repo.tenant,
-            (Some(_), None) => false,
-        }
     }
 }
 

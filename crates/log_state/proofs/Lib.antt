@@ -1,0 +1,3 @@
+pub mod Comparisons
+pub mod Records
+pub mod States

@@ -1,0 +1,4 @@
+pub mod Equality
+pub mod LoggedStates
+pub mod Reading
+pub mod Sessions

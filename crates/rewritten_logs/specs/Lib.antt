@@ -1,0 +1,3 @@
+pub mod Linked
+pub mod Rewritten
+pub mod Restarts
