@@ -368,14 +368,16 @@ impl<'t> LogState<'t> {
 
     /// Returns whether both states have the same notes of a content, or both none.
     fn has_same_notes(&self, other: &LogState<'_>, digest: &Digest) -> bool
-        ensures { result ≡ true → HaveSameNotes (state_in self.now) (state_in other.now) digest.now }
+        ensures { result ≡ true → HaveSameNotes (state_in self.now) (state_in other.now)
+            digest.now }
     {
         self.contents.get(digest) == other.contents.get(digest)
     }
 
     /// Returns whether both states have a content in the file of the same session, or both in none.
     fn has_same_home(&self, other: &LogState<'_>, digest: &Digest) -> bool
-        ensures { result ≡ true → HaveSameHome (state_in self.now) (state_in other.now) digest.now }
+        ensures { result ≡ true → HaveSameHome (state_in self.now) (state_in other.now)
+            digest.now }
     {
         self.homes.get(digest) == other.homes.get(digest)
     }

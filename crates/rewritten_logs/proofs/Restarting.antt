@@ -78,8 +78,7 @@ represented_alike : (tenants : List Tenant) (S : LoggedState) (cs ds : List Chan
     HaveSameLinkedNotes (after_changes (initial_durable tenants) ds) (after_changes (initial_durable tenants) cs)
 represented_alike tenants S cs ds r q =
     let D = after_changes (initial_durable tenants) cs in
-    let N = notes_determine tenants cs cs refl in
-    (
+    let N = notes_determine tenants cs cs refl in (
       record (N.0) { contents = mapped read_notes S.contents },
       is_noted_where_linked tenants S D (after_changes (initial_durable tenants) ds) N.0 r q N.1,
       is_noted_where_linked tenants S D D N.0 r r N.1,
@@ -104,7 +103,7 @@ record Stands (tenants : List Tenant) (written files : List ℕ) : Type 0 where
 -- the changes of a part that is represented, and those behind it
 represents_more : (tenants : List Tenant) (ls rs ms : List logged.Change) (cs : List Change) → AreLogsOf tenants (ls ++ ms) cs → AllByRecursion (Describes tenants) cs → LinksKept (initial_durable tenants) cs →
     ((xs : List Change) → AreLogsOf tenants ls xs → AllByRecursion (Describes tenants) xs → LinksKept (initial_durable tenants) xs →
-      Represents tenants (state_after (names_in tenants) rs) (after_changes (initial_durable tenants) xs)) →
+    Represents tenants (state_after (names_in tenants) rs) (after_changes (initial_durable tenants) xs)) →
     Represents tenants (state_after (names_in tenants) (rs ++ ms)) (after_changes (initial_durable tenants) cs)
 represents_more tenants ls rs ms cs are all kept front =
     let s = split_logged tenants ls ms cs are in
@@ -171,7 +170,7 @@ rewritten_logs_restart names history s other replayed t written base rest restor
     let kept_theirs : LinksKept D ds = subst (λ ts. LinksKept (initial_durable ts) (changes_of ts (steps_of replayed))) same_tenants (history_kept other replayed t again) in
     let S = state_after (names_in tenants) theirs in
     let r_theirs : Represents tenants S (after_changes D ds) =
-        represents_all tenants theirs ds _ D (steps_logged other.longest tenants (steps_of replayed)) described_all kept_theirs (represents_new tenants) in
+    represents_all tenants theirs ds _ D (steps_logged other.longest tenants (steps_of replayed)) described_all kept_theirs (represents_new tenants) in
     let mine = take (length first.kept) (logged_in names history) in
     let front = read_behind written rest first.rest st.records mine st.reads first.read in
     let same_rest = one_way rest front.more behind.more first.rest [] front.read behind.read in
@@ -180,7 +179,7 @@ rewritten_logs_restart names history s other replayed t written base rest restor
     let logs_mine : AreLogsOf tenants (st.records ++ front.more) first.kept = subst (λ ls. AreLogsOf tenants ls first.kept) front.both (kept_logged names history (written ++ rest) first) in
     let r_mine = represents_more tenants st.records st.changes front.more first.kept logs_mine (all_first (Describes tenants) first.kept first.lost all_mine) (kept_first first.kept first.lost D links_mine).0 st.represents in
     let r_mine' : Represents tenants S (after_changes D first.kept) =
-        subst (λ ls. Represents tenants (state_after (names_in tenants) ls) (after_changes D first.kept)) (ap (λ ms. st.changes ++ ms) same_rest.0 ∙ sym behind.both) r_mine in
+    subst (λ ls. Represents tenants (state_after (names_in tenants) ls) (after_changes D first.kept)) (ap (λ ms. st.changes ++ ms) same_rest.0 ∙ sym behind.both) r_mine in
     record {
       restores = first;
       agrees = (

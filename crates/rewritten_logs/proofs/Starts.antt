@@ -32,7 +32,7 @@ restarts_rewritten names other was now left written base rest again d logs sees 
       each = λ t leads.
           let again_restored = start.restores.restores t leads in
           let restart = subst (λ (b : List ℕ). IsRewrittenRestart names now.trace.seen b (taken_after_steps fmap.empty (steps_of again.seen)) t) (sym split)
-              (rewritten_logs_restart names now.trace.seen s other again.seen t written base rest restored again_restored logs.logs logs.other_logs logs.tenants stand
-              (subst (λ (b : List ℕ). IsPrefix b (records_of names now.trace.seen)) split begins) records) in
+          (rewritten_logs_restart names now.trace.seen s other again.seen t written base rest restored again_restored logs.logs logs.other_logs logs.tenants stand
+          (subst (λ (b : List ℕ). IsPrefix b (records_of names now.trace.seen)) split begins) records) in
           record { restart = restart; known = restart.restores.complete now.trace.durable survives.known durable };
     }
