@@ -1,5 +1,5 @@
 -- What a start after a crash restores whose log was rewritten.
-use Rattle.std.specs.Prelude.{◌≡◌, ℕ, List}
+use Rattle.std.specs.Prelude.{ℕ, List}
 use Rattle.std.specs.FinMap as fmap
 use Rattle.ghost_log.specs.Entries.{IsPrefix}
 use Rattle.locked_book.specs.CutLogs.{changes_in}

@@ -43,7 +43,9 @@ pub fn reveal_rewritten_restart<W: Wait, S: Naming, D: Disk, T: Naming, E: Disk>
     ensures restarts { RestartsRewritten S.names desk.new.trace left.now
         T.names started.now.desk.trace }
 {
-    let _ = (written, base, rest);
+    let _ = written;
+    let _ = base;
+    let _ = rest;
     started.reveal_start();
     store.reveal_survivors(rt, idle, desk, left)
 }
