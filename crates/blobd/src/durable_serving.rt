@@ -94,19 +94,20 @@ pub struct ServedLog<S: Naming> {
 }
 
 /// Returns the files that follow the last one of a folder's log, which has this number and id, and the watch that rewrites the closed ones.
-/// The store's tenants have these names.
+/// The store's tenants are those of its files.
 fn following(
     alloc: Global,
     host: HostRuntime,
     folder: &str,
     owner: u64,
-    tenants: Vec<String>,
+    files: &ServedContents<'_>,
     outcome: Outcome,
     number: u64,
     id: u64,
 ) -> Result<(NextSegments, Watch), AllocError>
     ensures { IfOk result (λ r. r.0 ≡ starting id) }
 {
+    let tenants = files.copied_tenants(alloc)?;
     let close = CloseRequest::new(alloc)?;
     let path = String::from_str(alloc, folder)?;
     let watch = Watch::new(host, path, owner, tenants, outcome, close.share()?);
@@ -186,8 +187,8 @@ fn serve_log_parts<
         outcome,
     } = examined;
     let (number, id) = (log.number, log.last.id);
-    let tenants = contents.files.copied_tenants(alloc)?;
-    let (next, watch) = following(alloc, host, folder, owner, tenants, outcome, number, id)?;
+    let files = &contents.files;
+    let (next, watch) = following(alloc, host, folder, owner, files, outcome, number, id)?;
     let replayed = ReplayedDisk::new(alloc)?;
     let (store, device) = Store::<S>::with_log(parts, replayed);
     let (started, left) = replay_contents(rt, &host, folder, &store, device, log, next, contents)?;
