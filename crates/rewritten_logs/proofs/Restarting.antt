@@ -26,7 +26,7 @@ use Rattle.locked_book.specs.Restoring.{logged_changes}
 use Rattle.locked_book.proofs.CutLogs.{cut_logs_restore}
 use Rattle.locked_book.proofs.Fitting.{Describes, all_fit, history_described}
 use Rattle.rewritten_logs.specs.Linked.{HaveSameLinkedNotes, IsNotedWhereLinked}
-use Rattle.rewritten_logs.specs.Rewritten.{Replaced, RewrittenLogsRestart, StandFor, Written, names_in}
+use Rattle.rewritten_logs.specs.Rewritten.{Replaced, RewrittenLogsRestart, IsReplacedBy, Written, names_in}
 use Rattle.rewritten_logs.proofs.Aligned.{AreLogsOf, all_first, all_later, read_behind, read_both, split_logged, steps_logged, take_logged}
 use Rattle.rewritten_logs.proofs.Links.{LinksKept, history_kept}
 use Rattle.rewritten_logs.proofs.Notes.{all_noted_alike, get_mapped, mapped}
@@ -84,7 +84,7 @@ represented_alike tenants S cs ds r q =
       is_noted_where_linked tenants S D D N.0 r r N.1,
     )
 
--- ---- files that stand for what was written
+-- ---- files in place of what was written
 
 kept_first : (cs ds : List Change) (D : DurableState) → LinksKept D (cs ++ ds) → LinksKept D cs × LinksKept (after_changes D cs) ds
 kept_first [] ds D kept = (tt, kept)
@@ -92,7 +92,7 @@ kept_first (c ∷ cs) ds D kept = let k = kept_first cs ds (after_change D c) ke
 
 -- The written bytes and the files are whole records. The state that the files leave represents the durable state after the changes that the written
 -- records describe.
-record Stands (tenants : List Tenant) (written files : List ℕ) : Type 0 where
+record Replacement (tenants : List Tenant) (written files : List ℕ) : Type 0 where
   records : List logged.Change
   changes : List logged.Change
   reads : AreChangesIn written records []
@@ -118,16 +118,16 @@ represents_more tenants ls rs ms cs are all kept front =
 whole_reading : (bytes : List ℕ) (cs : List logged.Change) → AllByRecursion logged.IsChange cs → bytes ≡ records_bytes cs ++ [] → AreChangesIn bytes cs []
 whole_reading bytes cs fit whole = record { fit = fit; whole = whole; longest = nothing-no_record }
 
-stands : (tenants : List Tenant) (written files : List ℕ) → StandFor (names_in tenants) written files → Stands tenants written files
-stands tenants written files (Written bytes changes read) = record {
+replacement : (tenants : List Tenant) (written files : List ℕ) → IsReplacedBy (names_in tenants) written files → Replacement tenants written files
+replacement tenants written files (Written bytes changes read) = record {
   records = changes;
   changes = changes;
   reads = read;
   reads_files = read;
   represents = λ cs are all kept. represents_all tenants changes cs (initial_logged (names_in tenants)) (initial_durable tenants) are all kept (represents_new tenants);
 }
-stands tenants written base (Replaced front files more base' before same) =
-    let b = stands tenants front files before in
+replacement tenants written base (Replaced front files more base' before same) =
+    let b = replacement tenants front files before in
     let mine = same.left_by in
     let theirs = same.left_by_others in
     let whole = whole_reading (files ++ more) mine.changes mine.fit mine.whole in
@@ -156,10 +156,10 @@ kept_logged names history bytes k =
     (take_logged tenants n (logged_in names history) (changes_in names history) (steps_logged names.longest tenants (steps_of history)))
 
 pub rewritten_logs_restart : RewrittenLogsRestart
-rewritten_logs_restart names history s other replayed t written base rest restores again some too same_tenants stand of is =
+rewritten_logs_restart names history s other replayed t written base rest restores again some too same_tenants replaced of is =
     let tenants = names.setting.tenants in
     let first = cut_logs_restore names history s (written ++ rest) restores some of in
-    let st = stands tenants written base stand in
+    let st = replacement tenants written base replaced in
     let D = initial_durable tenants in
     let ds = changes_of tenants (steps_of replayed) in
     let theirs = logged_changes other.longest tenants (steps_of replayed) in

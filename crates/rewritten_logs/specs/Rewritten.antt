@@ -21,12 +21,12 @@ use Rattle.store_model.specs.Histories.{State, Step}
 abbrev pub names_in : List Tenant → List Text
 names_in tenants = map (λ t. t.name) tenants
 
--- The bytes of some closed files stand for the first bytes of what a store wrote, whole records: they are these bytes; or a base that leaves the same
--- state as the files did, which already stood for some bytes, with the files that were closed after them.
-pub data StandFor (names : List Text) : List ℕ → List ℕ → Type 0 where
-  Written : (bytes : List ℕ) (changes : List Change) → AreChangesIn bytes changes [] → StandFor names bytes bytes
-  Replaced : (written files more base : List ℕ) → StandFor names written files → LeaveSameState names (files ++ more) base →
-      StandFor names (written ++ more) base
+-- Closed files replace the first bytes of what a store wrote, which are whole records. Either they are these bytes, or they are a base: it leaves the
+-- same state as some files, of which the first replace written bytes, and the others were closed after them.
+pub data IsReplacedBy (names : List Text) : List ℕ → List ℕ → Type 0 where
+  Written : (bytes : List ℕ) (changes : List Change) → AreChangesIn bytes changes [] → IsReplacedBy names bytes bytes
+  Replaced : (written files more base : List ℕ) → IsReplacedBy names written files → LeaveSameState names (files ++ more) base →
+      IsReplacedBy names (written ++ more) base
 
 -- A store restores first steps of a history, as its log was rewritten: the bytes are first bytes of what the store of the history wrote.
 pub record IsRewrittenRestart (names : StoreNames) (history : List (Entry Step)) (bytes : List ℕ) (taken : TakenChunks) (s : State) : Type 0 where
@@ -34,11 +34,11 @@ pub record IsRewrittenRestart (names : StoreNames) (history : List (Entry Step))
   pub agrees : AgreesByLinkedNotes taken (after_changes (opening_state names) restores.kept) s.catalog
 
 -- A store of the same tenants has the durable state of another one after some first steps, up to notes, if its log is the other's first bytes with a base
--- in place of those for which the base stands.
+-- that replaces some of them.
 abbrev pub RewrittenLogsRestart : Type 0
 RewrittenLogsRestart = (names : StoreNames) (history : List (Entry Step)) (s : State) (other : StoreNames) (replayed : List (Entry Step)) (t : State)
     (written base rest : List ℕ) → IsRestorable names history s → IsRestorable other replayed t →
     has_log names.policy ≡ true → has_log other.policy ≡ true → other.setting.tenants ≡ names.setting.tenants →
-    StandFor (names_in names.setting.tenants) written base → IsPrefix (written ++ rest) (records_of names history) →
+    IsReplacedBy (names_in names.setting.tenants) written base → IsPrefix (written ++ rest) (records_of names history) →
     records_of other replayed ≡ base ++ rest →
     IsRewrittenRestart names history (written ++ rest) (taken_after_steps fmap.empty (steps_of replayed)) t
