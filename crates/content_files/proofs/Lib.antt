@@ -3,3 +3,4 @@ pub mod Parts
 pub mod Chunks
 pub mod FirstNotes
 pub mod Held
+pub mod LocatedNotes

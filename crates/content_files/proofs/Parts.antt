@@ -32,7 +32,7 @@ as_long (p ∷ ps) [] r = absurd r
 as_long (p ∷ ps) (g ∷ gs) r = omega (arith, ap (λ (x : PieceNote). x.len) r.0, as_long ps gs r.1, length-append p (joined ps), length-append g (joined gs))
 
 -- a part of the middle
-between_middle : (front middle back : List ℕ) (start end : ℕ) → length front ≤ start → start ≤ end → end ≤ length front + length middle →
+pub between_middle : (front middle back : List ℕ) (start end : ℕ) → length front ≤ start → start ≤ end → end ≤ length front + length middle →
     between (front ++ (middle ++ back)) start end ≡ take (end - start) (drop (start - length front) middle)
 between_middle front middle back start end from ordered to =
     let skipped : ℕ = start - length front in
@@ -43,7 +43,7 @@ between_middle front middle back start end from ordered to =
     ∙ take-append-le (end - start) (drop skipped middle) back left
 
 -- some pieces, those in the middle, and the others
-joined_parts : (a b c : List (List ℕ)) → joined (a ++ (b ++ c)) ≡ joined a ++ (joined b ++ joined c)
+pub joined_parts : (a b c : List (List ℕ)) → joined (a ++ (b ++ c)) ≡ joined a ++ (joined b ++ joined c)
 joined_parts a b c = flat_map-append (λ p. p) a (b ++ c) ∙ ap (λ l. joined a ++ l) (flat_map-append (λ p. p) b c)
 
 -- what was read of the pieces is a part of the content that they are
@@ -62,7 +62,7 @@ part_of_pieces pieces start end part ordered r =
     )
 
 -- a content that ends where a piece does is the pieces before
-cut_between : (pieces : List (List ℕ)) (len count : ℕ) → len ≡ length (joined (take count pieces)) → take len (joined pieces) ≡ joined (take count pieces)
+pub cut_between : (pieces : List (List ℕ)) (len count : ℕ) → len ≡ length (joined (take count pieces)) → take len (joined pieces) ≡ joined (take count pieces)
 cut_between pieces len count is =
     ap (λ n. take n (joined pieces)) is
     ∙ ap (take (length (joined (take count pieces)))) (ap joined (sym (take-append-drop count pieces)) ∙ flat_map-append (λ p. p) (take count pieces) (drop count pieces))

@@ -2,6 +2,7 @@
 
 ghost use Rattle.std.specs.Prelude.{◌≡◌, ◌<◌, ◌++◌, length, take, IfOk, IfSome, OnErr, OnOk, [], false, true};
 ghost use Rattle.content_files.specs.Chunks.{chunk_notes, is_in_file, read_notes};
+ghost use Rattle.content_files.specs.LocatedNotes.{AreNotesBetween};
 ghost use Rattle.content_files.specs.Notes.{is_read};
 ghost use Rattle.content_files.specs.Parts.{IsPart};
 ghost use Rattle.content_files.specs.Places.{content_shown};
@@ -9,6 +10,7 @@ ghost use Rattle.content_files.specs.Places.{content_shown};
 use crate::disk_content::DiskContent;
 use crate::error::ContentError;
 use crate::home::Home;
+use crate::located::Located;
 use crate::name::ContentName;
 use crate::note::reveal_read;
 use crate::pieces::part_of;
@@ -301,6 +303,34 @@ impl Content {
                 part_of(alloc, bytes.as_slice(), start, end)
             }
             Place::OnDisk(content) => content.read_between(files, alloc, start, end),
+        }
+    }
+
+    /// Returns where the bytes from `start` to before `end` lie in the content's file, with the notes of the pieces that have them, for
+    /// a reader that opens the file itself. Returns `None` if the content is in memory.
+    ///
+    /// # Errors
+    ///
+    /// - `Fault`: the content ends before `end`.
+    /// - `Cut`: the content was cut within a piece.
+    /// - `Memory`
+    ///
+    /// # Cost
+    ///
+    /// As of `DiskContent::located`: 16 bytes of memory for each piece. It reads no file.
+    pub fn located(
+        &self,
+        alloc: Global,
+        start: u64,
+        end: u64,
+    ) -> Result<Option<Located>, ContentError>
+        requires { start < end }
+        ensures { IfOk result (λ o. IfSome o (λ l. AreNotesBetween self.now start end l.offset
+            l.notes.items)) }
+    {
+        match &self.place {
+            Place::Resident(_) => Ok(None),
+            Place::OnDisk(content) => Ok(Some(content.located(alloc, start, end)?)),
         }
     }
 }

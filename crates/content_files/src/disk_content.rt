@@ -3,12 +3,14 @@
 ghost use Rattle.std.specs.Prelude.{◌≡◌, ◌++◌, ◌<◌, IfErr, IfOk, OnOk, OnErr, false, length, take, true};
 ghost use Rattle.content_files.specs.Chunks.{chunk_notes, read_notes};
 ghost use Rattle.content_files.specs.Held.{first_noted, first_within};
+ghost use Rattle.content_files.specs.LocatedNotes.{AreNotesBetween};
 ghost use Rattle.content_files.specs.Notes.{is_read};
 ghost use Rattle.content_files.specs.Parts.{IsPart};
 
 use crate::error::ContentError;
+use crate::located::Located;
 use crate::name::ContentName;
-use crate::note::reveal_read;
+use crate::note::{Note, reveal_read};
 use crate::pieces::{Pieces, part_of};
 use crate::store::ContentStore;
 use crate::written::Unsynced;
@@ -375,6 +377,60 @@ impl DiskContent {
         let others = self.pieces.read_between(files, alloc, rest, 0, end - base)?;
         bytes.extend_from_slice(others.as_slice())?;
         Ok(bytes)
+    }
+
+    /// Returns where the bytes from `start` to before `end` lie in the file, with the notes of the pieces that have them. The first
+    /// bytes are in the file too, as one piece.
+    ///
+    /// # Errors
+    ///
+    /// - `Fault`: the content ends before `end`.
+    /// - `Cut`: the content was cut within its first bytes or a piece.
+    /// - `Memory`
+    ///
+    /// # Cost
+    ///
+    /// One step for each piece before them, or for each piece if the content was cut. An allocation of 16 bytes for each piece.
+    /// The first bytes are summed. It reads no file.
+    pub fn located(&self, alloc: Global, start: u64, end: u64) -> Result<Located, ContentError>
+        requires { start < end }
+        ensures { IfOk result (λ l. AreNotesBetween self.now start end l.offset l.notes.items) }
+    {
+        let base = self.front.len() as u64;
+        if end > self.len {
+            return Err(ContentError::Fault);
+        }
+        let Some(rest) = self.len.checked_sub(base) else {
+            return Err(ContentError::Cut);
+        };
+        let name = self.name();
+        if base <= start {
+            let (begin, notes) = self
+                .pieces
+                .notes_between(alloc, rest, start - base, end - base)?;
+            return Ok(Located {
+                name,
+                offset: base + begin,
+                notes,
+            });
+        }
+        let mut notes = Vec::new(alloc);
+        Note::of(self.front.as_slice()).write(&mut notes)?;
+        let offset = 0;
+        if end <= base {
+            return Ok(Located {
+                name,
+                offset,
+                notes,
+            });
+        }
+        let (_, others) = self.pieces.notes_between(alloc, rest, 0, end - base)?;
+        notes.extend_from_slice(others.as_slice())?;
+        Ok(Located {
+            name,
+            offset,
+            notes,
+        })
     }
 }
 

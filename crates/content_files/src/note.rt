@@ -1,6 +1,6 @@
 //! What memory keeps of a piece.
 
-ghost use Rattle.std.specs.Prelude.{◌≡◌, ◌++◌, true, IfSome, OnOk, drop, length, take};
+ghost use Rattle.std.specs.Prelude.{◌≡◌, ◌++◌, ◌<◌, ◌^◌, true, IfSome, OnOk, drop, length, take};
 ghost use Rattle.std.specs.Int.{w64, from_le_bytes, to_le_bytes};
 ghost use Rattle.content_files.specs.Notes.{is_read, note_of, piece_sum};
 ghost use Rattle.content_files.specs.Reads.{IsCountWithin, IsPlaceOf};
@@ -48,8 +48,9 @@ impl Note {
 
     /// Appends the length and the sum, of eight bytes each, the lowest first.
     pub(crate) fn write(self, out: &mut Vec<u8>) -> Result<(), AllocError>
-        ensures { OnOk result (out.new.items ≡ out.old.items
+        ensures written { OnOk result (out.new.items ≡ out.old.items
             ++ (to_le_bytes w64 self.len ++ to_le_bytes w64 self.sum)) }
+        ensures fits { (self.len < 2 ^ 64) × (self.sum < 2 ^ 64) }
     {
         out.extend_from_slice(&self.len.to_le_bytes())?;
         out.extend_from_slice(&self.sum.to_le_bytes())?;

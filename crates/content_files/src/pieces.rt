@@ -3,6 +3,7 @@
 ghost use Rattle.std.specs.Prelude.{◌≡◌, ◌++◌, ◌≤◌, ◌<◌, ◌+◌, ◌-◌, ◌∷◌, [], IfOk, OnOk, OnErr, drop, length, take, true, IfSome};
 ghost use Rattle.content_files.specs.Chunks.{chunk_notes, note_bytes, read_notes};
 ghost use Rattle.content_files.specs.FirstNotes.{AreOfChunk};
+ghost use Rattle.content_files.specs.LocatedNotes.{AreNotesBetween};
 ghost use Rattle.content_files.specs.Notes.{note_of, unread};
 ghost use Rattle.content_files.specs.Parts.{IsAddedRead, IsCountIn, IsReadWithin};
 ghost use Rattle.content_files.specs.Pieces.{BeginsAs, HasRoomFor, IsAtEndOf, LieAs, bytes_of, pieces_of, with_piece};
@@ -311,6 +312,47 @@ impl Pieces {
             };
             if end <= next {
                 return part_of(alloc, bytes.as_slice(), start - begin, end - begin);
+            }
+            at = next;
+        }
+        Err(ContentError::Fault)
+    }
+
+    /// Returns the notes of the pieces that have the bytes from `start` to before `end` of the first pieces, which have this length,
+    /// and where among the pieces the first of them begins.
+    ///
+    /// # Errors
+    ///
+    /// - `Cut`: this length ends within a piece.
+    /// - `Fault`: it ends before `end`.
+    /// - `Memory`
+    pub(crate) fn notes_between(
+        &self,
+        alloc: Global,
+        len: u64,
+        start: u64,
+        end: u64,
+    ) -> Result<(u64, Vec<u8>), ContentError>
+        requires { start < end }
+        ensures { IfOk result (λ r. AreNotesBetween (take len (bytes_of self.now)) start end r.0
+            r.1.items) }
+    {
+        let Some(count) = self.count_within(len) else {
+            return Err(ContentError::Cut);
+        };
+        let Some((first, begin)) = find(&self.notes.as_slice()[..count], start) else {
+            return Err(ContentError::Fault);
+        };
+        let mut notes = Vec::new(alloc);
+        let mut at = begin;
+        for index in first..count {
+            let note = self.notes[index];
+            note.write(&mut notes)?;
+            let Some(next) = at.checked_add(note.len) else {
+                return Err(ContentError::Fault);
+            };
+            if end <= next {
+                return Ok((begin, notes));
             }
             at = next;
         }
