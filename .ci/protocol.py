@@ -13,7 +13,7 @@ PAGE = "docs/PROTOCOL.md"
 STORE_COMMANDS = [
     ("crates/wire_server/src/command.rt", r"(?P<number>\d+) => Some\(Verb::(?P<name>\w+)\)"),
     ("crates/wire_server/src/query.rt", r"(?P<number>\d+) => Ok\(Some\(Query::(?P<name>\w+)"),
-    ("crates/wire_server/src/step.rt", r"const (?P<name>FETCH): u8 = (?P<number>\d+);"),
+    ("crates/wire_server/src/step.rt", r"const (?P<name>FETCH|LOCATE): u8 = (?P<number>\d+);"),
 ]
 STORE_STATUSES = [
     ("crates/wire_format/src/reply.rt", r"Refusal::(?P<name>\w+)(?: \{[^}]*\})? => write_\w+\((?:alloc, )?out, (?P<number>\d+),"),

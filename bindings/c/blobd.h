@@ -14,7 +14,7 @@ enum blobd_command {
     BLOBD_START = 1, BLOBD_STATUS, BLOBD_APPEND, BLOBD_CLOSE, BLOBD_ABANDON, BLOBD_MOUNT, BLOBD_DELETE,
     BLOBD_PUT_MANIFEST, BLOBD_GET_MANIFEST, BLOBD_DELETE_MANIFEST, BLOBD_LEASE, BLOBD_READ, BLOBD_GIVE_BACK,
     BLOBD_SWEEP, BLOBD_STAT = 17, BLOBD_STAT_MANIFEST, BLOBD_FREE_SLOTS, BLOBD_USAGE, BLOBD_FETCH,
-    BLOBD_REMOVE_REPO, BLOBD_SLOT_USE, BLOBD_REPO_COUNT, BLOBD_SYNC_COUNT
+    BLOBD_REMOVE_REPO, BLOBD_SLOT_USE, BLOBD_REPO_COUNT, BLOBD_SYNC_COUNT, BLOBD_LOCATE
 };
 
 /* The status of a reply: 0, the number of an error of the store, BLOBD_UNREADABLE (the bytes
@@ -45,6 +45,7 @@ struct blobd_reply {
     /* The results of the command:
      *   lease   the blob's size; the number of the lease
      *   fetch   the blob's size; the number of a lease, or 0
+     *   locate  the offset of the first piece; the number of the file, or 0. The body has the notes (docs/PROTOCOL.md)
      *   mount   the session that was opened, or 0
      *   sweep   the number of slots freed; the number of unlinked slots that readers held
      *   usage   the bytes that the tenant uses; its quota

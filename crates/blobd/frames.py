@@ -13,7 +13,7 @@ GREETING = b"blobd\0\1\0"
 START, STATUS, APPEND, CLOSE, ABANDON, MOUNT, DELETE, PUT_MANIFEST, GET_MANIFEST, DELETE_MANIFEST = range(1, 11)
 LEASE, READ, GIVE_BACK, SWEEP = range(11, 15)
 STAT, STAT_MANIFEST, FREE_SLOTS, USAGE, FETCH, REMOVE_REPO = range(17, 23)
-SLOT_USE, REPO_COUNT, SYNC_COUNT = range(23, 26)
+SLOT_USE, REPO_COUNT, SYNC_COUNT, LOCATE = range(23, 27)
 
 # The share of a tenant without one.
 UNLIMITED = 2**32 - 1
@@ -80,6 +80,13 @@ CALLS = [
     (request(READ, digest=ABC, number=2, span=(2, 1)), reply(SIZE_INVALID)),
     (request(READ, digest=NOTHING, number=1), reply(NO_LEASE)),
     (request(READ, digest=ABC, number=3), reply(NO_LEASE)),
+    # the place of bytes, which are in memory
+    (request(LOCATE, digest=ABC, number=1), reply()),
+    (request(LOCATE, digest=ABC, number=2, span=(1, 99)), reply()),
+    (request(LOCATE, digest=ABC, number=2, span=(2, 1)), reply(SIZE_INVALID)),
+    (request(LOCATE, digest="sha256:abc", number=2, span=(2, 1)), reply(DIGEST_INVALID)),
+    (request(LOCATE, digest=NOTHING, number=1), reply(NO_LEASE)),
+    (request(LOCATE, digest=ABC, number=3), reply(NO_LEASE)),
     (request(GIVE_BACK, number=2), reply()),
     (request(GIVE_BACK, number=2), reply(NO_LEASE)),
     # fetches, which keep no lease

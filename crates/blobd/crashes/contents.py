@@ -2,10 +2,12 @@
 and files that no content has."""
 import random
 import re
+import struct
 import subprocess
+import time
 
-from data_folder import LONGEST, Ended, Trace, content_files, data_files, log_files, puts_data
-from frames import FETCH, GIVE_BACK, LEASE, MEMORY, READ, STATUS, SWEEP, UNREADABLE, UPLOAD_UNKNOWN
+from data_folder import FNV_BASIS, LONGEST, Ended, Trace, content_files, data_files, log_files, log_sum, puts_data
+from frames import DELETE, FETCH, GIVE_BACK, LEASE, LOCATE, MEMORY, NO_LEASE, READ, STATUS, SWEEP, UNREADABLE, UPLOAD_UNKNOWN
 from kills import calls_of_start, lose_power
 from model import MIB, Client, History
 from room import all_there, compares, contents_fit, counts, ends_well, fault, stops, wait_until
@@ -450,6 +452,69 @@ def flipped_bits(room):
     contents_fit(folder, [client])
     ends_well("a program with flipped bits", blobd)
     all_there(room, folder, [client])
+
+
+def place_of(number, notes, span):
+    """Returns the reply to a request for the place of bytes, by docs/PROTOCOL.md: of the content of tenant 1 that the session of this number received, whose
+    pieces have these notes."""
+    first, last = span or (0, 1 << 62)
+    found = [(start, note) for (start, end), note in notes if start <= last and first < end]
+    if not found:
+        return 0, 0, 0, b""
+    return 0, found[0][0], 1 << 32 | number, b"".join(note for _, note in found)
+
+
+def locates(name, line, lease, number, digest, data):
+    """Checks where the bytes of a leased content lie, of all and of ranges of all kinds."""
+    notes = [((start, end), struct.pack("<QQ", end - start, log_sum(FNV_BASIS, data[start:end]))) for start, end in pieces_of(CHUNKS)]
+    ends = sorted({place + more for piece, _ in notes for place in piece for more in (-1, 0, 1)} - {-1})
+    for span in (None, *((first, last) for first in ends for last in (*ends, 1 << 62) if first <= last)):
+        reply = line.calls(LOCATE, digest=digest, number=lease, span=span)
+        found = reply.status, reply.first, reply.second, reply.body
+        compares(f"{name}: the place of {span}", found == place_of(number, notes, span), True)
+
+
+def located(room):
+    """Tests where the bytes of leased contents lie: after an upload, after a start, after the file was damaged, and while the content is pushed again and
+    deleted. The file of a lease stays until the lease ends."""
+    folder, client = room.fresh(), Client("t1", random.Random(1))
+    blobd = room.starts(folder, "--sync", "each")
+    (line,) = blobd.opens()
+    data = bytes_of(1, sum(CHUNKS))
+    chunks = [data[sum(CHUNKS[:place]):sum(CHUNKS[:place + 1])] for place in range(len(CHUNKS))]
+    _, short = uploads(client, line, [bytes_of(2, LONGEST)], "t1/one")
+    number, digest = uploads(client, line, chunks, "t1/one")
+    path = folder / f"contents/t1/{number}"
+    lease = line.calls(LEASE, "t1/one", short).second
+    compares("the place of a short content", line.calls(LOCATE, digest=short, number=lease)[:3], (0, 0, 0))
+    compares("the place of bytes of another digest", line.calls(LOCATE, digest=digest, number=lease).status, NO_LEASE)
+    lease = line.calls(LEASE, "t1/one", digest).second
+    locates("after an upload", line, lease, number, digest, data)
+    ends_well("a program with places", blobd)
+    blobd = room.starts(folder, "--sync", "each")
+    (line,) = blobd.opens()
+    lease = line.calls(LEASE, "t1/one", digest).second
+    locates("after a start", line, lease, number, digest, data)
+    path.write_bytes(bytes(len(data)))
+    locates("with a damaged file", line, lease, number, digest, data)
+    path.write_bytes(data)
+    again, _ = uploads(client, line, chunks, "t1/two")
+    locates("a lease of a replaced content", line, lease, number, digest, data)
+    fresh = line.calls(LEASE, "t1/two", digest).second
+    locates("a lease of the content that replaced it", line, fresh, again, digest, data)
+    for repository in ("t1/one", "t1/two"):
+        client.plays(line, client.state.deletes(repository, digest), "each")
+    compares("a sweep with leases", line.calls(SWEEP)[:3], (0, 0, 1))
+    time.sleep(3)
+    compares("the files of leases", sorted(content_files(folder)), sorted(f"contents/t1/{name}" for name in (number, again)))
+    locates("a lease of a deleted content", line, lease, number, digest, data)
+    compares("the end of a lease", line.calls(GIVE_BACK, number=lease).status, 0)
+    wait_until("the file of the replaced content is gone", lambda: sorted(content_files(folder)) == [f"contents/t1/{again}"])
+    compares("the end of the other lease", line.calls(GIVE_BACK, number=fresh).status, 0)
+    compares("a place without a lease", line.calls(LOCATE, digest=digest, number=fresh).status, NO_LEASE)
+    compares("a sweep without leases", line.calls(SWEEP)[:3], (0, 1, 0))
+    wait_until("all files are gone", lambda: not content_files(folder))
+    ends_well("a program without leases", blobd)
 
 
 def damaged_files(room):

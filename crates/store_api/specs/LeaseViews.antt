@@ -1,7 +1,8 @@
 -- Leases as contracts see them.
-use Rattle.std.specs.Prelude.{◌≡◌, ℕ, ◌+◌, ◌-◌, ◌/◌, Bool, false, true, take, drop}
+use Rattle.std.specs.Prelude.{◌≡◌, ℕ, ◌+◌, ◌-◌, ◌/◌, Bool, false, true, take, drop, if◌then◌else◌, length, nat_lt}
 use Rattle.std.specs.Coded.{Coded, code_by, coded×, coded_ℕ}
 use Rattle.std.proofs.Common.{refl}
+use Rattle.content_files.specs.LocatedNotes.{AreNotesBetween}
 use Rattle.content_files.specs.Parts.{IsReadAs}
 use Rattle.spec_lib.specs.Texts.{Text, coded_text}
 
@@ -44,3 +45,11 @@ stored_bytes e = bytes_between e.content e.start e.end
 abbrev pub IsPieceRead : Bool → Extent → Text → Type 0
 IsPieceRead false e piece = piece ≡ stored_bytes e
 IsPieceRead true e piece = (given : Text) × IsReadAs e.content given × (piece ≡ bytes_between given e.start e.end)
+
+-- the offset behind the last byte that is asked for
+abbrev pub behind : Extent → ℕ
+behind e = if nat_lt e.end (length e.content) then e.end + 1 else length e.content
+
+-- Contents may lie in files. These are the notes of pieces of the content that have the bytes, and the first piece begins at the offset.
+abbrev pub IsLocatedAt : Bool → Extent → ℕ → Text → Type 0
+IsLocatedAt on_disk e offset notes = (on_disk ≡ true) × AreNotesBetween e.content e.start (behind e) offset notes

@@ -1,12 +1,12 @@
 //! Bytes of a blob that a reader asks for.
-ghost use Rattle.std.specs.Prelude.{◌≡◌, ◌^◌, ◌<◌, ◌≤◌, IfErr, IfOk, true};
+ghost use Rattle.std.specs.Prelude.{◌≡◌, ◌^◌, ◌<◌, ◌≤◌, IfErr, IfOk, IfSome, true};
 ghost use Rattle.std.specs.Arc.{arc_value};
-ghost use Rattle.store_api.specs.LeaseViews.{IsPieceRead, extent};
+ghost use Rattle.store_api.specs.LeaseViews.{IsLocatedAt, IsPieceRead, extent};
 ghost use Rattle.store_api.specs.declared.extent.Unread.TheVariants.{Unreadable};
 
 use crate::piece::Piece;
 use blob_digest::Blob;
-use content_files::{ContentError, ContentStore};
+use content_files::{ContentError, ContentStore, Located};
 use std::alloc::Global;
 use std::marker::Model;
 use std::sync::Arc;
@@ -81,6 +81,40 @@ impl Extent {
             Err(ContentError::Memory) => Err(Unread::Memory),
             Err(_) if files.is_on_disk() => Err(Unread::Unreadable),
             Err(_) => Err(Unread::Memory),
+        }
+    }
+
+    /// Returns where the bytes lie in the blob's file, for a reader that opens the file itself. Returns `None` if the blob is in memory,
+    /// or has none of the bytes.
+    ///
+    /// # Errors
+    /// - `Memory` if memory runs out.
+    /// - `Unreadable` if contents may lie in files, and the blob's pieces do not end where it does.
+    ///
+    /// # Cost
+    /// As `Content::located`. It reads no file.
+    pub fn locate<F: ContentStore>(
+        self,
+        files: &F,
+        alloc: Global,
+    ) -> Result<Option<Located>, Unread>
+        ensures located { IfOk result (λ o. IfSome o (λ l. IsLocatedAt F.on_disk self l.offset
+            l.notes.items)) }
+        ensures unread { IfErr result (λ e. e ≡ Unreadable → F.on_disk ≡ true) }
+    {
+        if !files.is_on_disk() {
+            return Ok(None);
+        }
+        let Extent { blob, start, end } = self;
+        let len = blob.len();
+        if start >= len {
+            return Ok(None);
+        }
+        let behind = (end + 1).min(len);
+        match blob.content().located(alloc, start, behind) {
+            Ok(located) => Ok(located),
+            Err(ContentError::Memory) => Err(Unread::Memory),
+            Err(_) => Err(Unread::Unreadable),
         }
     }
 }

@@ -15,7 +15,7 @@ use Rattle.store_api.specs.declared.query.Query.TheVariants as asked
 use Rattle.store_api.specs.declared.verb.Verb.{Verb}
 use Rattle.store_api.specs.declared.verb.Verb.TheVariants as verb
 use Rattle.wire_server.specs.LeaseEvents.{TableEvent, LeaseKept, LeaseNotKept, PieceRead, PieceNotRead, LeaseGivenBack, LeaseNotGivenBack}
-use Rattle.wire_server.specs.Outcomes.{RequestResult, Answered, NewLease, Fetched, Unreadable, QueryNumbers, NoCommand}
+use Rattle.wire_server.specs.Outcomes.{RequestResult, Answered, NewLease, Fetched, Located, NoFile, Unreadable, QueryNumbers, NoCommand}
 use Rattle.wire_server.specs.Queries.{IsQueryOutcome, QueryStep}
 use Rattle.wire_server.specs.Requests.{ends_of, request_command}
 use Rattle.wire_server.specs.Connections.{Frame, ServesConnection, ServesRequests, ServesFrames}
@@ -52,6 +52,8 @@ module _ {S T U V : Type 0} (on_disk : Bool) (shown : S → U) (lent : T → V)
   command_through spelled old new (NewLease size number) h = absurd h
   command_through spelled old new (Fetched size piece) h = absurd h
   command_through spelled old new Unreadable h = absurd h
+  command_through spelled old new (Located file offset notes) h = absurd h
+  command_through spelled old new NoFile h = absurd h
   command_through spelled old new (QueryNumbers first second) h = absurd h
   command_through spelled old new NoCommand h = absurd h
 
@@ -61,6 +63,8 @@ module _ {S T U V : Type 0} (on_disk : Bool) (shown : S → U) (lent : T → V)
   lends_through command old new (Answered answer) (inr h) = inr (h.0, h.1, tells old.0 (Calls command) (Bytes h.0.bytes) new.0 h.2, lends old.1 (LeaseNotKept h.0) new.1 h.3)
   lends_through command old new (Fetched size piece) h = absurd h
   lends_through command old new Unreadable h = absurd h
+  lends_through command old new (Located file offset notes) h = absurd h
+  lends_through command old new NoFile h = absurd h
   lends_through command old new (QueryNumbers first second) h = absurd h
   lends_through command old new NoCommand h = absurd h
 
@@ -75,6 +79,8 @@ module _ {S T U V : Type 0} (on_disk : Bool) (shown : S → U) (lent : T → V)
   fetches_through command ends old new (NewLease size number) h = (h.0, h.1, h.2, tells old.0 (Calls command) (Bytes h.0.bytes) new.0 h.3, lends old.1 (LeaseKept h.0 number) new.1 h.4)
   fetches_through command ends old new (Answered answer) (inl h) = inl (lends_through command old new (Answered answer) h)
   fetches_through command ends old new (Answered answer) (inr h) = inr (h.0, h.1, tells old.0 (Calls command) (Bytes h.0.bytes) new.0 h.2, ap lent h.3)
+  fetches_through command ends old new (Located file offset notes) h = absurd h
+  fetches_through command ends old new NoFile h = absurd h
   fetches_through command ends old new (QueryNumbers first second) h = absurd h
   fetches_through command ends old new NoCommand h = absurd h
 
@@ -84,13 +90,13 @@ module _ {S T U V : Type 0} (on_disk : Bool) (shown : S → U) (lent : T → V)
   fetch_through (Ok None) range old new outcome h = absurd h
   fetch_through (Err refusal) range old new outcome h = (h.0, ap view_of h.1)
 
-  read_through : (number : ℕ) (digest : Result Text Refusal) (range : Result (Option ByteRange) Refusal) (old new : T) (outcome : RequestResult) → ReadStep on_disk does number digest range old outcome new → ReadStep on_disk to_do number digest range (lent old) outcome (lent new)
-  read_through number (Ok digest) (Ok range) old new outcome (inl h) =
+  read_through : (located : Bool) (number : ℕ) (digest : Result Text Refusal) (range : Result (Option ByteRange) Refusal) (old new : T) (outcome : RequestResult) → ReadStep on_disk located does number digest range old outcome new → ReadStep on_disk located to_do number digest range (lent old) outcome (lent new)
+  read_through located number (Ok digest) (Ok range) old new outcome (inl h) =
       let ends = ends_of range in
       inl (h.0, h.1, h.2, lends old (PieceRead number digest ends.0 ends.1 (stored_bytes h.0)) new h.3)
-  read_through number (Ok digest) (Ok range) old new outcome (inr h) = inr (h.0, lends old (PieceNotRead number digest) new h.1)
-  read_through number (Ok digest) (Err refusal) old new outcome h = (h.0, ap lent h.1)
-  read_through number (Err refusal) range old new outcome h = (h.0, ap lent h.1)
+  read_through located number (Ok digest) (Ok range) old new outcome (inr h) = inr (h.0, lends old (PieceNotRead number digest) new h.1)
+  read_through located number (Ok digest) (Err refusal) old new outcome h = (h.0, ap lent h.1)
+  read_through located number (Err refusal) range old new outcome h = (h.0, ap lent h.1)
 
   give_back_through : (number : ℕ) (old new : T) (outcome : RequestResult) → GiveBackStep does number old outcome new → GiveBackStep to_do number (lent old) outcome (lent new)
   give_back_through number old new outcome (inl h) = inl (h.0, lends old (LeaseGivenBack number) new h.1)
@@ -110,14 +116,15 @@ module _ {S T U V : Type 0} (on_disk : Bool) (shown : S → U) (lent : T → V)
   query_through store (Ok None) outcome h = h
   query_through store (Err refusal) outcome h = h
 
-  no_verb_through : (fetch : Bool) (old new : S × T) (head : Head) (payload : Text) (outcome : RequestResult) → NoVerbStep on_disk acts finds does fetch old head payload outcome new → NoVerbStep on_disk to_act to_find to_do fetch (view_of old) head payload outcome (view_of new)
-  no_verb_through true old new head payload outcome h = fetch_through _ _ old new outcome h
-  no_verb_through false old new head payload outcome h = (query_through old.0 _ outcome h.0, ap view_of h.1)
+  no_verb_through : (fetch located : Bool) (old new : S × T) (head : Head) (payload : Text) (outcome : RequestResult) → NoVerbStep on_disk acts finds does fetch located old head payload outcome new → NoVerbStep on_disk to_act to_find to_do fetch located (view_of old) head payload outcome (view_of new)
+  no_verb_through true located old new head payload outcome h = fetch_through _ _ old new outcome h
+  no_verb_through false true old new head payload outcome h = (read_through true head.number _ _ old.1 new.1 outcome h.0, ap shown h.1)
+  no_verb_through false false old new head payload outcome h = (query_through old.0 _ outcome h.0, ap view_of h.1)
 
   verb_through : (asked : Option Verb) (old new : S × T) (head : Head) (payload : Text) (outcome : RequestResult) → VerbStep on_disk acts finds does asked old head payload outcome new → VerbStep on_disk to_act to_find to_do asked (view_of old) head payload outcome (view_of new)
-  verb_through None old new head payload outcome h = no_verb_through _ old new head payload outcome h
+  verb_through None old new head payload outcome h = no_verb_through _ _ old new head payload outcome h
   verb_through (Some verb.Lease) old new head payload outcome h = lease_through _ old new outcome h
-  verb_through (Some verb.Read) old new head payload outcome h = (read_through head.number _ _ old.1 new.1 outcome h.0, ap shown h.1)
+  verb_through (Some verb.Read) old new head payload outcome h = (read_through false head.number _ _ old.1 new.1 outcome h.0, ap shown h.1)
   verb_through (Some verb.GiveBack) old new head payload outcome h = (give_back_through head.number old.1 new.1 outcome h.0, ap shown h.1)
   verb_through (Some verb.Sweep) old new head payload outcome h = ((h.0.0, h.0.1, tells old.0 Sweeps (Swept h.0.0) new.0 h.0.2), ap lent h.1)
   verb_through (Some verb.Start) old new head payload outcome h = command_through _ old new outcome h

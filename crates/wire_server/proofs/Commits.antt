@@ -11,7 +11,7 @@ use Rattle.store_api.specs.Steps.{StepOf}
 use Rattle.store_api.specs.declared.verb.Verb.{Verb}
 use Rattle.store_api.specs.declared.verb.Verb.TheVariants as verb
 use Rattle.wire_server.specs.LeaseEvents.{TableEvent}
-use Rattle.wire_server.specs.Outcomes.{RequestResult, Answered, NewLease, Fetched, Unreadable, QueryNumbers, NoCommand, outcome_of}
+use Rattle.wire_server.specs.Outcomes.{RequestResult, Answered, NewLease, Fetched, Located, NoFile, Unreadable, QueryNumbers, NoCommand, outcome_of}
 use Rattle.wire_server.specs.Requests.{ends_of, request_command}
 use Rattle.watched_reader.specs.declared.watched.Watched.{Watched}
 use Rattle.wire_server.specs.Connections.{PlaysNext}
@@ -41,6 +41,8 @@ module _ {S T : Type 0} (on_disk : Bool) (acts : S → StoreRequest → Answer �
   command_committed spelled (NewLease size number) h = absurd h
   command_committed spelled (Fetched size piece) h = absurd h
   command_committed spelled Unreadable h = absurd h
+  command_committed spelled (Located file offset notes) h = absurd h
+  command_committed spelled NoFile h = absurd h
   command_committed spelled (QueryNumbers first second) h = absurd h
   command_committed spelled NoCommand h = absurd h
 
@@ -50,6 +52,8 @@ module _ {S T : Type 0} (on_disk : Bool) (acts : S → StoreRequest → Answer �
   lent_committed command (Answered answer) (inr h) = inr (h.0, h.1, keeps old (Calls command) (Bytes h.0.bytes) h.2, h.3)
   lent_committed command (Fetched size piece) h = absurd h
   lent_committed command Unreadable h = absurd h
+  lent_committed command (Located file offset notes) h = absurd h
+  lent_committed command NoFile h = absurd h
   lent_committed command (QueryNumbers first second) h = absurd h
   lent_committed command NoCommand h = absurd h
 
@@ -64,6 +68,8 @@ module _ {S T : Type 0} (on_disk : Bool) (acts : S → StoreRequest → Answer �
   piece_committed command ends (NewLease size number) h = (h.0, h.1, h.2, keeps old (Calls command) (Bytes h.0.bytes) h.3, h.4)
   piece_committed command ends (Answered answer) (inl h) = inl (lent_committed command (Answered answer) h)
   piece_committed command ends (Answered answer) (inr h) = inr (h.0, h.1, keeps old (Calls command) (Bytes h.0.bytes) h.2, h.3)
+  piece_committed command ends (Located file offset notes) h = absurd h
+  piece_committed command ends NoFile h = absurd h
   piece_committed command ends (QueryNumbers first second) h = absurd h
   piece_committed command ends NoCommand h = absurd h
 
@@ -73,12 +79,13 @@ module _ {S T : Type 0} (on_disk : Bool) (acts : S → StoreRequest → Answer �
   fetch_committed (Ok None) range outcome h = absurd h
   fetch_committed (Err refusal) range outcome h = (h.0, both_stay h.1)
 
-  no_verb_committed : (fetch : Bool) (head : Head) (payload : Text) (outcome : RequestResult) → NoVerbStep on_disk acts finds does fetch (old, before) head payload outcome (mid, after) → NoVerbStep on_disk acts finds does fetch (old, before) head payload outcome (new, after)
-  no_verb_committed true head payload outcome h = fetch_committed _ _ outcome h
-  no_verb_committed false head payload outcome h = (h.0, both_stay h.1)
+  no_verb_committed : (fetch located : Bool) (head : Head) (payload : Text) (outcome : RequestResult) → NoVerbStep on_disk acts finds does fetch located (old, before) head payload outcome (mid, after) → NoVerbStep on_disk acts finds does fetch located (old, before) head payload outcome (new, after)
+  no_verb_committed true located head payload outcome h = fetch_committed _ _ outcome h
+  no_verb_committed false true head payload outcome h = (h.0, stays h.1)
+  no_verb_committed false false head payload outcome h = (h.0, both_stay h.1)
 
   verb_committed : (asked : Option Verb) (head : Head) (payload : Text) (outcome : RequestResult) → VerbStep on_disk acts finds does asked (old, before) head payload outcome (mid, after) → VerbStep on_disk acts finds does asked (old, before) head payload outcome (new, after)
-  verb_committed None head payload outcome h = no_verb_committed _ head payload outcome h
+  verb_committed None head payload outcome h = no_verb_committed _ _ head payload outcome h
   verb_committed (Some verb.Lease) head payload outcome h = lease_committed _ outcome h
   verb_committed (Some verb.Read) head payload outcome h = (h.0, stays h.1)
   verb_committed (Some verb.GiveBack) head payload outcome h = (h.0, stays h.1)

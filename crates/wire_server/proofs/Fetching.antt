@@ -1,11 +1,10 @@
 -- The outcomes of reads are those of requests.
 use Rattle.std.proofs.Common.{◌≡◌, ◌≤◌, ℕ, Bool, length}
-use Rattle.spec_lib.specs.Texts.{Text}
 use Rattle.store_api.specs.Answers.{Answer, Bytes}
 use Rattle.store_api.specs.Commands.{Calls, Command, StoreRequest}
 use Rattle.store_api.specs.LeaseViews.{LeaseView, bytes_between, extent}
 use Rattle.wire_server.specs.LeaseEvents.{TableEvent}
-use Rattle.wire_server.specs.Outcomes.{RequestResult, Answered, NewLease, Fetched, Unreadable, QueryNumbers, NoCommand}
+use Rattle.wire_server.specs.Outcomes.{RequestResult, Answered, NewLease, Fetched, Located, NoFile, Unreadable, QueryNumbers, NoCommand}
 use Rattle.wire_server.specs.Requests.{max_fetched}
 use Rattle.wire_server.specs.Steps.{FetchesPiece, IsReadOutcome}
 
@@ -17,5 +16,7 @@ fetches on_disk acts does command start end old new lent (Fetched size piece) re
 fetches on_disk acts does command start end old new lent Unreadable read few acted same = (lent, read, acted, same)
 fetches on_disk acts does command start end old new lent (Answered answer) read few acted same = absurd read
 fetches on_disk acts does command start end old new lent (NewLease size number) read few acted same = absurd read
+fetches on_disk acts does command start end old new lent (Located file offset notes) read few acted same = absurd read
+fetches on_disk acts does command start end old new lent NoFile read few acted same = absurd read
 fetches on_disk acts does command start end old new lent (QueryNumbers first second) read few acted same = absurd read
 fetches on_disk acts does command start end old new lent NoCommand read few acted same = absurd read

@@ -16,7 +16,7 @@ use Rattle.store_model.specs.Catalog.{Catalog}
 use Rattle.watched_reader.specs.Watching.{HasNotFailed, inner_of}
 use Rattle.watched_reader.specs.declared.watched.Watched.{Watched}
 use Rattle.wire_server.specs.LeaseEvents.{TableEvent}
-use Rattle.wire_server.specs.Outcomes.{RequestResult, Answered, NewLease, Fetched, Unreadable, QueryNumbers, NoCommand, ReportsOutcome, ReportsAnswer, answer_reply, outcome_of}
+use Rattle.wire_server.specs.Outcomes.{RequestResult, Answered, NewLease, Fetched, Located, NoFile, Unreadable, QueryNumbers, NoCommand, ReportsOutcome, ReportsAnswer, answer_reply, outcome_of}
 use Rattle.wire_server.specs.declared.outcome.RequestResult.{RequestResult as Code}
 use Rattle.wire_server.specs.Connections.{IsEndReason, EndsByRead, Frame, FrameStep, PlaysNext, ServesRequests, ServesFrames, WritesReplies, frames_bytes, replies_bytes}
 use Rattle.wire_server.specs.declared.ending.Ending.{Ending}
@@ -99,6 +99,8 @@ pub outcome_has_reply : (outcome : RequestResult) → (reply : Reply) × Reports
 outcome_has_reply (Answered answer) = (answer_reply answer, reports_answer answer)
 outcome_has_reply (NewLease size number) = (_, refl)
 outcome_has_reply (Fetched size piece) = (_, refl)
+outcome_has_reply (Located file offset notes) = (_, refl)
+outcome_has_reply NoFile = (_, refl)
 outcome_has_reply Unreadable = (_, refl)
 outcome_has_reply (QueryNumbers first second) = (_, refl)
 outcome_has_reply NoCommand = (_, refl)

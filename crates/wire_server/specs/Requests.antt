@@ -53,6 +53,10 @@ command_in verb request = request_command verb request.head request.payload.now
 abbrev pub fetch_number : ℕ
 fetch_number = 21
 
+-- the number of a request for the place of a leased blob's bytes
+abbrev pub locate_number : ℕ
+locate_number = 26
+
 -- the length of the longest piece that a fetch replies
 abbrev pub max_fetched : ℕ
 max_fetched = 2 ^ 20

@@ -10,7 +10,7 @@ use Rattle.wire_format.specs.declared.request.RequestFrame.{RequestFrame as Inco
 use Rattle.spec_lib.specs.Texts.{Text}
 use Rattle.store_api.specs.Answers.{Answer, Bytes, GivenBack, NoLease, Refused, Swept as SweptAnswer, answer_of}
 use Rattle.store_api.specs.Commands.{Command, StoreRequest, Calls, Sweeps, digest_in}
-use Rattle.store_api.specs.LeaseViews.{Extent, IsPieceRead, LeaseView as LentView, bytes_between, extent, stored_bytes}
+use Rattle.store_api.specs.LeaseViews.{Extent, IsLocatedAt, IsPieceRead, LeaseView as LentView, bytes_between, extent, stored_bytes}
 use Rattle.store_api.specs.Steps.{StepOf}
 use Rattle.store_api.specs.declared.reply.Reply.{Reply}
 use Rattle.store_api.specs.declared.verb.Verb.{Verb}
@@ -18,9 +18,9 @@ use Rattle.store_api.specs.declared.verb.Verb.TheVariants as verb
 use Rattle.store_model.specs.Catalog.{Catalog}
 use Rattle.store_model.specs.declared.swept.Swept.{Swept as SweptCounts}
 use Rattle.wire_server.specs.LeaseEvents.{TableEvent, LeaseKept, LeaseNotKept, PieceRead, PieceNotRead, LeaseGivenBack as GaveBack, LeaseNotGivenBack, IsExtentOf}
-use Rattle.wire_server.specs.Outcomes.{RequestResult, Answered, NewLease, Fetched, Unreadable, outcome_of}
+use Rattle.wire_server.specs.Outcomes.{RequestResult, Answered, NewLease, Fetched, Located, NoFile, Unreadable, outcome_of}
 use Rattle.wire_server.specs.Queries.{QueryStep, query_has_fields, query_in, request_query}
-use Rattle.wire_server.specs.Requests.{command_in, ends_of, fetch_number, max_fetched, range_of, request_command, verb_has_fields, verb_of}
+use Rattle.wire_server.specs.Requests.{command_in, ends_of, fetch_number, locate_number, max_fetched, range_of, request_command, verb_has_fields, verb_of}
 use Rattle.wire_server.specs.declared.outcome.RequestResult.{RequestResult as Code}
 
 -- ---- commands that return a reply
@@ -128,28 +128,42 @@ IsExtentOutcome on_disk x (Answered (Refused refusal)) = refusal ≡ Memory
 IsExtentOutcome on_disk x Unreadable = on_disk ≡ true
 IsExtentOutcome on_disk x outcome = ⊥
 
--- the result is that of a read of the extent
-abbrev pub ReadsExtent : Bool → Extent → Result Code Refusal → Type 0
-ReadsExtent on_disk x result = MatchResult result (λ o. IsExtentOutcome on_disk x (outcome_of o)) (λ e. e ≡ Memory)
+-- The outcome of a request for the place of the extent: where it lies; or that it lies in no file, or has no bytes; or memory ran out; or contents may
+-- lie in files, and it cannot be read.
+abbrev pub IsPlaceOutcome : Bool → Extent → RequestResult → Type 0
+IsPlaceOutcome on_disk x (Located file offset notes) = IsLocatedAt on_disk x offset notes
+IsPlaceOutcome on_disk x NoFile = Unit {0}
+IsPlaceOutcome on_disk x (Answered (Refused refusal)) = refusal ≡ Memory
+IsPlaceOutcome on_disk x Unreadable = on_disk ≡ true
+IsPlaceOutcome on_disk x outcome = ⊥
 
--- the outcome is that of a read of the leased blob, which has the named digest, or there is no such lease
-abbrev pub ReadsPiece : {T : Type 0} → Bool → (T → TableEvent → T → Type 0) → ℕ → Text → ℕ × ℕ → T → RequestResult → T → Type 0
-ReadsPiece on_disk does number digest ends old outcome new =
-    ((x : Extent) × IsExtentOf digest ends.0 ends.1 x × IsExtentOutcome on_disk x outcome × does old (PieceRead number digest ends.0 ends.1 (stored_bytes x)) new)
+-- the outcome is that of a read of the extent, or of a request for its place
+abbrev pub IsOutcomeOfExtent : Bool → (located : Bool) → Extent → RequestResult → Type 0
+IsOutcomeOfExtent on_disk false x outcome = IsExtentOutcome on_disk x outcome
+IsOutcomeOfExtent on_disk true x outcome = IsPlaceOutcome on_disk x outcome
+
+-- the result is that of a read of the extent, or of a request for its place
+abbrev pub ReadsExtent : Bool → (located : Bool) → Extent → Result Code Refusal → Type 0
+ReadsExtent on_disk located x result = MatchResult result (λ o. IsOutcomeOfExtent on_disk located x (outcome_of o)) (λ e. e ≡ Memory)
+
+-- the outcome is that of a read of the leased blob, which has the named digest, or of a request for its place, or there is no such lease
+abbrev pub ReadsPiece : {T : Type 0} → Bool → (located : Bool) → (T → TableEvent → T → Type 0) → ℕ → Text → ℕ × ℕ → T → RequestResult → T → Type 0
+ReadsPiece on_disk located does number digest ends old outcome new =
+    ((x : Extent) × IsExtentOf digest ends.0 ends.1 x × IsOutcomeOfExtent on_disk located x outcome × does old (PieceRead number digest ends.0 ends.1 (stored_bytes x)) new)
     ⊎ ((outcome ≡ Answered NoLease) × does old (PieceNotRead number digest) new)
 
--- the spelled digest and range read a piece of the lease, or the refusal of a field is the outcome
-abbrev pub ReadStep : {T : Type 0} → Bool → (T → TableEvent → T → Type 0) → ℕ → Result Text Refusal → Result (Option ByteRange) Refusal → T → RequestResult → T → Type 0
-ReadStep on_disk does number (Ok digest) (Ok range) old outcome new = ReadsPiece on_disk does number digest (ends_of range) old outcome new
-ReadStep on_disk does number (Ok digest) (Err refusal) old outcome new = (outcome ≡ Answered (Refused refusal)) × (new ≡ old)
-ReadStep on_disk does number (Err refusal) range old outcome new = (outcome ≡ Answered (Refused refusal)) × (new ≡ old)
+-- the spelled digest and range read a piece of the lease or ask for its place, or the refusal of a field is the outcome
+abbrev pub ReadStep : {T : Type 0} → Bool → (located : Bool) → (T → TableEvent → T → Type 0) → ℕ → Result Text Refusal → Result (Option ByteRange) Refusal → T → RequestResult → T → Type 0
+ReadStep on_disk located does number (Ok digest) (Ok range) old outcome new = ReadsPiece on_disk located does number digest (ends_of range) old outcome new
+ReadStep on_disk located does number (Ok digest) (Err refusal) old outcome new = (outcome ≡ Answered (Refused refusal)) × (new ≡ old)
+ReadStep on_disk located does number (Err refusal) range old outcome new = (outcome ≡ Answered (Refused refusal)) × (new ≡ old)
 
 -- the result is that of the read, or out of memory with nothing changed
-abbrev pub IsReadResult : {T : Type 0} → Bool → (T → TableEvent → T → Type 0) → Incoming → T → Result Code Refusal → T → Type 0
-IsReadResult on_disk does request old result new =
+abbrev pub IsReadResult : {T : Type 0} → Bool → (located : Bool) → (T → TableEvent → T → Type 0) → Incoming → T → Result Code Refusal → T → Type 0
+IsReadResult on_disk located does request old result new =
     let digest = digest_in (digest_of request.head request.payload.now) in
-    MatchResult result (λ o. ReadStep on_disk does request.head.number digest (range_of request.head) old (outcome_of o) new)
-    (λ e. ((e ≡ Memory) × (new ≡ old)) ⊎ ReadStep on_disk does request.head.number digest (range_of request.head) old (Answered (Refused e)) new)
+    MatchResult result (λ o. ReadStep on_disk located does request.head.number digest (range_of request.head) old (outcome_of o) new)
+    (λ e. ((e ≡ Memory) × (new ≡ old)) ⊎ ReadStep on_disk located does request.head.number digest (range_of request.head) old (Answered (Refused e)) new)
 
 -- the lease of the number is given back, or there is no such lease
 abbrev pub GiveBackStep : {T : Type 0} → (T → TableEvent → T → Type 0) → ℕ → T → RequestResult → T → Type 0
@@ -163,23 +177,24 @@ GiveBackStep does number old outcome new =
 abbrev pub SweepStep : {S : Type 0} → (S → StoreRequest → Answer → S → Type 0) → S → RequestResult → S → Type 0
 SweepStep acts old outcome new = (swept : SweptCounts) × (outcome ≡ Answered (SweptAnswer swept)) × acts old Sweeps (SweptAnswer swept) new
 
--- the step of a request whose first byte names no verb: a fetch, or a query, which changes nothing
-abbrev pub NoVerbStep : {S T : Type 0} → Bool → (S → StoreRequest → Answer → S → Type 0) → (S → Catalog → Type 0) → (T → TableEvent → T → Type 0) → (fetch : Bool) → S × T → Head → Text → RequestResult → S × T → Type 0
-NoVerbStep on_disk acts finds does true old h payload outcome new = FetchStep on_disk acts does (request_command verb.Lease h payload) (range_of h) old outcome new
-NoVerbStep on_disk acts finds does false old h payload outcome new = QueryStep finds old.0 (request_query h payload) outcome × (new ≡ old)
+-- the step of a request whose first byte names no verb: a fetch, a request for the place of bytes, or a query, which changes nothing
+abbrev pub NoVerbStep : {S T : Type 0} → Bool → (S → StoreRequest → Answer → S → Type 0) → (S → Catalog → Type 0) → (T → TableEvent → T → Type 0) → (fetch located : Bool) → S × T → Head → Text → RequestResult → S × T → Type 0
+NoVerbStep on_disk acts finds does true located old h payload outcome new = FetchStep on_disk acts does (request_command verb.Lease h payload) (range_of h) old outcome new
+NoVerbStep on_disk acts finds does false true old h payload outcome new = ReadStep on_disk true does h.number (digest_in (digest_of h payload)) (range_of h) old.1 outcome new.1 × (new.0 ≡ old.0)
+NoVerbStep on_disk acts finds does false false old h payload outcome new = QueryStep finds old.0 (request_query h payload) outcome × (new ≡ old)
 
 -- the step of a request, by the verb of its first byte
 abbrev pub VerbStep : {S T : Type 0} → Bool → (S → StoreRequest → Answer → S → Type 0) → (S → Catalog → Type 0) → (T → TableEvent → T → Type 0) → Option Verb → S × T → Head → Text → RequestResult → S × T → Type 0
-VerbStep on_disk acts finds does None old h payload outcome new = NoVerbStep on_disk acts finds does (h.command == fetch_number) old h payload outcome new
+VerbStep on_disk acts finds does None old h payload outcome new = NoVerbStep on_disk acts finds does (h.command == fetch_number) (h.command == locate_number) old h payload outcome new
 VerbStep on_disk acts finds does (Some verb.Lease) old h payload outcome new = LeaseStep acts does (request_command verb.Lease h payload) old outcome new
-VerbStep on_disk acts finds does (Some verb.Read) old h payload outcome new = ReadStep on_disk does h.number (digest_in (digest_of h payload)) (range_of h) old.1 outcome new.1 × (new.0 ≡ old.0)
+VerbStep on_disk acts finds does (Some verb.Read) old h payload outcome new = ReadStep on_disk false does h.number (digest_in (digest_of h payload)) (range_of h) old.1 outcome new.1 × (new.0 ≡ old.0)
 VerbStep on_disk acts finds does (Some verb.GiveBack) old h payload outcome new = GiveBackStep does h.number old.1 outcome new.1 × (new.0 ≡ old.0)
 VerbStep on_disk acts finds does (Some verb.Sweep) old h payload outcome new = SweepStep acts old.0 outcome new.0 × (new.1 ≡ old.1)
 VerbStep on_disk acts finds does (Some verb) old h payload outcome new = CommandStep acts (request_command verb h payload) old outcome new
 
--- the request can run out of memory before the store is called: it has a payload, or its command, query or fetch has fields
+-- the request can run out of memory before the store is called: it has a payload, or its command, query or fetch has fields, or it asks for the place of bytes
 abbrev pub TakesMemory : Head → Type 0
-TakesMemory h = (0 < payload_len h) ⊎ (verb_has_fields (verb_of h.command) ≡ true) ⊎ (query_has_fields h.command ≡ true) ⊎ (h.command ≡ fetch_number)
+TakesMemory h = (0 < payload_len h) ⊎ (verb_has_fields (verb_of h.command) ≡ true) ⊎ (query_has_fields h.command ≡ true) ⊎ (h.command ≡ fetch_number) ⊎ (h.command ≡ locate_number)
 
 -- the request is played; or it takes memory, memory runs out, and nothing changes
 abbrev pub RequestStep : {S T : Type 0} → Bool → (S → StoreRequest → Answer → S → Type 0) → (S → Catalog → Type 0) → (T → TableEvent → T → Type 0) → S × T → Head → Text → RequestResult → S × T → Type 0

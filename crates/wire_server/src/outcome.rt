@@ -1,9 +1,10 @@
 //! The outcome of a request, and its reply.
 ghost use Rattle.std.specs.Prelude.{◌≡◌, ◌⊎◌, ◌<◌, ◌^◌};
 ghost use Rattle.wire_format.specs.Replies.{numbers_reply};
-ghost use Rattle.wire_server.specs.Outcomes.{Sends, SendsAnswer, SendsOutcome, body_reply, outcome_of};
+ghost use Rattle.wire_server.specs.Outcomes.{Sends, SendsAnswer, SendsOutcome, body_reply, file_number, outcome_of, place_reply};
 ghost use Rattle.store_api.specs.Answers.{answer_of};
 
+use content_files::{ContentName, Located};
 use std::alloc::Global;
 use std::io::{self, ErrorKind, Write};
 use store_api::{Piece, Reply};
@@ -28,6 +29,10 @@ pub enum RequestResult {
         /// The piece.
         piece: Piece,
     },
+    /// Where bytes of a leased blob lie.
+    Located(Located),
+    /// Bytes of a leased blob lie in no file, or there are none.
+    NoFile,
     /// The bytes that were asked for lie in a file that has others, or that cannot be read.
     Unreadable,
     /// The result of a query.
@@ -73,6 +78,30 @@ fn write_piece<W: Write>(output: &mut W, first: u64, piece: &Piece) -> io::Resul
         Some(bytes) => write_body(output, first, bytes),
         None => Err(io::Error::from(ErrorKind::Unsupported)),
     }
+}
+
+/// Returns the number that stands for the file of a content in a reply: the position of its tenant, and the number of the
+/// session that received it in the lower 32 bits.
+fn file_number(name: ContentName) -> u64
+    ensures { result ≡ file_number name }
+{
+    u64::from(name.tenant) * 4_294_967_296 + u64::from(name.number)
+}
+
+/// Writes the reply of a place: the offset of the first piece, the number of the file, and the notes of the pieces.
+fn write_place<W: Write>(output: &mut W, located: &Located) -> io::Result<()>
+    ensures { Sends W.contents result output.old output.new (place_reply
+        (file_number located.now.name)
+        located.now.offset located.now.notes.items) }
+{
+    write_reply(
+        output,
+        0,
+        located.offset,
+        file_number(located.name),
+        b"",
+        located.notes.as_slice(),
+    )
 }
 
 /// Writes the reply that reports an answer of the store or of the table of leases.
@@ -126,6 +155,8 @@ pub fn write_outcome<W: Write>(
             u64::from(*number),
         ),
         RequestResult::Fetched { size, piece } => write_piece(output, *size, piece),
+        RequestResult::Located(located) => write_place(output, located),
+        RequestResult::NoFile => write_numbers(output, 0, 0, 0),
         RequestResult::Unreadable => write_numbers(output, UNREADABLE, 0, 0),
         RequestResult::QueryNumbers { first, second } => write_numbers(output, 0, *first, *second),
         RequestResult::NoCommand => write_numbers(output, NO_COMMAND, 0, 0),

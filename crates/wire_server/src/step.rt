@@ -1,5 +1,5 @@
 //! Plays a request on a store and a table of leases.
-ghost use Rattle.std.specs.Prelude.{◌≡◌, ◌⊎◌, ◌^◌, ◌<◌, ◌≤◌, true, IfErr, IfOk, None, Some, length};
+ghost use Rattle.std.specs.Prelude.{◌≡◌, ◌⊎◌, ◌^◌, ◌<◌, ◌≤◌, false, true, IfErr, IfOk, None, Some, length};
 ghost use Rattle.wire_server.specs.Outcomes.{Answered, IsOutcomeOf, IsResultOf, outcome_of};
 ghost use Rattle.wire_server.specs.Requests.{command_in, verb_of};
 ghost use Rattle.wire_server.specs.Steps.{IsCommandResult, IsFetchResult, IsLeaseResult, IsQueryResult, IsReadResult, GiveBackStep, HandsOver, IsPieceLen, KeepsLease, LosesLease, PlaysRequest, ReadsExtent, ReadsFetched};
@@ -32,6 +32,9 @@ fn execute_command<B: Backend>(
 
 /// The command number of a fetch.
 const FETCH: u8 = 21;
+
+/// The command number of a request for the place of a leased blob's bytes.
+const LOCATE: u8 = 26;
 
 /// The length in bytes of the longest piece that a fetch replies without a lease.
 const MAX_FETCHED: u64 = 1_048_576;
@@ -135,13 +138,29 @@ fn execute_fetch<F: ContentStore, B: Backend, L: LeaseStore<B>>(
     }
 }
 
+/// Looks where an extent of a leased blob lies. It fails only with `Memory`.
+fn locate_leased<F: ContentStore>(
+    files: &F,
+    alloc: Global,
+    extent: Extent,
+) -> Result<RequestResult, Refusal>
+    ensures { ReadsExtent F.on_disk true extent result }
+{
+    match extent.locate(files, alloc) {
+        Ok(Some(located)) => Ok(RequestResult::Located(located)),
+        Ok(None) => Ok(RequestResult::NoFile),
+        Err(Unread::Memory) => Err(Refusal::Memory),
+        Err(Unread::Unreadable) => Ok(RequestResult::Unreadable),
+    }
+}
+
 /// Reads an extent of a leased blob. It fails only with `Memory`.
 fn read_leased<F: ContentStore>(
     files: &F,
     alloc: Global,
     extent: Extent,
 ) -> Result<RequestResult, Refusal>
-    ensures { ReadsExtent F.on_disk extent result }
+    ensures { ReadsExtent F.on_disk false extent result }
 {
     match extent.read(files, alloc) {
         Ok(piece) => Ok(RequestResult::Answered(Reply::Bytes(piece))),
@@ -150,18 +169,21 @@ fn read_leased<F: ContentStore>(
     }
 }
 
-/// Reads a piece of a leased blob. The table is asked first, and what it gives is read afterwards, without its lock.
+/// Reads a piece of a leased blob, or looks where it lies if `is_located`. The table is asked first, and what it gives is read
+/// afterwards, without its lock.
 fn execute_read<F: ContentStore, B: Backend, L: LeaseStore<B>>(
     files: &F,
     alloc: Global,
     leases: &mut L,
     request: &RequestFrame<'_>,
+    is_located: bool,
 ) -> Result<RequestResult, Refusal>
-    ensures { IsReadResult F.on_disk L.does request.now leases.old result leases.new }
+    ensures { IsReadResult F.on_disk is_located L.does request.now leases.old result leases.new }
 {
     let digest = digest_in(request.digest())?;
     let (start, end) = ends_of(range_of(&request.head)?);
     match leases.extent(request.head.number, &digest, start, end)? {
+        Some(extent) if is_located => locate_leased(files, alloc, extent),
         Some(extent) => read_leased(files, alloc, extent),
         None => Ok(RequestResult::Answered(Reply::NoLease)),
     }
@@ -209,8 +231,8 @@ fn execute_query<B: Queries>(alloc: Global, store: &B, request: &RequestFrame<'_
     }
 }
 
-/// Plays a request whose first byte names no verb: a fetch or a query.
-fn execute_fetch_or_query<F: ContentStore, B: Backend + Queries, L: LeaseStore<B>>(
+/// Plays a request whose first byte names no verb: a fetch, a request for the place of bytes, or a query.
+fn execute_without_verb<F: ContentStore, B: Backend + Queries, L: LeaseStore<B>>(
     files: &F,
     alloc: Global,
     backend: &mut B,
@@ -222,10 +244,13 @@ fn execute_fetch_or_query<F: ContentStore, B: Backend + Queries, L: LeaseStore<B
         result
         (backend.new, leases.new) }
 {
-    if request.head.command != FETCH {
-        return execute_query(alloc, backend, request);
+    if request.head.command == FETCH {
+        return outcome_or_refusal(execute_fetch(files, alloc, backend, leases, request));
     }
-    outcome_or_refusal(execute_fetch(files, alloc, backend, leases, request))
+    if request.head.command == LOCATE {
+        return outcome_or_refusal(execute_read::<F, B, L>(files, alloc, leases, request, true));
+    }
+    execute_query(alloc, backend, request)
 }
 
 /// Plays a request on a store and a table of leases, and returns its outcome.
@@ -243,7 +268,8 @@ fn execute_fetch_or_query<F: ContentStore, B: Backend + Queries, L: LeaseStore<B
 /// # Cost
 ///
 /// The cost of the call of the store or of the table, and linear in the length of the request's texts. It allocates the
-/// request's repository names. It does not copy the bytes of a blob in memory, and reads those of a blob in a file.
+/// request's repository names. It does not copy the bytes of a blob in memory, and reads those of a blob in a file, but not for
+/// the place of bytes.
 pub fn execute_request<F: ContentStore, B: Backend + Queries, L: LeaseStore<B>>(
     files: &F,
     alloc: Global,
@@ -256,11 +282,13 @@ pub fn execute_request<F: ContentStore, B: Backend + Queries, L: LeaseStore<B>>(
         (backend.new, leases.new) }
 {
     let Some(verb) = verb_of(request.head.command) else {
-        return execute_fetch_or_query(files, alloc, backend, leases, request);
+        return execute_without_verb(files, alloc, backend, leases, request);
     };
     match verb {
         Verb::Lease => outcome_or_refusal(execute_lease(alloc, backend, leases, request)),
-        Verb::Read => { outcome_or_refusal(execute_read::<F, B, L>(files, alloc, leases, request)) }
+        Verb::Read => {
+            outcome_or_refusal(execute_read::<F, B, L>(files, alloc, leases, request, false))
+        }
         Verb::GiveBack => RequestResult::Answered(execute_give_back::<B, L>(
             leases,
             request.head.number,
