@@ -1,6 +1,7 @@
 //! Reading and deleting blobs.
 use crate::endpoints::call::Call;
 use crate::endpoints::transfer::{Pace, Span, Transfer, LEAST_HELD, PIECE_LEN};
+use crate::folder::content_pieces::MAX_PIECE;
 use crate::http::conditions::{check_match, entity_tag, has_content, is_range_wanted, not_modified};
 use crate::http::content::HELD_LEN;
 use crate::http::fault::Fault;
@@ -107,7 +108,7 @@ async fn get_leased(call: &Call, digest: &str, requested: RequestedRange, leased
         }
     };
     let (start, end) = (slice.start, slice.end);
-    let (least, most) = ((end - start).min(LEAST_HELD), (end - start).min(HELD_LEN));
+    let (least, most) = ((end - start).min(LEAST_HELD), slice.most_held());
     let reserved = match call.registry.memory.reserve_between(&call.holder(), least, most).await {
         Ok(reserved) => reserved,
         Err(fault) => {
@@ -184,6 +185,16 @@ impl Slice {
             Part::All => Some(Slice { status: StatusCode::OK, start: 0, end: size, size }),
             Part::Some(start, last) => Some(Slice { status: StatusCode::PARTIAL_CONTENT, start, end: last + 1, size }),
             Part::Unsatisfiable => None,
+        }
+    }
+
+    /// Returns the maximum number of bytes that a transfer of them holds. A part of a blob may be read with all of its first and its last
+    /// piece.
+    fn most_held(&self) -> u64 {
+        match self.end - self.start {
+            len @ 0..=PIECE_LEN => len,
+            len if len == self.size => len.min(HELD_LEN),
+            len => (len + 2 * MAX_PIECE).min(HELD_LEN),
         }
     }
 

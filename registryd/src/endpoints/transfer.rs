@@ -1,8 +1,10 @@
-//! The transfer of a leased blob to a client, in pieces.
+//! The transfer of a leased blob to a client, in pieces. A blob in a file is read here. What the file does not give as the store noted it
+//! is asked of the store, which decides what is damaged.
 use crate::endpoints::call::Call;
 use crate::endpoints::registry::Registry;
+use crate::folder::content_pieces::{ContentPieces, PieceRead, MAX_PIECE};
 use crate::http::fault::Fault;
-use crate::store::calls::LeasedBlob;
+use crate::store::calls::{LeasedBlob, Place};
 use crate::store::client::{Answer, StoreUnavailable};
 use crate::store::connection::WHOLE_LEN;
 use crate::store::frames::Refusal;
@@ -10,6 +12,7 @@ use bytes::Bytes;
 use hyper::body::Sender;
 use hyper::Body;
 use std::collections::VecDeque;
+use std::path::PathBuf;
 use std::sync::Arc;
 use std::time::Duration;
 use tokio::task::JoinHandle;
@@ -18,12 +21,15 @@ use tracing::Instrument;
 /// The maximum number of bytes that one read returns.
 pub(super) const PIECE_LEN: u64 = WHOLE_LEN as u64;
 
-/// The number of pieces that are read at once, each on its own connection to the store. One is taken out of its pipe while
-/// the next is written into another.
+/// The number of pieces that are read at once through the store, each on its own connection. One is taken out of its pipe while the next
+/// is written into another.
 const READS_AT_ONCE: usize = 2;
 
 /// The number of bytes that a transfer holds if its tenant holds much.
 pub(super) const LEAST_HELD: u64 = 128 << 10;
+
+/// The maximum number of bytes whose place is asked of the store at once.
+const LOCATED_LEN: u64 = 32 << 20;
 
 /// The length of the pieces of such a transfer. It reads one at a time. The pieces that are read, wait and are sent, together
 /// with the server's buffer of 64 KiB, are within `LEAST_HELD`.
@@ -52,8 +58,9 @@ impl Span {
 
 /// How much of a blob a transfer reads ahead of its client.
 pub(super) struct Pace {
-    /// The maximum length of a piece.
+    /// The maximum lengths of a piece that the store reads, and of one that is read from a file.
     piece_len: u64,
+    part_len: u64,
     /// The number of pieces that are read at once.
     reads_at_once: usize,
 }
@@ -62,8 +69,8 @@ impl Pace {
     /// Returns the pace of a transfer that holds memory for long pieces, or only `LEAST_HELD` bytes.
     pub(super) fn of(has_most: bool) -> Pace {
         match has_most {
-            true => Pace { piece_len: PIECE_LEN, reads_at_once: READS_AT_ONCE },
-            false => Pace { piece_len: SHORT_PIECE_LEN, reads_at_once: 1 },
+            true => Pace { piece_len: PIECE_LEN, part_len: MAX_PIECE, reads_at_once: READS_AT_ONCE },
+            false => Pace { piece_len: SHORT_PIECE_LEN, part_len: SHORT_PIECE_LEN, reads_at_once: 1 },
         }
     }
 }
@@ -75,6 +82,13 @@ enum Piece {
     Read(JoinHandle<Answer<Bytes>>),
 }
 
+/// Who reads the bytes of a transfer.
+enum Source {
+    Store,
+    /// This program, from the content's file: the pieces whose places are known.
+    File(Option<ContentPieces>),
+}
+
 /// The transfer of a leased blob to a client.
 pub(super) struct Transfer {
     registry: Arc<Registry>,
@@ -84,6 +98,7 @@ pub(super) struct Transfer {
     /// The spans from the next piece on.
     spans: VecDeque<Span>,
     pace: Pace,
+    source: Source,
     /// The pieces that are being read, in order.
     pieces: VecDeque<Piece>,
 }
@@ -104,7 +119,7 @@ impl From<StoreUnavailable> for TransferError {
 
 impl Transfer {
     /// Begins a transfer, and returns the body that it fills. The lease is released after the last read, or if the client
-    /// disconnects.
+    /// disconnects. If it has one span of content and the registry has a folder, it reads the file itself.
     ///
     /// # Errors
     ///
@@ -118,7 +133,11 @@ impl Transfer {
     ) -> Result<Body, Fault> {
         let (sender, body) = Body::channel();
         let (registry, repo, digest, pieces) = (call.registry.clone(), call.repo.clone(), digest.to_string(), VecDeque::new());
-        let mut transfer = Transfer { registry, leased, repo, digest, spans, pace, pieces };
+        let source = match (&registry.folder, spans.len()) {
+            (Some(_), 1) => Source::File(None),
+            _ => Source::Store,
+        };
+        let mut transfer = Transfer { registry, leased, repo, digest, spans, pace, source, pieces };
         if let Err(fault) = transfer.read_first().await {
             transfer.end().await;
             return Err(fault);
@@ -130,7 +149,7 @@ impl Transfer {
     /// Begins the first reads, and waits for the first of them.
     async fn read_first(&mut self) -> Result<(), Fault> {
         for _ in 0..self.pace.reads_at_once {
-            self.read_next();
+            self.read_next().await?;
         }
         // In front of the first bytes of the blob may be a text.
         let first = self.pieces.iter().position(|piece| matches!(piece, Piece::Read(_)));
@@ -167,20 +186,52 @@ impl Transfer {
     }
 
     /// Begins to read the next piece, if there is one.
-    fn read_next(&mut self) {
+    async fn read_next(&mut self) -> Result<(), StoreUnavailable> {
         let piece = match self.spans.pop_front() {
-            None => return,
+            None => return Ok(()),
             Some(Span::Text(text)) => Piece::Text(text),
             Some(Span::Content(start, end)) => {
-                let next = end.min(start + self.pace.piece_len);
+                let in_file = self.next_in_file(start, end).await?;
+                let next = in_file.as_ref().map_or(end.min(start + self.pace.piece_len), |read| read.end);
                 if next < end {
                     self.spans.push_front(Span::Content(next, end));
                 }
                 let (registry, digest, number) = (self.registry.clone(), self.digest.clone(), self.leased.number);
-                Piece::Read(tokio::spawn(async move { registry.store.read(number, &digest, start, next - 1).await }))
+                Piece::Read(tokio::spawn(async move {
+                    match run(in_file).await {
+                        Some(bytes) => Ok(Ok(bytes)),
+                        None => registry.store.read(number, &digest, start, next - 1).await,
+                    }
+                }))
             }
         };
         self.pieces.push_back(piece);
+        Ok(())
+    }
+
+    /// Returns the read of the next bytes of the content's file, or `None` if the store reads them.
+    async fn next_in_file(&mut self, start: u64, end: u64) -> Result<Option<PieceRead>, StoreUnavailable> {
+        let known = match &mut self.source {
+            Source::Store => return Ok(None),
+            Source::File(pieces) => pieces.as_mut().and_then(|pieces| pieces.next(start, end)),
+        };
+        if known.is_some() {
+            return Ok(known);
+        }
+        let last = end.min(start + LOCATED_LEN) - 1;
+        let place = self.registry.store.locate(self.leased.number, &self.digest, start, last).await?;
+        match place.ok().flatten().and_then(|place| Some((file_of(&self.registry, &place)?, place))) {
+            Some((path, place)) => {
+                let mut pieces = ContentPieces::new(path, self.pace.part_len, place.offset, place.notes);
+                let read = pieces.next(start, end);
+                self.source = Source::File(Some(pieces));
+                Ok(read)
+            }
+            None => {
+                self.source = Source::Store;
+                Ok(None)
+            }
+        }
     }
 
     /// Sends the bytes piece by piece. It holds no connection to the store while it waits for the client.
@@ -193,7 +244,7 @@ impl Transfer {
                     self.registry.check_read(&self.repo, &self.digest, read).map_err(TransferError::Refused)?
                 }
             };
-            self.read_next();
+            self.read_next().await?;
             let count = bytes.len();
             match tokio::time::timeout(IDLE_TIME, sender.send_data(bytes)).await {
                 Ok(Ok(())) => self.registry.metrics.sent(count),
@@ -202,4 +253,16 @@ impl Transfer {
         }
         Ok(())
     }
+}
+
+/// Returns the path of the file in which bytes of a blob lie.
+fn file_of(registry: &Registry, place: &Place) -> Option<PathBuf> {
+    let tenant = registry.tenants.get(place.tenant)?;
+    Some(registry.folder.as_ref()?.content_file(tenant, place.number))
+}
+
+/// Reads bytes of a content's file, on a thread that may wait for the disk.
+async fn run(read: Option<PieceRead>) -> Option<Bytes> {
+    let read = read?;
+    tokio::task::spawn_blocking(move || read.run()).await.ok()?
 }

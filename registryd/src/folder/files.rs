@@ -22,6 +22,14 @@ const ACCEPT_LOSS: &str = "accept-loss";
 /// The file with the length of the longest content whose bytes are in the log. The store makes it when all longer ones have files.
 const LONGEST: &str = "longest";
 
+/// The folder of the contents.
+const CONTENTS: &str = "contents";
+
+/// Returns the path of a content's file in the folder: the content that the session of this number of a tenant received.
+pub(super) fn content_path(tenant: &str, number: u64) -> String {
+    format!("{CONTENTS}/{tenant}/{number}")
+}
+
 /// Returns whether the long contents of a folder have files.
 pub(crate) fn has_contents(path: &Path) -> bool {
     path.join(LONGEST).exists()
@@ -54,6 +62,11 @@ impl Folder {
 
     pub(crate) fn path(&self) -> &Path {
         &self.path
+    }
+
+    /// Returns the path of the file of the content that the session of this number of a tenant received.
+    pub(crate) fn content_file(&self, tenant: &str, number: u32) -> PathBuf {
+        self.path.join(content_path(tenant, u64::from(number)))
     }
 
     /// Returns the length of the log, in bytes.

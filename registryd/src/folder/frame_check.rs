@@ -1,4 +1,5 @@
 //! Reads a file of the store's log, finds out whether it is whole, and gives the payloads of its frames (docs/LOG.md).
+use crate::folder::sums::{sum_of, word_of, BASIS};
 use std::fmt;
 use std::io::{self, Read};
 
@@ -12,8 +13,6 @@ const PIECE: usize = 1 << 16;
 
 const MAGIC: &[u8; 8] = b"bloblog\0";
 const VERSION: u64 = 1;
-const PRIME: u64 = 1_099_511_628_211;
-const BASIS: u64 = 14_695_981_039_346_656_037;
 
 /// What is wrong with a file, and the byte at which the frame begins that has it.
 #[derive(Clone, Debug, PartialEq, Eq)]
@@ -41,21 +40,6 @@ impl Payloads for () {
     fn add(&mut self, _: &[u8]) {}
 
     fn end_frame(&mut self) {}
-}
-
-/// Continues a sum over bytes.
-fn sum_of(mut sum: u64, bytes: &[u8]) -> u64 {
-    let words = bytes.chunks_exact(8);
-    let rest = words.remainder();
-    for word in words {
-        sum = (sum ^ word_of(word)).wrapping_mul(PRIME).swap_bytes();
-    }
-    rest.iter().fold(sum, |sum, byte| (sum ^ u64::from(*byte)).wrapping_mul(PRIME))
-}
-
-/// Returns the number in eight bytes.
-fn word_of(bytes: &[u8]) -> u64 {
-    bytes.iter().rev().fold(0, |number, byte| number << 8 | u64::from(*byte))
 }
 
 /// A file that is being checked.

@@ -1,13 +1,11 @@
 //! Which contents lie in files, by the store's log: a content of the session `NUMBER` of a tenant in `contents/TENANT/NUMBER`
 //! (docs/STORAGE.md, "The folder").
+use crate::folder::files::content_path;
 use crate::folder::records::{Kind, Record};
 use crate::metadata::names::tenant_of;
 use sha2::{Digest as _, Sha256, Sha512};
 use std::collections::HashMap;
 use std::fmt;
-
-/// The folder of the contents in the folder of `--data`.
-pub(super) const FOLDER: &str = "contents";
 
 /// The digest of a content.
 #[derive(Clone, Debug, PartialEq, Eq, Hash, PartialOrd, Ord)]
@@ -215,7 +213,7 @@ impl Inventory {
 
     /// Returns the path of a place in the folder of `--data`.
     pub(super) fn path_of(&self, place: Place) -> String {
-        format!("{FOLDER}/{}/{}", self.tenants.texts[place.tenant as usize], place.number)
+        content_path(&self.tenants.texts[place.tenant as usize], place.number)
     }
 
     /// Returns the length of a content whose file has this path, if that is still its place.

@@ -1,5 +1,6 @@
 //! The folder of `--data`: its files, the room on its disk, and the looks at both while clients are served.
 mod content_file;
+pub(crate) mod content_pieces;
 mod content_scrub;
 pub(crate) mod contents_list;
 pub(crate) mod damaged;
@@ -16,5 +17,6 @@ pub(crate) mod ownership;
 pub(crate) mod page_cache;
 mod records;
 pub(crate) mod scrub;
+pub(crate) mod sums;
 pub(crate) mod unsynced;
 pub(crate) mod watcher;

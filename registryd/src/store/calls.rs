@@ -1,11 +1,14 @@
 //! The calls to the store, one function for each command, and their results.
 
+use crate::folder::content_pieces::Note;
+use crate::folder::sums::word_of;
 use crate::store::appending::{append_on, append_request, len_of, range_of};
 use crate::store::client::{Answer, NoReply, Store, StoreUnavailable};
 use crate::store::connection::WHOLE_LEN;
 use crate::store::frames::{Command, Reply, Request};
 use crate::store::undo::Undo;
 use bytes::Bytes;
+use std::collections::VecDeque;
 use std::time::Duration;
 use tokio::sync::mpsc::Receiver;
 use tokio::time::Instant;
@@ -25,6 +28,35 @@ pub(crate) struct LeasedBlob {
     pub(crate) number: Lease,
     pub(crate) size: u64,
 }
+
+/// Where bytes of a leased blob lie: in pieces of a file that follow each other.
+#[derive(Debug, PartialEq, Eq)]
+pub(crate) struct Place {
+    /// The position of the tenant among those of the store, and the number of the session that received the content.
+    pub(crate) tenant: usize,
+    pub(crate) number: u32,
+    /// The offset at which the first piece begins, in the blob and in the file.
+    pub(crate) offset: u64,
+    /// What is noted of each piece.
+    pub(crate) notes: VecDeque<Note>,
+}
+
+impl Place {
+    /// Returns the place in a reply, or `None` if the bytes lie in no file.
+    fn of(reply: &Reply) -> Option<Place> {
+        let note = |bytes: &[u8]| Note { len: word_of(&bytes[..8]), sum: word_of(&bytes[8..]) };
+        let place = || Place {
+            tenant: (reply.second >> 32) as usize,
+            number: reply.second as u32,
+            offset: reply.first,
+            notes: reply.body.chunks_exact(NOTE_LEN).map(note).collect(),
+        };
+        (reply.second != 0).then(place)
+    }
+}
+
+/// The number of bytes of a note in a reply.
+const NOTE_LEN: usize = 16;
 
 /// The result of a fetch.
 pub(crate) enum FetchResult {
@@ -203,6 +235,14 @@ impl Store {
         Ok(answer.map(|reply| reply.body))
     }
 
+    /// Returns where the bytes of a leased blob from one offset to another, both included, lie. Returns `None` if they lie in no file.
+    pub(crate) async fn locate(&self, lease: Lease, digest: &str, start: u64, last: u64) -> Answer<Option<Place>> {
+        let range = Some((start, last));
+        let request = Request { number: lease.number, digest, range, ..Request::new(Command::Locate) };
+        let [answer] = self.ask_all(lease.sharer, self.limit, [request], Undo::Nothing).await?;
+        Ok(answer.map(|reply| Place::of(&reply)))
+    }
+
     /// Returns the bytes of a leased blob as `read` does, and releases the lease. `range` is `None` only for an empty blob.
     pub(crate) async fn read_last(&self, lease: Lease, digest: &str, range: Option<(u64, u64)>) -> Answer<Bytes> {
         let number = lease.number;
@@ -259,5 +299,21 @@ impl Store {
         let answer = self.ask(Request { repo, ..Request::new(Command::SlotUse) }).await?;
         let share = |number| Some(number).filter(|number| *number != UNLIMITED);
         Ok(answer.map(|reply| SlotUse { blobs: reply.first, share: share(reply.second) }))
+    }
+}
+
+#[cfg(test)]
+mod tests {
+    use super::*;
+
+    /// The fields of docs/PROTOCOL.md.
+    #[test]
+    fn a_place_has_the_notes_of_its_pieces() {
+        let mut body = vec![0, 0, 16, 0, 0, 0, 0, 0, 1, 2, 0, 0, 0, 0, 0, 128];
+        body.extend_from_slice(&[3, 0, 0, 0, 0, 0, 0, 0, 5, 0, 0, 0, 0, 0, 0, 0]);
+        let reply = Reply { first: 16_384, second: 2 << 32 | 7, body: body.into(), ..Reply::default() };
+        let notes = [Note { len: 1 << 20, sum: 1 << 63 | 513 }, Note { len: 3, sum: 5 }].into_iter().collect();
+        assert_eq!(Place::of(&reply), Some(Place { tenant: 2, number: 7, offset: 16_384, notes }));
+        assert_eq!(Place::of(&Reply::default()), None);
     }
 }

@@ -1,5 +1,6 @@
 //! A connection to `blobd`: a pair of pipes. Replies are in the order of their requests.
 use crate::store::frames::{Reason, Refusal, Reply, ReplyHead, Request, GREETING, HEAD_LEN};
+use crate::store::reading::{read_on, room_for};
 use bytes::Bytes;
 use std::fs::File;
 use std::io::{self, IoSlice, Read, Write};
@@ -229,26 +230,4 @@ impl StoreConnection {
         }
         Ok(())
     }
-}
-
-/// Returns an empty vector with room for `len` bytes, or `None` if allocation fails.
-fn room_for(len: u64) -> Option<Vec<u8>> {
-    let mut room = Vec::new();
-    room.try_reserve_exact(usize::try_from(len).ok()?).ok()?;
-    Some(room)
-}
-
-/// Reads at most `most` bytes and appends them to the vector. Returns their number.
-fn read_on(file: &File, bytes: &mut Vec<u8>, most: usize) -> io::Result<usize> {
-    let room = bytes.spare_capacity_mut();
-    let len = room.len().min(most);
-    // SAFETY: `room` has at least `len` bytes, the most that the call writes.
-    let count = unsafe { libc::read(file.as_raw_fd(), room.as_mut_ptr().cast(), len) };
-    if count < 0 {
-        return Err(io::Error::last_os_error());
-    }
-    let count = count as usize;
-    // SAFETY: the call has written `count` bytes of the room.
-    unsafe { bytes.set_len(bytes.len() + count) };
-    Ok(count)
 }

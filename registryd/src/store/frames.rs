@@ -38,6 +38,7 @@ pub(crate) enum Command {
     RemoveRepo = 22,
     SlotUse = 23,
     SyncCount = 25,
+    Locate = 26,
 }
 
 /// A request.

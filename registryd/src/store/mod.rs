@@ -6,4 +6,5 @@ pub(crate) mod connection;
 pub(crate) mod frames;
 mod pool;
 pub(crate) mod process;
+pub(crate) mod reading;
 pub(crate) mod undo;
