@@ -46,6 +46,7 @@ fn main() -> ExitCode {
         tracing::error!("{conflict}");
         return ExitCode::from(2);
     }
+    memory_reserve::share_heap();
     let runtime = tokio::runtime::Builder::new_multi_thread().enable_all().build();
     let ended = runtime.map_err(Failure::from).and_then(|runtime| {
         let ended = runtime.block_on(run(options));

@@ -21,19 +21,19 @@ use tracing::Instrument;
 /// The maximum number of bytes that one read returns.
 pub(super) const PIECE_LEN: u64 = WHOLE_LEN as u64;
 
-/// The number of pieces that are read at once through the store, each on its own connection. One is taken out of its pipe while the next
-/// is written into another.
+/// The number of pieces that are read at once, while another one is being sent. The store reads each on a connection of its own: one is
+/// taken out of its pipe while the next is written into another.
 const READS_AT_ONCE: usize = 2;
 
 /// The number of bytes that a transfer holds if its tenant holds much.
 pub(super) const LEAST_HELD: u64 = 128 << 10;
 
+/// The length of the pieces of such a transfer. It reads one at a time. The piece that is read, the one that is sent, and the server's buffer
+/// of 64 KiB are within `LEAST_HELD`.
+const SHORT_PIECE_LEN: u64 = LEAST_HELD / 8;
+
 /// The maximum number of bytes whose place is asked of the store at once.
 const LOCATED_LEN: u64 = 32 << 20;
-
-/// The length of the pieces of such a transfer. It reads one at a time. The pieces that are read, wait and are sent, together
-/// with the server's buffer of 64 KiB, are within `LEAST_HELD`.
-const SHORT_PIECE_LEN: u64 = LEAST_HELD / 8;
 
 /// The time for which a client may take no byte of a piece.
 const IDLE_TIME: Duration = Duration::from_secs(300);
@@ -234,7 +234,8 @@ impl Transfer {
         }
     }
 
-    /// Sends the bytes piece by piece. It holds no connection to the store while it waits for the client.
+    /// Sends the bytes piece by piece. It begins to read a piece after the client has taken another one, and holds no connection to the
+    /// store while it waits for the client.
     async fn send_pieces(&mut self, sender: &mut Sender) -> Result<(), TransferError> {
         while let Some(piece) = self.pieces.pop_front() {
             let bytes = match piece {
@@ -244,12 +245,12 @@ impl Transfer {
                     self.registry.check_read(&self.repo, &self.digest, read).map_err(TransferError::Refused)?
                 }
             };
-            self.read_next().await?;
             let count = bytes.len();
             match tokio::time::timeout(IDLE_TIME, sender.send_data(bytes)).await {
                 Ok(Ok(())) => self.registry.metrics.sent(count),
                 Ok(Err(_)) | Err(_) => return Err(TransferError::Left),
             }
+            self.read_next().await?;
         }
         Ok(())
     }

@@ -46,6 +46,13 @@ pub(crate) async fn keep_reserve() {
     }
 }
 
+/// Lets all threads share one heap of the allocator. Of pieces that many threads read and free, heaps of their own would keep as many as each had
+/// at once.
+pub(crate) fn share_heap() {
+    // SAFETY: the call takes no pointer.
+    unsafe { libc::mallopt(libc::M_ARENA_MAX, 1) };
+}
+
 /// Returns the number of free bytes in the allocator.
 fn free_bytes() -> usize {
     // SAFETY: the calls take no pointer.
