@@ -1,6 +1,6 @@
 #!/usr/bin/env python3
 """Counts the calls to the store that a GET of a blob makes, for the full content and for ranges, and compares what it sends."""
-import email, email.policy, http.client
+import email, email.policy, http.client, os, re, resource, time
 
 from hardships import head_of
 from playing import calls, play, serving_stub, until
@@ -179,6 +179,71 @@ def ranges_of(answer):
     return [part["Content-Range"] for part in message.get_payload()], contents
 
 
+def read_by(process):
+    """Returns the number of bytes that a process has read (proc(5))."""
+    with open(f"/proc/{process}/io") as text:
+        return int(re.search(r"^rchar: (\d+)$", text.read(), re.MULTILINE)[1])
+
+
+def in_chunks(client, data, lengths):
+    """Uploads a blob in chunks of these lengths, of which the last one has the rest, and returns its path."""
+    at, place = client.ask("POST", "/v2/acme/one/blobs/uploads/", b"")["Location"], 0
+    for length in lengths:
+        answer = client.ask("PATCH", at, data[place:place + length], PATCH)
+        assert answer.status == 202, answer.status
+        at, place = answer["Location"], place + length
+    assert client.ask("PUT", f"{at}{'&' if '?' in at else '?'}digest={sha256(data)}", data[place:], PATCH).status == 201
+    return f"/v2/acme/one/blobs/{sha256(data)}"
+
+
+# The lengths of chunks whose content is in memory first, and then has pieces of all kinds.
+CHUNKS = 3, 10_000, 9000, 2 * MIB + 5, MIB, 7
+
+
+def a_long_blob_is_read_from_its_file():
+    """Parts that begin and end before, at and behind the ends of pieces are what was pushed, and the store reads none of it."""
+    data = os.urandom(5 * MIB)
+    ends = [sum(CHUNKS[:count]) + more for count in range(1, len(CHUNKS) + 1) for more in (-1, 0, 1)]
+    with folder() as path, serving("--data", path) as server:
+        client = server.client()
+        at, before = in_chunks(client, data, CHUNKS), read_by(server.child())
+        assert client.ask("GET", at).body == data
+        for start in [0, *ends]:
+            for end in (start + MIB + 1, start + 2 * MIB, *(end for end in ends if end > start + MIB), len(data)):
+                if start + MIB < end <= len(data):
+                    answer = client.ask("GET", at, headers={"Range": f"bytes={start}-{end - 1}"})
+                    assert (answer.status, answer.body == data[start:end]) == (206, True), (start, end, answer.status)
+        assert read_by(server.child()) - before < MIB, read_by(server.child()) - before
+
+
+def a_reader_with_little_memory_reads_each_piece_twice():
+    """An upload holds so much memory that 128 KiB are left for a reader. The pieces are read for their sums first, and then part by part."""
+    data = os.urandom(5 * MIB)
+    with folder() as path, serving("--data", path, "--memory-in-flight", str(8 * MIB)) as server:
+        client = server.client()
+        at = in_chunks(client, data, CHUNKS)
+        line = server.socket()
+        line.sendall(head_of("POST", f"acme/one/blobs/uploads/?digest={sha256(b'')}", Content_Length=6 * MIB) + b"x")
+        time.sleep(1)
+        programs = server.process.pid, server.child()
+        before = [read_by(program) for program in programs]
+        assert client.ask("GET", at).body == data
+        own, stores = (read_by(program) - had for program, had in zip(programs, before))
+        assert 2 * len(data) - MIB < own < 2 * len(data) + MIB and stores < MIB, (own, stores)
+        line.close()
+
+
+def a_file_that_cannot_be_opened_is_read_by_the_store():
+    """So it is with a process that has no descriptor left."""
+    data = os.urandom(3 * MIB)
+    with folder() as path, serving("--data", path) as server:
+        client = server.client()
+        at, before = in_chunks(client, data, CHUNKS[:3]), read_by(server.child())
+        resource.prlimit(server.process.pid, resource.RLIMIT_NOFILE, (3, 3))
+        assert client.ask("GET", at).body == data
+        assert read_by(server.child()) - before > 2 * MIB, "the store did not read"
+
+
 def several_parts_are_sent_together():
     """With a boundary that the content cannot have by chance. Several reads of a long part and one of a short one take one lease."""
     data = bytes(range(256)) * (MIB // 64) + b"\r\n--the end--\r\n"
@@ -237,7 +302,9 @@ def main():
         a_part_that_is_not_there_takes_one_call, a_part_whose_place_depends_on_the_size_takes_a_lease,
         a_part_that_is_not_wanted_is_not_fetched, a_blob_that_is_not_there_takes_one_call,
         without_memory_for_a_fetch_the_size_is_asked_for_first, a_fetch_that_came_too_late_leaves_no_lease,
-        a_damaged_content_has_no_wrong_byte, parts_are_those_of_the_content, several_parts_are_sent_together, some_ranges_are_one_part_or_all])
+        a_damaged_content_has_no_wrong_byte, parts_are_those_of_the_content, a_long_blob_is_read_from_its_file,
+        a_reader_with_little_memory_reads_each_piece_twice, a_file_that_cannot_be_opened_is_read_by_the_store,
+        several_parts_are_sent_together, some_ranges_are_one_part_or_all])
 
 
 if __name__ == "__main__":
