@@ -8,6 +8,7 @@ It needs a built blobd and registryd (BLOBD and REGISTRYD name the programs). Th
 --scale 0.1 each measure has a tenth of its blobs and bytes."""
 import argparse
 import http.client
+import json
 import os
 import pathlib
 import random
@@ -159,7 +160,11 @@ def start(room, scale):
         os.truncate(contents / str(number), size)
     (data / "log.1").write_bytes(framed(77, [*payloads, b""]))
     (data / "longest").write_text("16384\n")
-    words = [PROGRAM, "--data", data, "1048576", str(1 << 40), f"acme={1 << 44}"]
+    starts(room, [PROGRAM, "--data", data, "1048576", str(1 << 40), f"acme={1 << 44}"], f"{count} contents, {count * size / GIB:.0f} GiB")
+
+
+def starts(room, words, what):
+    """Starts a program twice, and prints how long that takes, and what the program says meanwhile."""
     for turn in ("first", "second"):
         blobd = Blobd(words, room)
         begun = time.monotonic()
@@ -169,7 +174,44 @@ def start(room, scale):
         status, text = blobd.ends()
         if status:
             sys.exit(f"bench/contents.py: blobd ended with {status}: {text}")
-        print(f"the {turn} start with {count} contents, {count * size / GIB:.0f} GiB: {took:.2f} s, {now:.0f} MiB resident, at most {peak:.0f}", flush=True)
+        print(f"the {turn} start with {what}: {took:.2f} s, {now:.0f} MiB resident, at most {peak:.0f}", flush=True)
+        for line in text.splitlines()[:-1]:
+            print(f"  {line}")
+
+
+def numbers(room, scale):
+    """A start with 2^20 sparse contents of a MiB in 2^16 repositories, and 100,000 manifests. The log is written here, as by `start`."""
+    count, repositories, manifests = (max(1, int(most * scale)) for most in (1 << 20, 1 << 16, 100_000))
+    data = room / "data"
+    contents = data / "contents" / "acme"
+    contents.mkdir(parents=True)
+    head, note = struct.Struct("<IHHQQ"), struct.pack("<QQ", MIB, log_sum(FNV_BASIS, bytes(MIB)))
+
+    def name(number):
+        return b"acme/r%d" % (number % repositories)
+
+    def digest(number):
+        return sha256(str(number).encode())
+
+    def blob(number):
+        opened = head.pack(2, len(name(number)), 0, number, 0) + name(number)
+        return opened + head.pack(14, 4, 71, number, len(note)) + b"acme" + digest(number).encode() + note
+
+    def manifest(number):
+        parts = [{"mediaType": f"application/vnd.oci.image.{kind}", "digest": digest(of), "size": MIB}
+                 for kind, of in (("config.v1+json", number), ("layer.v1.tar", (number + repositories) % count))]
+        body = json.dumps({"schemaVersion": 2, "config": parts[0], "layers": parts[1:], "annotations": {"number": str(number)}}).encode()
+        return head.pack(8, len(name(number)), 0, 0, len(body)) + name(number) + body
+
+    for number in range(count):
+        os.close(os.open(contents / str(number + 1), os.O_CREAT | os.O_WRONLY))
+        os.truncate(contents / str(number + 1), MIB)
+    records = [*(blob(number) for number in range(1, count + 1)), *(manifest(number) for number in range(1, manifests + 1))]
+    payloads = [b"".join(records[at:at + 512]) for at in range(0, len(records), 512)]
+    (data / "log.1").write_bytes(framed(77, [*payloads, b""]))
+    (data / "longest").write_text("16384\n")
+    words = [PROGRAM, "--data", data, str(count + 16), str(1 << 40), f"acme={1 << 50},{count + 16},65536,65536,1024"]
+    starts(room, words, f"{count} contents in {repositories} repositories, and {manifests} manifests")
 
 
 def places(room, scale):
@@ -189,7 +231,7 @@ def places(room, scale):
                 print(f"{size:7} bytes, {connections:2} connections, {pause} ms more a sync: {found[0]:8,.0f} {found[1]:8,.0f}", flush=True)
 
 
-MEASURES = {"memory": memory, "upload": upload, "start": start, "places": places}
+MEASURES = {"memory": memory, "upload": upload, "start": start, "numbers": numbers, "places": places}
 
 
 def main():

@@ -50,14 +50,14 @@ def header(number, version=1):
 
 def framed(number, payloads):
     """Returns a log with this id of frames with these payloads. Only a mark, whose payload is empty, states a sync."""
-    found = header(number)
+    found = bytearray(header(number))
     chained = log_sum(FNV_BASIS, found[:24])
     for payload in payloads:
         fields = struct.pack("<QQQ", len(found), HEADER if payload else len(found), len(payload))
         begun = fields + struct.pack("<Q", log_sum(number, fields)) + payload
         chained = log_sum(chained, begun)
         found += begun + struct.pack("<Q", chained)
-    return found
+    return bytes(found)
 
 
 Frame = collections.namedtuple("Frame", "place synced length")

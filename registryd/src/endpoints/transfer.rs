@@ -33,7 +33,11 @@ pub(super) const LEAST_HELD: u64 = 128 << 10;
 const SHORT_PIECE_LEN: u64 = LEAST_HELD / 8;
 
 /// The maximum number of bytes whose place is asked of the store at once.
-const LOCATED_LEN: u64 = 32 << 20;
+const LOCATED_LEN: u64 = 8 << 20;
+
+/// The maximum number of pieces of these bytes. A content that came in many small chunks is read by the store, so that no transfer holds many
+/// notes.
+const MOST_PIECES: usize = 1024;
 
 /// The time for which a client may take no byte of a piece.
 const IDLE_TIME: Duration = Duration::from_secs(300);
@@ -220,7 +224,8 @@ impl Transfer {
         }
         let last = end.min(start + LOCATED_LEN) - 1;
         let place = self.registry.store.locate(self.leased.number, &self.digest, start, last).await?;
-        match place.ok().flatten().and_then(|place| Some((file_of(&self.registry, &place)?, place))) {
+        let place = place.ok().flatten().filter(|place| place.notes.len() <= MOST_PIECES);
+        match place.and_then(|place| Some((file_of(&self.registry, &place)?, place))) {
             Some((path, place)) => {
                 let mut pieces = ContentPieces::new(path, self.pace.part_len, place.offset, place.notes);
                 let read = pieces.next(start, end);

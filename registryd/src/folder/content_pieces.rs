@@ -19,20 +19,22 @@ pub(crate) struct Note {
     pub(crate) sum: u64,
 }
 
-/// A piece, in parts of `part_len` bytes. None of its bytes is given to anybody before the whole piece was read and had its sum.
-struct Piece {
+/// What is read and compared together: pieces that follow each other and have at most `part_len` bytes, or a longer piece, in parts of that
+/// length. No byte of a piece is given to anybody before the whole piece was read and had its sum.
+struct Block {
     path: PathBuf,
-    /// The offset at which it begins.
+    /// The offset at which it begins, and its length.
     offset: u64,
-    note: Note,
+    len: u64,
+    notes: Vec<Note>,
     part_len: u64,
-    /// The sums of the parts, after the whole piece was read and had its sum, if there are several parts.
+    /// The sums of the parts of a longer piece, after the whole piece was read and had its sum.
     part_sums: Mutex<Vec<u64>>,
 }
 
-impl Piece {
+impl Block {
     fn end(&self) -> u64 {
-        self.offset + self.note.len
+        self.offset + self.len
     }
 
     /// Returns the offsets of the first byte of a part and of the byte behind it.
@@ -41,33 +43,36 @@ impl Piece {
         (start, self.end().min(start + self.part_len))
     }
 
-    fn part_count(&self) -> u64 {
-        (self.note.len + self.part_len - 1) / self.part_len
-    }
-
-    /// Reads the part, which nothing is compared with.
+    /// Reads a part, which nothing is compared with.
     fn read(&self, mut file: &File, index: u64) -> Option<Vec<u8>> {
         let (start, end) = self.part(index);
         file.seek(SeekFrom::Start(start)).ok()?;
         read_exactly(file, end - start).ok()
     }
 
-    /// Reads all parts, and returns their sums if the piece has its own.
+    /// Returns whether each piece of the bytes has its sum.
+    fn are_noted(&self, mut bytes: &[u8]) -> bool {
+        self.notes.iter().all(|note| {
+            let (piece, others) = bytes.split_at(note.len as usize);
+            bytes = others;
+            sum_of(BASIS, piece) == note.sum
+        })
+    }
+
+    /// Reads all parts of a longer piece, and returns their sums if the piece has its own.
     fn read_sums(&self, file: &File) -> Option<Vec<u64>> {
-        let (mut sums, mut whole) = (Vec::with_capacity(self.part_count() as usize), BASIS);
-        for index in 0..self.part_count() {
+        let count = (self.len + self.part_len - 1) / self.part_len;
+        let (mut sums, mut whole) = (Vec::with_capacity(count as usize), BASIS);
+        for index in 0..count {
             let part = self.read(file, index)?;
             whole = sum_of(whole, &part);
             sums.push(sum_of(BASIS, &part));
         }
-        (whole == self.note.sum).then(|| sums)
+        (self.notes.iter().all(|note| note.sum == whole)).then(|| sums)
     }
 
-    /// Returns the sum of a part. All parts are read first, if none was read yet.
-    fn sum(&self, file: &File, index: u64) -> Option<u64> {
-        if self.part_count() == 1 {
-            return Some(self.note.sum);
-        }
+    /// Returns the sum of a part of a longer piece. All parts are read first, if none was read yet.
+    fn part_sum(&self, file: &File, index: u64) -> Option<u64> {
         let mut sums = guard_of(self.part_sums.lock());
         if sums.is_empty() {
             *sums = self.read_sums(file)?;
@@ -75,17 +80,20 @@ impl Piece {
         sums.get(index as usize).copied()
     }
 
-    /// Reads a part. Returns `None` if the piece or the part has other bytes, or cannot be read.
+    /// Reads a part. Returns `None` if a piece or the part has other bytes, or cannot be read.
     fn checked_part(&self, index: u64) -> Option<Vec<u8>> {
         let file = File::open(&self.path).ok()?;
-        let sum = self.sum(&file, index)?;
+        if self.len <= self.part_len {
+            return self.read(&file, index).filter(|bytes| self.are_noted(bytes));
+        }
+        let sum = self.part_sum(&file, index)?;
         self.read(&file, index).filter(|part| sum_of(BASIS, part) == sum)
     }
 }
 
 /// A read of some bytes.
 pub(crate) struct PieceRead {
-    piece: Arc<Piece>,
+    block: Arc<Block>,
     /// The number of the part that has the bytes.
     index: u64,
     /// The offsets of the first byte and of the byte behind the last one.
@@ -96,8 +104,8 @@ pub(crate) struct PieceRead {
 impl PieceRead {
     /// Reads the bytes. It blocks. Returns `None` if the file has other bytes than those that were stored, or cannot be read.
     pub(crate) fn run(self) -> Option<Bytes> {
-        let (begin, _) = self.piece.part(self.index);
-        let part = Bytes::from(self.piece.checked_part(self.index)?);
+        let (begin, _) = self.block.part(self.index);
+        let part = Bytes::from(self.block.checked_part(self.index)?);
         Some(part.slice((self.start - begin) as usize..(self.end - begin) as usize))
     }
 }
@@ -106,38 +114,48 @@ impl PieceRead {
 pub(crate) struct ContentPieces {
     path: PathBuf,
     part_len: u64,
-    /// The piece of the last read.
-    piece: Option<Arc<Piece>>,
+    /// The block of the last read.
+    block: Option<Arc<Block>>,
     /// The offset at which the pieces that were not read yet begin, and their notes.
     offset: u64,
     notes: VecDeque<Note>,
 }
 
 impl ContentPieces {
-    /// Makes the list of pieces that begin at an offset of the file. A read gives at most `part_len` bytes, a multiple of eight. It holds a
-    /// piece in memory if that is no longer, and otherwise as many bytes; then the file is read twice.
+    /// Makes the list of pieces that begin at an offset of the file. A read gives and holds at most `part_len` bytes, a multiple of eight. A
+    /// longer piece is read twice.
     pub(crate) fn new(path: PathBuf, part_len: u64, offset: u64, notes: VecDeque<Note>) -> ContentPieces {
-        ContentPieces { path, part_len, piece: None, offset, notes }
+        ContentPieces { path, part_len, block: None, offset, notes }
     }
 
-    /// Goes on to the piece that has the byte at an offset.
-    fn go_to(&mut self, start: u64) -> Option<Arc<Piece>> {
-        while self.piece.as_ref().map_or(true, |piece| piece.end() <= start) {
-            let note = self.notes.pop_front()?;
-            let (path, offset) = (self.path.clone(), self.offset);
-            self.offset = offset.checked_add(note.len)?;
-            self.piece = Some(Arc::new(Piece { path, offset, note, part_len: self.part_len, part_sums: Mutex::default() }));
+    /// Takes the next pieces that are read together.
+    fn next_block(&mut self) -> Option<Block> {
+        let first = self.notes.pop_front()?;
+        let (offset, mut len, mut notes) = (self.offset, first.len, vec![first]);
+        while let Some(note) = self.notes.front().copied().filter(|note| note.len <= self.part_len.saturating_sub(len)) {
+            self.notes.pop_front();
+            notes.push(note);
+            len += note.len;
         }
-        self.piece.clone().filter(|piece| piece.offset <= start)
+        self.offset = offset.checked_add(len)?;
+        Some(Block { path: self.path.clone(), offset, len, notes, part_len: self.part_len, part_sums: Mutex::default() })
+    }
+
+    /// Goes on to the block that has the byte at an offset.
+    fn go_to(&mut self, start: u64) -> Option<Arc<Block>> {
+        while self.block.as_ref().map_or(true, |block| block.end() <= start) {
+            self.block = Some(Arc::new(self.next_block()?));
+        }
+        self.block.clone().filter(|block| block.offset <= start)
     }
 
     /// Returns the read of the bytes from `start` on, of which none is before those of an earlier read, to at most before `end`. Returns
     /// `None` if no piece has the first of them.
     pub(crate) fn next(&mut self, start: u64, end: u64) -> Option<PieceRead> {
-        let piece = self.go_to(start)?;
-        let index = (start - piece.offset) / piece.part_len;
-        let (_, behind) = piece.part(index);
-        Some(PieceRead { piece, index, start, end: end.min(behind) })
+        let block = self.go_to(start)?;
+        let index = (start - block.offset) / block.part_len;
+        let (_, behind) = block.part(index);
+        Some(PieceRead { block, index, start, end: end.min(behind) })
     }
 }
 
@@ -205,13 +223,15 @@ mod tests {
     }
 
     #[test]
-    fn a_read_gives_a_piece_or_a_part_of_one() {
+    fn a_read_gives_pieces_or_a_part_of_one() {
         let example = Example::new("reads");
         let of = |start: usize, end: usize| some(&example.bytes[start..end]);
-        assert_eq!(reads(example.pieces(64), 5, 76), [of(5, 45), of(45, 69), of(69, 76)]);
-        assert_eq!(reads(example.pieces(64), 50, 70), [of(50, 69), of(69, 70)]);
+        assert_eq!(reads(example.pieces(40), 5, 76), [of(5, 45), of(45, 76)]);
+        assert_eq!(reads(example.pieces(24), 5, 76), [of(5, 29), of(29, 45), of(45, 69), of(69, 76)]);
+        assert_eq!(reads(example.pieces(64), 5, 76), [of(5, 69), of(69, 76)]);
+        assert_eq!(reads(example.pieces(72), 50, 70), [of(50, 70)]);
         assert_eq!(reads(example.pieces(16), 5, 50), [of(5, 21), of(21, 37), of(37, 45), of(45, 50)]);
-        assert_eq!(reads(example.pieces(16), 30, 63), [of(30, 37), of(37, 45), of(45, 61), of(61, 63)]);
+        assert_eq!(reads(example.pieces(16), 30, 72), [of(30, 37), of(37, 45), of(45, 61), of(61, 69), of(69, 72)]);
     }
 
     #[test]
@@ -227,13 +247,17 @@ mod tests {
     #[test]
     fn no_byte_of_a_damaged_piece_is_given() {
         let example = Example::new("damaged");
-        for part_len in [16, 64] {
-            for at in [45, 60, 68] {
-                example.flip(at);
-                let found = reads(example.pieces(part_len), 5, 76);
-                assert_eq!(found.iter().flatten().flatten().copied().collect::<Vec<u8>>(), example.bytes[5..45]);
-                assert_eq!(found.last(), Some(&None));
-            }
+        for (part_len, at, given) in
+            [(16, 45, 45), (16, 60, 45), (16, 68, 45), (40, 45, 45), (40, 68, 45), (40, 75, 45), (64, 68, 5), (24, 75, 69)]
+        {
+            example.flip(at);
+            let found = reads(example.pieces(part_len), 5, 76);
+            assert_eq!(
+                found.iter().flatten().flatten().copied().collect::<Vec<u8>>(),
+                example.bytes[5..given],
+                "{part_len}, {at}"
+            );
+            assert_eq!(found.last(), Some(&None));
         }
     }
 

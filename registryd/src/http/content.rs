@@ -16,7 +16,7 @@ pub(crate) const PIECE_LEN: usize = WHOLE_LEN;
 
 /// The maximum length of a piece of a long content. The store syncs each piece, which costs less for each byte of a longer one. No request
 /// may have a longer body (docs/PROTOCOL.md).
-pub(crate) const LONG_PIECE_LEN: usize = 4 << 20;
+pub(crate) const LONG_PIECE_LEN: usize = 2 << 20;
 
 /// The maximum number of bytes of a request that are held in memory.
 pub(crate) const HELD_LEN: u64 = 4 * PIECE_LEN as u64;
