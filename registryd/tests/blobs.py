@@ -204,7 +204,9 @@ def a_long_blob_is_read_from_its_file():
     """Parts that begin and end before, at and behind the ends of pieces are what was pushed, and the store reads none of it."""
     data = os.urandom(5 * MIB)
     ends = [sum(CHUNKS[:count]) + more for count in range(1, len(CHUNKS) + 1) for more in (-1, 0, 1)]
-    with folder() as path, serving("--data", path) as server:
+    # The store numbers tenants in the order of their names.
+    tenants = [f"{name}=1000000000" for name in ("zeta", "acme", "a")]
+    with folder() as path, serving("--data", path, tenants=tenants) as server:
         client = server.client()
         at, before = in_chunks(client, data, CHUNKS), read_by(server.child())
         assert client.ask("GET", at).body == data

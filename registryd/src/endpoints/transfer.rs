@@ -4,7 +4,7 @@ use crate::endpoints::call::Call;
 use crate::endpoints::registry::Registry;
 use crate::folder::content_pieces::{ContentPieces, PieceRead, MAX_PIECE};
 use crate::http::fault::Fault;
-use crate::store::calls::{LeasedBlob, Place};
+use crate::store::calls::LeasedBlob;
 use crate::store::client::{Answer, StoreUnavailable};
 use crate::store::connection::WHOLE_LEN;
 use crate::store::frames::Refusal;
@@ -12,7 +12,6 @@ use bytes::Bytes;
 use hyper::body::Sender;
 use hyper::Body;
 use std::collections::VecDeque;
-use std::path::PathBuf;
 use std::sync::Arc;
 use std::time::Duration;
 use tokio::task::JoinHandle;
@@ -225,7 +224,8 @@ impl Transfer {
         let last = end.min(start + LOCATED_LEN) - 1;
         let place = self.registry.store.locate(self.leased.number, &self.digest, start, last).await?;
         let place = place.ok().flatten().filter(|place| place.notes.len() <= MOST_PIECES);
-        match place.and_then(|place| Some((file_of(&self.registry, &place)?, place))) {
+        let folder = self.registry.folder.as_ref();
+        match place.and_then(|place| Some((folder?.content_file(place.tenant, place.number)?, place))) {
             Some((path, place)) => {
                 let mut pieces = ContentPieces::new(path, self.pace.part_len, place.offset, place.notes);
                 let read = pieces.next(start, end);
@@ -259,12 +259,6 @@ impl Transfer {
         }
         Ok(())
     }
-}
-
-/// Returns the path of the file in which bytes of a blob lie.
-fn file_of(registry: &Registry, place: &Place) -> Option<PathBuf> {
-    let tenant = registry.tenants.get(place.tenant)?;
-    Some(registry.folder.as_ref()?.content_file(tenant, place.number))
 }
 
 /// Reads bytes of a content's file, on a thread that may wait for the disk.

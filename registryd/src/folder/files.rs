@@ -9,6 +9,8 @@ use std::sync::Arc;
 /// The folder.
 pub(crate) struct Folder {
     path: PathBuf,
+    /// The tenants' names in the order of their bytes, by which the store numbers them.
+    tenants: Vec<String>,
     /// The room on its disk.
     pub(crate) room: Arc<DiskRoom>,
 }
@@ -56,17 +58,19 @@ pub(crate) fn log_length(path: &Path) -> Option<u64> {
 }
 
 impl Folder {
-    pub(crate) fn new(path: PathBuf, room: Arc<DiskRoom>) -> Folder {
-        Folder { path, room }
+    /// Returns a folder with contents of these tenants.
+    pub(crate) fn new(path: PathBuf, room: Arc<DiskRoom>, mut tenants: Vec<String>) -> Folder {
+        tenants.sort_unstable();
+        Folder { path, tenants, room }
     }
 
     pub(crate) fn path(&self) -> &Path {
         &self.path
     }
 
-    /// Returns the path of the file of the content that the session of this number of a tenant received.
-    pub(crate) fn content_file(&self, tenant: &str, number: u32) -> PathBuf {
-        self.path.join(content_path(tenant, u64::from(number)))
+    /// Returns the path of the file of the content that the session of this number received, of the tenant with this number.
+    pub(crate) fn content_file(&self, tenant: usize, number: u32) -> Option<PathBuf> {
+        Some(self.path.join(content_path(self.tenants.get(tenant)?, u64::from(number))))
     }
 
     /// Returns the length of the log, in bytes.
@@ -101,7 +105,8 @@ mod tests {
     use super::*;
 
     fn folder_at(path: PathBuf) -> Folder {
-        Folder::new(path.clone(), Arc::new(DiskRoom::new(path, 0, 0)))
+        let tenants = ["zeta", "acme", "acme-2"].map(str::to_string);
+        Folder::new(path.clone(), Arc::new(DiskRoom::new(path, 0, 0)), tenants.into())
     }
 
     #[test]
@@ -121,6 +126,14 @@ mod tests {
         folder.ask_for_rewriting().unwrap();
         assert!(path.join("rewrite").exists() && folder.is_rewriting_asked());
         std::fs::remove_dir_all(path).unwrap();
+    }
+
+    #[test]
+    fn tenants_are_numbered_in_the_order_of_their_names() {
+        let folder = folder_at(PathBuf::from("/data"));
+        let files = [0, 1, 2, 3].map(|tenant| folder.content_file(tenant, 7));
+        let path = |tenant| Some(PathBuf::from(format!("/data/contents/{tenant}/7")));
+        assert_eq!(files, [path("acme"), path("acme-2"), path("zeta"), None]);
     }
 
     #[test]

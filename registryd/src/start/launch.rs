@@ -220,7 +220,7 @@ pub(crate) async fn start(options: &Options, files: Files, address: SocketAddr) 
         mirrors: upstreams.map_or_else(Mirrors::default, |upstreams| upstreams.mirrors(options, &metrics)),
         cached,
         moves: Moves::new(&options.tenant_names(), writer.clone(), moves),
-        folder: options.data.clone().zip(room).map(|(path, room)| Folder::new(path, room)),
+        folder: options.data.clone().zip(room).map(|(path, room)| Folder::new(path, room, options.tenant_names())),
         disk_probe: options.data.as_deref().map(|path| Arc::new(DiskProbe::new(path))),
         scrub: options.data.clone().and_then(|path| Some(Scrub::new(path, options.scrub_pace()?, damaged.clone(), &metrics))),
         damaged,

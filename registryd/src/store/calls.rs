@@ -32,7 +32,8 @@ pub(crate) struct LeasedBlob {
 /// Where bytes of a leased blob lie: in pieces of a file that follow each other.
 #[derive(Debug, PartialEq, Eq)]
 pub(crate) struct Place {
-    /// The position of the tenant among those of the store, and the number of the session that received the content.
+    /// The position of the tenant's name among those of all tenants in the order of their bytes, and the number of the session that received
+    /// the content.
     pub(crate) tenant: usize,
     pub(crate) number: u32,
     /// The offset at which the first piece begins, in the blob and in the file.
