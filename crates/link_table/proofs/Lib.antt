@@ -1,4 +1,5 @@
 pub mod Accepted
+pub mod Groups
 pub mod HolderCounts
 pub mod LinkKeys
 pub mod ManifestRows

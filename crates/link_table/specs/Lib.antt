@@ -1,5 +1,6 @@
 pub mod Linked
 pub mod TenantRepos
+pub mod Groups
 pub mod Rows
 pub mod Usage
 pub mod Tenancy

@@ -1,17 +1,18 @@
 -- The manifests of all repositories, and a repository's manifest that refers to a digest.
 use Rattle.std.specs.Prelude.{ℕ, ◌&&◌, nat_le, Option, Result, Ok, Err, List, map, filter, count_by, if◌then◌else◌}
 use Rattle.std.specs.Option.{option_map}
-use Rattle.std.specs.List.{find, flat_map}
+use Rattle.std.specs.List.{find}
 use Rattle.std.specs.BTreeMap.{BTreeMap}
 use Rattle.std.specs.FinMap as fmap
 use Rattle.blob_digest.specs.Digests.{sha256_text}
-use Rattle.spec_lib.specs.Texts.{Text, text_cmp, same_text}
-use Rattle.blob_digest.specs.Keys.{Link, link_cmp}
+use Rattle.spec_lib.specs.Texts.{Text, same_text}
+use Rattle.blob_digest.specs.Keys.{link_cmp}
 use Rattle.blob_digest.specs.Outcomes.{Does, OutcomeIn}
 use Rattle.spec_lib.specs.Trees.{map_of}
 use Rattle.blob_digest.specs.declared.refusal.Refusal.{Refusal}
 use Rattle.blob_digest.specs.declared.refusal.Refusal.TheVariants.{LimitReached}
 use Rattle.oci_manifest.specs.Manifests.{refers}
+use Rattle.link_table.specs.Groups.{ungrouped}
 use Rattle.link_table.specs.Manifests.{RepoManifestBytes}
 
 -- the bytes of each manifest, by repository and digest
@@ -42,18 +43,6 @@ Fulfils result old new outcome = Does (λ a. a) result old new outcome
 
 -- ---- the rows
 
--- the manifests of each repository
-abbrev pub ManifestsByRepo : Type 0
-ManifestsByRepo = fmap.FinMap text_cmp RepoManifestBytes
-
--- the manifests of one repository, each under the repository's name and its digest
-abbrev pub group_rows : Text × RepoManifestBytes → List (Link × Text)
-group_rows e = map (λ f. ((e.0, f.0), f.1)) (fmap.entries e.1)
-
--- the manifests of all repositories, from those of each
-abbrev pub all_manifests : ManifestsByRepo → ManifestBytes
-all_manifests g = fmap.from_entries (flat_map group_rows (fmap.entries g))
-
 -- the manifests that the rows show
 abbrev pub manifest_bytes : BTreeMap Text RepoManifestBytes → ManifestBytes
-manifest_bytes rows = all_manifests (map_of rows)
+manifest_bytes rows = ungrouped (map_of rows)

@@ -8,11 +8,15 @@
 
 mod blobs;
 mod holders;
+mod linked_blobs;
+mod linked_manifests;
+mod linked_repos;
 mod links;
 mod manifest_table;
 mod manifests;
-mod repo;
+mod repo_blobs;
 mod repo_manifests;
+mod repos;
 mod tenant_repos;
 mod tenants;
 mod usage;
@@ -20,6 +24,7 @@ mod usage;
 pub use blobs::Blobs;
 pub use links::Links;
 pub use manifests::Manifests;
+pub use repos::Repos;
 pub use tenants::{
     GREATEST_LIMITS, MAX_QUOTA, MAX_TENANTS, TenantLimits, TenantSettings, UNLIMITED_SHARE,
     USUAL_LIMITS, are_supported,

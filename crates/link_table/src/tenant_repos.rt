@@ -1,7 +1,7 @@
 //! The repositories of one tenant.
 
-ghost use Rattle.std.specs.Prelude.{◌≡◌, ◌≤◌, IfOk, OnOk, OnErr, IfErr, Some, true, slice_get, []};
-ghost use Rattle.std.specs.Option.{option_copied, option_map_or};
+ghost use Rattle.std.specs.Prelude.{◌≡◌, ◌≤◌, IfOk, OnOk, OnErr, IfErr, true, []};
+ghost use Rattle.std.specs.Option.{option_map_or};
 ghost use Rattle.std.specs.FinMap as fmap;
 ghost use Rattle.spec_lib.specs.Sets as set;
 ghost use Rattle.blob_digest.specs.Outcomes.{Does};
@@ -9,22 +9,22 @@ ghost use Rattle.blob_digest.specs.declared.refusal.Refusal.TheVariants.{Memory}
 ghost use Rattle.link_table.specs.Linked.{HasNoLinks, first_unlinked};
 ghost use Rattle.link_table.specs.TenantRepos.{repo_count, is_new_link, empty_tenant, appear_on, blobs_on, link_on, unlink_on};
 
-use crate::repo::{Repo, first_missing, insert_blob, place_of, remove_blob};
+use crate::repo_blobs::RepoBlobs;
+use crate::repos::Repos;
 use blob_digest::{Digest, Refusal, RepoName};
 use std::alloc::Global;
 use std::collections::BTreeMap;
 use std::collections::btree_map::Iter;
 use std::marker::Model;
 
-/// The repositories of one tenant, in the order of their names. Contracts see the repositories and their links.
+/// The repositories of one tenant, by name, each with its blobs. Contracts see the repositories and their links.
 ///
 /// # Cost
 ///
-/// Finding a repository is logarithmic in their number. Adding or removing one also moves those after it. Finding a
-/// blob is logarithmic in the number of blobs of its repository.
+/// Each call is logarithmic in the number of repositories. To this is added the cost of the call of `RepoBlobs`.
 #[derive(Drop)]
 pub struct TenantRepos {
-    repos: Vec<Repo>,
+    repos: BTreeMap<RepoName, RepoBlobs>,
 }
 
 impl Model for TenantRepos {
@@ -34,11 +34,11 @@ impl Model for TenantRepos {
 
     ghost coded = { coded_own_repos };
 
-    ghost use Rattle.link_table.specs.Rows.{own_repos_shown, AreRepos};
+    ghost use Rattle.link_table.specs.Rows.{own_repos_shown, AreFew};
 
-    ghost view = { λ a. own_repos_shown a.repos.items };
+    ghost view = { λ a. own_repos_shown a.repos };
 
-    ghost invariant = { λ a. AreRepos a.repos.items };
+    ghost invariant = { λ a. AreFew a.repos };
 }
 
 impl TenantRepos {
@@ -47,7 +47,7 @@ impl TenantRepos {
         ensures { result ≡ empty_tenant }
     {
         TenantRepos {
-            repos: Vec::new(alloc),
+            repos: BTreeMap::new(alloc),
         }
     }
 
@@ -62,17 +62,13 @@ impl TenantRepos {
         requires { limit ≤ 65536 }
         ensures { Does (λ b. b) result self.old self.new (appear_on limit self.old repo.now) }
     {
-        let Err(place) = place_of(self.repos.as_slice(), repo) else {
+        if self.repos.contains_key(repo) {
             return Ok(false);
-        };
-        if self.repos.as_slice().len() >= limit as usize {
+        }
+        if self.repos.len() >= limit as usize {
             return Err(Refusal::LimitReached);
         }
-        let row = Repo {
-            name: repo.clone()?,
-            blobs: BTreeMap::new(alloc),
-        };
-        self.repos.insert(place, row)?;
+        self.repos.insert(repo.clone()?, RepoBlobs::new(alloc))?;
         Ok(true)
     }
 
@@ -80,10 +76,7 @@ impl TenantRepos {
     pub fn has(&self, repo: &RepoName) -> bool
         ensures { result ≡ set.contains self.now.repos repo.now }
     {
-        match place_of(self.repos.as_slice(), repo) {
-            Ok(_) => true,
-            Err(_) => false,
-        }
+        self.repos.contains_key(repo)
     }
 
     /// Removes a repository, which must have no links.
@@ -92,12 +85,7 @@ impl TenantRepos {
         requires unlinked { HasNoLinks self.old.links repo.now }
         ensures { self.new ≡ record self.old { repos = set.remove self.old.repos repo.now } }
     {
-        match place_of(self.repos.as_slice(), repo) {
-            Ok(place) => {
-                self.repos.remove(place);
-            }
-            Err(_) => unreachable!(),
-        }
+        self.repos.remove(repo);
     }
 
     /// Adds a link between an existing repository and a blob, and returns whether it is new.
@@ -113,9 +101,9 @@ impl TenantRepos {
         ensures refused { IfErr result (λ e. e ≡ Memory) }
         ensures few { repo_count self.old ≤ 65536 }
     {
-        match place_of(self.repos.as_slice(), repo) {
-            Ok(place) => insert_blob(&mut self.repos[place], digest, size),
-            Err(_) => unreachable!(),
+        match self.repos.get_mut(repo) {
+            Some(blobs) => blobs.insert(digest, size),
+            None => unreachable!(),
         }
     }
 
@@ -124,9 +112,9 @@ impl TenantRepos {
         ensures value { result ≡ fmap.get self.old.links (repo.now, digest.now) }
         ensures gone { self.new ≡ unlink_on self.old repo.now digest.now }
     {
-        match place_of(self.repos.as_slice(), repo) {
-            Ok(place) => remove_blob(&mut self.repos[place], digest),
-            Err(_) => None,
+        match self.repos.get_mut(repo) {
+            Some(blobs) => blobs.remove(digest),
+            None => None,
         }
     }
 
@@ -134,9 +122,9 @@ impl TenantRepos {
     pub fn holds(&self, repo: &RepoName, digest: &Digest) -> bool
         ensures { result ≡ fmap.contains_key self.now.links (repo.now, digest.now) }
     {
-        match place_of(self.repos.as_slice(), repo) {
-            Ok(place) => self.repos[place].blobs.contains_key(digest),
-            Err(_) => false,
+        match self.repos.get(repo) {
+            Some(blobs) => blobs.contains(digest),
+            None => false,
         }
     }
 
@@ -144,27 +132,25 @@ impl TenantRepos {
     pub fn first_unlinked(&self, repo: &RepoName, digests: &[Digest]) -> Option<Digest>
         ensures { result ≡ first_unlinked self.now.links repo.now digests.now }
     {
-        match place_of(self.repos.as_slice(), repo) {
-            Ok(place) => first_missing(&self.repos[place], digests),
-            Err(_) => digests.first().copied(),
+        match self.repos.get(repo) {
+            Some(blobs) => blobs.first_missing(digests),
+            None => digests.first().copied(),
         }
     }
 
-    /// Returns the number of repositories.
+    /// Returns the number of repositories. Constant time.
     pub fn count(&self) -> usize
         ensures { result ≡ repo_count self.now }
     {
-        self.repos.as_slice().len()
+        self.repos.len()
     }
 
-    /// Returns the repository at index `i`, in the order of their names.
-    pub fn repo_at(&self, i: usize) -> Option<&RepoName>
-        ensures { option_copied result ≡ slice_get (set.items self.now.repos) i }
+    /// Returns the repositories, in the order of their names.
+    pub fn iter(&self) -> Repos<'_>
+        ensures { result ≡ set.items self.now.repos }
     {
-        if i < self.repos.as_slice().len() {
-            Some(&self.repos[i].name)
-        } else {
-            None
+        Repos {
+            rest: self.repos.keys(),
         }
     }
 
@@ -172,9 +158,9 @@ impl TenantRepos {
     pub fn blobs(&self, repo: &RepoName) -> Option<Iter<'_, Digest, u64>>
         ensures { option_map_or (λ rest. rest) result [] ≡ blobs_on self.now repo.now }
     {
-        match place_of(self.repos.as_slice(), repo) {
-            Ok(place) => Some(self.repos[place].blobs.iter()),
-            Err(_) => None,
+        match self.repos.get(repo) {
+            Some(blobs) => Some(blobs.iter()),
+            None => None,
         }
     }
 }

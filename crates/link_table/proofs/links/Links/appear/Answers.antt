@@ -1,4 +1,4 @@
-use Rattle.std.proofs.Common.{◌≡◌, ◌≤◌, ap, arith, subst}
+use Rattle.std.proofs.Common.{◌≡◌, ap, arith, subst}
 use Rattle.blob_digest.specs.Outcomes.{Does}
 use Rattle.blob_digest.specs.Tenants.{Limits}
 use Rattle.link_table.specs.Linked.{limits_in}

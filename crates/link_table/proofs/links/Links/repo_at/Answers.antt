@@ -1,13 +1,6 @@
-use Rattle.std.proofs.Common.{ap, sym, ◌∙◌, slice_get}
-use Rattle.link_table.specs.Linked.{Linked, repos_of}
-use Rattle.link_table.specs.Tenancy.{tenants_shown}
-use Rattle.link_table.proofs.TenantRepos.{items-there}
-use Rattle.link_table.proofs.Tables.{owned_at}
+use Rattle.std.proofs.Common.{ap, ◌∙◌, slice_get}
+use Rattle.spec_lib.proofs.Iterators.{nth_is}
 use Rattle.link_table.proofs.links.Links.repo_at.Goals as goal
 
 pub returns : goal.returns
-returns c =
-    let tenants = tenants_shown c.self.inside.tenants.items in
-    let at = owned_at tenants c.self.inside.repos.items c.self.invariant.1 c.args.tenant (rw (← c.self.view_is) at c.requires) c.index.result.now c.index.ensures in
-    c.repo_at.ensures ∙ ap (λ xs. slice_get xs c.args.i) (sym (items-there tenants c.self.inside.repos.items c.self.invariant.1 c.args.tenant c.index.result.now at))
-    ∙ ap (λ (l : Linked). slice_get (repos_of l c.args.tenant) c.args.i) c.self.view_is
+returns c = nth_is (λ x. x.now) (λ s. s) c.repos.result c.args.i c.nth.result c.nth.new.self c.nth.ensures.ran ∙ ap (λ xs. slice_get xs c.args.i) c.repos.ensures

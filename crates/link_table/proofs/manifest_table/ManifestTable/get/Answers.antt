@@ -1,7 +1,7 @@
 use Rattle.std.proofs.Common.{ap, ◌∙◌}
 use Rattle.std.specs.FinMap.{get}
 use Rattle.link_table.specs.ManifestTable.{ManifestBytes}
-use Rattle.link_table.proofs.ManifestTableRows.{group_of, get_there, get_none}
+use Rattle.link_table.proofs.Groups.{group_of, get_there, get_none}
 use Rattle.link_table.proofs.manifest_table.ManifestTable.get.Goals as goal
 
 pub returns-in-Some : goal.returns-in-Some

@@ -1,4 +1,5 @@
-use Rattle.link_table.proofs.ManifestTableRows.{group_of, none_same, written, put_there}
+use Rattle.link_table.proofs.Groups.{group_of, written}
+use Rattle.link_table.proofs.ManifestTableRows.{none_same, put_there}
 use Rattle.link_table.proofs.manifest_table.ManifestTable.put.Goals as goal
 
 pub put_first-requires : goal.put_first-requires

@@ -2,7 +2,8 @@ use Rattle.std.proofs.Common.{sym, ap, ◌∙◌, Ok}
 use Rattle.std.specs.FinMap.{get}
 use Rattle.spec_lib.proofs.Trees.{insert_is}
 use Rattle.link_table.specs.ManifestTable.{ManifestBytes}
-use Rattle.link_table.proofs.ManifestTableRows.{bare, put_there, put_refused}
+use Rattle.link_table.proofs.Groups.{bare}
+use Rattle.link_table.proofs.ManifestTableRows.{put_there, put_refused}
 use Rattle.link_table.proofs.manifest_table.ManifestTable.put_first.Goals as goal
 
 pub returns-in_ok-insert-in-Ok : goal.returns-in_ok-insert-in-Ok

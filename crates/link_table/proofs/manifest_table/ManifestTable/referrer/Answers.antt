@@ -1,6 +1,7 @@
 use Rattle.std.proofs.Common.{ap, ◌∙◌}
 use Rattle.link_table.specs.ManifestTable.{ManifestBytes, referrer_on}
-use Rattle.link_table.proofs.ManifestTableRows.{group_of, referrer_there, referrer_none}
+use Rattle.link_table.proofs.Groups.{group_of}
+use Rattle.link_table.proofs.ManifestTableRows.{referrer_there, referrer_none}
 use Rattle.link_table.proofs.manifest_table.ManifestTable.referrer.Goals as goal
 
 pub returns-in-Some : goal.returns-in-Some

@@ -1,7 +1,7 @@
-use Rattle.std.proofs.Common.{ap, length, sym, ◌∙◌}
+use Rattle.std.proofs.Common.{ap, sym, ◌∙◌}
 use Rattle.link_table.specs.TenantRepos.{repo_count}
 use Rattle.link_table.proofs.TenantRepoRows.{repo_count-rows}
 use Rattle.link_table.proofs.tenant_repos.TenantRepos.count.Goals as goal
 
 pub returns : goal.returns
-returns c = ap length c.as_slice.ensures.value ∙ sym (repo_count-rows c.self.inside.repos.items c.self.invariant.order) ∙ ap repo_count c.self.view_is
+returns c = c.len.ensures.len ∙ sym (repo_count-rows c.self.inside.repos c.len.ensures.ordered) ∙ ap repo_count c.self.view_is

@@ -1,19 +1,17 @@
-use Rattle.std.proofs.Common.{ap, sym, ◌∙◌, is_some}
+use Rattle.std.proofs.Common.{ap, ◌∙◌, is_some}
 use Rattle.std.specs.FinMap.{contains_key}
 use Rattle.link_table.specs.TenantRepos.{OwnRepos}
-use Rattle.link_table.specs.Rows.{own_repos_shown}
-use Rattle.link_table.proofs.TenantRepoRows.{row_found, links-there, links-absent}
+use Rattle.link_table.proofs.Groups.{group_of, get_there, get_none}
 use Rattle.link_table.proofs.tenant_repos.TenantRepos.holds.Goals as goal
 
-pub returns-in-Ok : goal.returns-in-Ok
-returns-in-Ok c =
-    let rows = c.self.inside.repos.items in
-    let row = c.index.result.now in
-    let found = row_found rows c.args.repo.now c.in-Ok.place row (rw c.as_slice.ensures.value at c.in-Ok.ensures.within) (rw c.as_slice.ensures.value at c.in-Ok.ensures.place) c.index.ensures in
-    c.contains_key.ensures ∙ ap is_some (sym (links-there rows c.self.invariant.order c.in-Ok.place row found.0 c.args.digest.now))
-    ∙ ap (λ q. contains_key (own_repos_shown rows).links (q, c.args.digest.now)) found.1 ∙ ap (λ (s : OwnRepos). contains_key s.links (c.args.repo.now, c.args.digest.now)) c.self.view_is
+pub returns-in-Some : goal.returns-in-Some
+returns-in-Some c =
+    let rows = c.self.inside.repos in
+    let r = c.args.repo.now in
+    c.contains.ensures ∙ ap is_some (get_there rows r c.in-Some.blobs.now c.args.digest.now (group_of rows r c.in-Some.blobs.now c.in-Some.ensures.value))
+    ∙ ap (λ (s : OwnRepos). contains_key s.links (r, c.args.digest.now)) c.self.view_is
 
-pub returns-in-Err : goal.returns-in-Err
-returns-in-Err c =
-    ap is_some (sym (links-absent c.self.inside.repos.items c.self.invariant.order c.args.repo.now c.in-Err.field-0 (rw c.as_slice.ensures.value at c.in-Err.ensures.place) c.args.digest.now))
+pub returns-in-None : goal.returns-in-None
+returns-in-None c =
+    ap is_some (get_none c.self.inside.repos c.args.repo.now c.args.digest.now c.in-None.ensures.value)
     ∙ ap (λ (s : OwnRepos). contains_key s.links (c.args.repo.now, c.args.digest.now)) c.self.view_is
