@@ -142,14 +142,11 @@ fn print_repo<W: Write>(
 
 /// Prints a tenant's repositories.
 fn print_repos<W: Write>(writer: &mut W, tables: &Tables<'_>, tenant: u16) -> io::Result<()>
-    requires can { CanPrint tables.now.links.now tables.now.uploads.now }
-    requires there { tenant < length tables.now.links.now.tenants }
+    requires { tenant < length tables.now.links.now.tenants }
     ensures { PrintsRepos W.contents writer.old writer.new result tables.now tenant }
 {
-    let mut i = 0;
-    while let Some(repo) = tables.links.repo_at(tenant, i) {
+    for repo in tables.links.repos(tenant) {
         print_repo(writer, tables, tenant, repo)?;
-        i += 1;
     }
     Ok(())
 }

@@ -9,7 +9,6 @@ use Rattle.std.specs.FinMap.{FinMap, entries, entries_sorted, get, get-entries, 
 use Rattle.std.specs.FinMap.Entries.{below_all}
 use Rattle.std.proofs.lemmas.List.Concat.{flat_map-cons}
 use Rattle.std.proofs.lemmas.List.Folds.{flat_map-map}
-use Rattle.std.proofs.lemmas.List.Sums.{length-filter}
 use Rattle.spec_lib.proofs.Lists.{all_weaker, is_true, flat_map-same, all_same, all_by_index}
 use Rattle.spec_lib.specs.Sets as set
 use Rattle.blob_digest.proofs.KeyOrders.{link_cmp_total, exact_link}
@@ -20,7 +19,7 @@ use Rattle.link_table.specs.Linked.{Tenant, used_in, blobs_in, repos_of}
 use Rattle.spec_lib.proofs.Sorted.{IsApart-sorted, entries-sorted}
 use Rattle.store_model.specs.Sessions.{number_and_length, sessions_of}
 use Rattle.spec_lib.specs.Texts.{Text, same_text}
-use Rattle.store_model.specs.Catalog.{Link, Resident, Catalog, is_repo_of, link_cmp, used_bytes, blob_length, link_count}
+use Rattle.store_model.specs.Catalog.{Link, Resident, Catalog, link_cmp, used_bytes, blob_length, link_count}
 use Rattle.store_book.specs.Layers.{Layers, links_of, lent_marks, book_catalog, IsBook}
 use Rattle.store_book.specs.Internal.Lines.{CanPrint, blob_row, links_to, session_row, repo_rows, tenant_rows, book_rows}
 use Rattle.store_model.specs.BookText.{blob_line, blob_text, book_line, book_text, end_line, manifest_row, manifest_text, repo_text, repository_line, tenant_line, tenant_text}
@@ -124,7 +123,4 @@ module _ (L : Layers) (book : IsBook L) where
 
   -- a book can be printed
   pub can_print : CanPrint L.links L.uploads
-  can_print = record {
-    next = book.sound.lawful.numbering.one_each;
-    repos = λ t. let few = book.sound.lawful.repositories.few t in let same = length-filter (is_repo_of C t) (set.items L.links.repos) in omega arith;
-  }
+  can_print = book.sound.lawful.numbering.one_each

@@ -1,5 +1,5 @@
 -- The lines of a book's text, from its layers.
-use Rattle.std.specs.Prelude.{◌≡◌, ◌≤◌, ℕ, ◌++◌, Option, Result, List, [], length, map, slice_get, slice_index}
+use Rattle.std.specs.Prelude.{◌≡◌, ℕ, ◌++◌, Option, Result, List, length, map, slice_get, slice_index}
 use Rattle.std.specs.Option.{option_map_or}
 use Rattle.std.specs.List.{flat_map, enumerate_from}
 use Rattle.spec_lib.specs.Texts.{Text}
@@ -47,10 +47,9 @@ book_rows l u slots = book_line ++ flat_map (tenant_rows l u slots) (enumerate_f
 abbrev pub tenant_in : List Tenant → ℕ → Tenant
 tenant_in tenants t = option_map_or (λ x. x) (slice_get tenants t) no_tenant
 
--- each tenant has a next session number, and at most as many repositories as the greatest limit
-pub record CanPrint (l : Linked) (u : Uploaded) : Type 0 where
-  pub next : length u.next ≡ length l.tenants
-  pub repos : (t : ℕ) → length (repos_of l t) ≤ 65536
+-- each tenant has a next session number
+abbrev pub CanPrint : Linked → Uploaded → Type 0
+CanPrint l u = length u.next ≡ length l.tenants
 
 -- ---- the text that a successful call appends
 
