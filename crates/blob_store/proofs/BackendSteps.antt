@@ -1,14 +1,14 @@
 -- The steps that a call of the store makes for the rows of a worker.
 use Rattle.std.proofs.Common.{◌≡◌, ◌⊎◌, ℕ, List, [], ◌∷◌, ◌++◌, Option, Result, Ok, Err, add-zero, arith, refl, ap, sym, ◌∙◌, inl, inr, append_assoc, subst}
 use Rattle.std.proofs.lemmas.List.{append-nil}
-use Rattle.std.specs.Prelude.{IfOk, OnErr, OnOk, length}
+use Rattle.std.specs.Prelude.{IfOk, OnErr, OnOk, length, map}
 use Rattle.blob_digest.specs.declared.range.ByteRange.{ByteRange}
 use Rattle.blob_digest.specs.declared.refusal.Refusal.{Refusal}
 use Rattle.blob_digest.specs.declared.refusal.Refusal.TheVariants.{Memory}
 use Rattle.spec_lib.specs.Texts.{Text}
 use Rattle.store_model.specs.Amounts.{Amounts, command_amounts_of, add_amounts}
 use Rattle.store_model.specs.Catalog.{Catalog, HandRecord}
-use Rattle.store_model.specs.Histories.{FinishCall, CommandCall, Step, TakeCall, PutBackCall, accepted_amounts, step_amounts}
+use Rattle.store_model.specs.Histories.{FinishCall, CommandCall, Step, SweepPartCall, TakeCall, PutBackCall, accepted_amounts, step_amounts}
 use Rattle.store_model.specs.Runs as runs
 use Rattle.store_model.specs.Runs.{Mounting}
 use Rattle.store_model.specs.declared.mount.Mount.TheVariants as mounting
@@ -16,9 +16,11 @@ use Rattle.locked_book.specs.History.{Adds, AppendsChunk, CancelsCheckOut, Close
 use Rattle.locked_book.specs.Calls.{reply}
 use Rattle.locked_book.specs.Names.{StoreNames}
 use Rattle.locked_book.proofs.Counted.{plus_nothing}
-use Rattle.store_api.specs.Answers.{Answer, Received, Refused, Stored, Verified, result_answer, mount_answer}
+use Rattle.store_api.specs.Answers.{Answer, Received, Refused, Stored, Swept, Verified, result_answer, mount_answer}
 use Rattle.store_api.specs.CommandAnswers.{command_answer}
-use Rattle.store_api.specs.Commands.{Append, Calls, Close, Command, Mount, Verifies}
+use Rattle.store_api.specs.Commands.{Append, Calls, Close, Command, Mount, SweepsInParts, Verifies}
+use Rattle.store_model.specs.declared.swept.Swept.{Swept as SweptCounts}
+use Rattle.blob_store.specs.SweepParts.{MakesAllParts}
 use Rattle.blob_store.specs.StoreBackends.{AmountActs, AreCommandSteps, AreRequestSteps, AreUploadSteps, FindsBlob, DeskActs}
 
 -- two steps, one after the other
@@ -135,4 +137,20 @@ looked names desk size found = record {
   };
   number = refl;
   finds = found;
+}
+
+-- a sweep in parts counts nothing
+pub swept_in_parts : (names : StoreNames) (old new : DeskView) (swept : SweptCounts) → MakesAllParts names swept old new → DeskActs names old SweepsInParts (Swept swept) new
+swept_in_parts names old new swept made = record {
+  work = record {
+    amounts = record {
+      commands = ap (λ (a : Amounts). a.commands) made.amounts ∙ sym (add-zero old.amounts.commands);
+      received = ap (λ (a : Amounts). a.received) made.amounts ∙ sym (add-zero old.amounts.received);
+      closed = ap (λ (a : Amounts). a.closed) made.amounts ∙ sym (add-zero old.amounts.closed);
+      abandoned = λ _. ap (λ (a : Amounts). a.abandoned) made.amounts;
+    };
+    steps = (map SweepPartCall made.parts, (made.parts, refl, ap Swept made.sums), made.own);
+  };
+  number = made.number;
+  finds = tt;
 }

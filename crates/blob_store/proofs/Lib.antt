@@ -9,3 +9,4 @@ pub mod RowOrders
 pub mod Sending
 pub mod Settlings
 pub mod Starts
+pub mod SweepParts

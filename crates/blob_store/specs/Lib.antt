@@ -7,4 +7,5 @@ pub mod RowOrders
 pub mod Starts
 pub mod StoreBackends
 pub mod StoreCalls
+pub mod SweepParts
 pub mod Workers

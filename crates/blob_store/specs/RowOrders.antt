@@ -12,7 +12,7 @@ use Rattle.store_model.specs.WholeCommands.{IsContentionFree}
 use Rattle.store_model.specs.declared.swept.Swept.{Swept as SweptCounts}
 use Rattle.store_api.specs.Answers.{Answer, Refused, Swept, Verified, result_answer}
 use Rattle.store_api.specs.CommandAnswers.{command_answer}
-use Rattle.store_api.specs.Commands.{StoreRequest, Calls, Verifies, Sweeps}
+use Rattle.store_api.specs.Commands.{StoreRequest, Calls, Verifies, Sweeps, SweepsInParts}
 use Rattle.script_player.specs.Leases.{Leases, no_leases}
 use Rattle.script_player.specs.Plays.{Plays}
 use Rattle.script_player.specs.Rows.{RowView}
@@ -24,6 +24,7 @@ abbrev pub RequestLeads : Catalog → StoreRequest → Answer → Catalog → Ty
 RequestLeads C (Calls command) answer C' = (reply : Result runs.Answer Refusal) × runs.IsCommandCase C command reply C' × (answer ≡ result_answer (command_answer command) reply)
 RequestLeads C (Verifies size) answer C' = (answer ≡ Verified size) × (C' ≡ C)
 RequestLeads C Sweeps answer C' = (swept : SweptCounts) × IsSweep C swept C' × (answer ≡ Swept swept)
+RequestLeads C SweepsInParts answer C' = ⊥
 
 -- rows with their replies in another order, in which each worker's keep theirs
 pub record IsWorkerwiseReordering (workers : ℕ) (rows others : List (RowView × Answer)) : Type 0 where

@@ -1,5 +1,5 @@
 -- How a desk's amounts and steps grow by the requests of a worker's rows.
-use Rattle.std.specs.Prelude.{◌≡◌, ◌⊎◌, ◌+◌, ℕ, true, List, [], ◌∷◌, ◌++◌, Option, Result, Ok, Err, length}
+use Rattle.std.specs.Prelude.{◌≡◌, ◌⊎◌, ◌+◌, ℕ, true, List, [], ◌∷◌, ◌++◌, Option, Result, Ok, Err, length, map}
 use Rattle.blob_digest.specs.Vouched.{has_digest}
 use Rattle.blob_digest.specs.declared.range.ByteRange.{ByteRange}
 use Rattle.blob_digest.specs.declared.refusal.Refusal.{Refusal}
@@ -9,15 +9,15 @@ use Rattle.pin_core.specs.declared.world.PinRecord.{PinRecord}
 use Rattle.store_book.specs.SlotSteps.{HasPin}
 use Rattle.store_model.specs.Amounts.{Amounts}
 use Rattle.store_model.specs.Catalog.{Catalog, HandRecord}
-use Rattle.store_model.specs.Histories.{Step, CommandCall, SweepCall, TakeCall, PutBackCall, FinishCall}
+use Rattle.store_model.specs.Histories.{Step, CommandCall, SweepCall, SweepPartCall, TakeCall, PutBackCall, FinishCall}
 use Rattle.store_model.specs.Runs as runs
 use Rattle.store_model.specs.declared.swept.Swept.{Swept as SweptCounts}
-use Rattle.locked_book.specs.Found.{InSomeBook}
+use Rattle.locked_book.specs.Found.{InSomeBook, swept_in_all}
 use Rattle.locked_book.specs.History.{DeskView, filled_hand}
 use Rattle.locked_book.specs.Names.{StoreNames}
 use Rattle.store_api.specs.Answers.{Answer, Received, Stored, Swept, Refused, Verified, result_answer}
 use Rattle.store_api.specs.CommandAnswers.{command_answer}
-use Rattle.store_api.specs.Commands.{Command, Append, Close, StoreRequest, Calls, Verifies, Sweeps}
+use Rattle.store_api.specs.Commands.{Command, Append, Close, StoreRequest, Calls, Verifies, Sweeps, SweepsInParts}
 use Rattle.script_player.specs.Counts.{abandon_count, chunk_size, closed_size, request_amount}
 
 -- ---- amounts
@@ -44,11 +44,12 @@ AreCommandSteps (Append repo number range bytes) answer steps = AreUploadSteps r
 AreCommandSteps (Close repo number digest range bytes) answer steps = AreUploadSteps repo number range bytes (λ hand result. FinishCall hand digest result) Stored answer steps
 AreCommandSteps command answer steps = (result : Result runs.Answer Refusal) × (steps ≡ CommandCall command result ∷ []) × (answer ≡ result_answer (command_answer command) result)
 
--- the steps of a request: those of a command, none for a check of a lease, or one for a sweep
+-- the steps of a request: those of a command, none for a check of a lease, one for a sweep, or one for each part of a sweep
 abbrev pub AreRequestSteps : StoreRequest → Answer → List Step → Type 0
 AreRequestSteps (Calls command) answer steps = AreCommandSteps command answer steps
 AreRequestSteps (Verifies size) answer steps = (answer ≡ Verified size) × (steps ≡ [])
 AreRequestSteps Sweeps answer steps = (swept : SweptCounts) × (steps ≡ SweepCall swept ∷ []) × (answer ≡ Swept swept)
+AreRequestSteps SweepsInParts answer steps = (parts : List SweptCounts) × (steps ≡ map SweepPartCall parts) × (answer ≡ Swept (swept_in_all parts))
 
 -- the new steps are the old ones and then those of the request
 abbrev pub StepActs : List Step → StoreRequest → Answer → List Step → Type 0

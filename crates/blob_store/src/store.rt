@@ -11,6 +11,7 @@ ghost use Rattle.store_model.specs.Histories.{SweepCall};
 ghost use Rattle.locked_book.specs.History.{AreFreshDesks, IsUnread, Makes, OneBegins};
 ghost use Rattle.locked_book.specs.Logging.{manifest_bytes};
 ghost use Rattle.locked_book.specs.Found.{AreTotalsOfSome, InSomeBook, IsSweepOfSome};
+ghost use Rattle.blob_store.specs.SweepParts.{MakesAllParts, with_part};
 ghost use Rattle.blob_store.specs.Parts.{AreOfNewStore, names_of};
 ghost use Rattle.blob_store.specs.StoreCalls.{DeletesBlob, LeasesBlob, MountsBlob, RemovesRepo};
 ghost use Rattle.blob_store.specs.StoreCalls.{DeletesManifest, GetsManifest, PutsManifest};
@@ -93,11 +94,28 @@ const SPINS_PER_ROUND: u32 = 30;
 /// one pause before the thread sees it, and longer if the system wakes the thread late.
 const REST_MICROS: u64 = 100;
 
+/// The maximum number of blobs that a part of a sweep visits. That takes a few tenths of a millisecond.
+const PART_BLOBS: u32 = 256;
+
 /// Waits for a moment without giving up the processor.
 fn spin_wait() {
     for _ in 0..SPINS_PER_ROUND {
         spin_loop();
     }
+}
+
+/// Adds the counts of a part to those of the parts before it.
+fn add_part(swept: &mut Swept, part: &Swept)
+    requires condemned { swept.old.condemned + part.now.condemned < 2 ^ 32 }
+    requires freed { swept.old.freed + part.now.freed < 2 ^ 32 }
+    requires held { swept.old.held + part.now.held < 2 ^ 32 }
+    requires retired { swept.old.retired + part.now.retired < 2 ^ 32 }
+    ensures { swept.new ≡ with_part swept.old part.now }
+{
+    swept.condemned += part.condemned;
+    swept.freed += part.freed;
+    swept.held += part.held;
+    swept.retired += part.retired;
 }
 
 impl<S: Naming> Store<S> {
@@ -422,6 +440,47 @@ impl<S: Naming> Store<S> {
         ensures { Makes S.names.opening (SweepCall result) desk.old desk.new }
     {
         self.locked(rt).sweep_at(&self.pins, desk)
+    }
+
+    /// Sweeps as `sweep_at` does, but gives the lock back after each `PART_BLOBS` blobs without links. Returns the sums of
+    /// the counts.
+    ///
+    /// The parts go over each slot once. Each part is a step of the desk's, and steps of others may come between two of
+    /// them. A blob that loses its last link meanwhile is left for the next sweep if its slot was passed.
+    ///
+    /// # Cost
+    ///
+    /// That of `sweep_at`. After each part but the last, the thread pauses for longer than another thread rests before
+    /// it tries the lock again.
+    ///
+    /// # Memory
+    ///
+    /// Allocates nothing, except an entry for each freed blob that lies in a file.
+    pub fn sweep_in_parts(&self, rt: &impl Wait, desk: &mut Desk<S>) -> Swept
+        ensures { MakesAllParts S.names result desk.old desk.new }
+    {
+        let mut swept = Swept {
+            condemned: 0,
+            freed: 0,
+            held: 0,
+            retired: 0,
+        };
+        let mut from = Some(0);
+        'parts: while let Some(slot) = from {
+            let part = self.locked(rt).sweep_part(&self.pins, desk, slot, PART_BLOBS);
+            add_part(&mut swept, &part.swept);
+            from = part.next;
+            self.pause_before(rt, from);
+        }
+        swept
+    }
+
+    /// Pauses before the part of a sweep that starts at a slot, if there is one.
+    fn pause_before(&self, rt: &impl Wait, next: Option<u32>) {
+        if next.is_some() {
+            self.rest
+                .park_timeout(rt, 0, Duration::from_micros(2 * REST_MICROS));
+        }
     }
 
     /// Checks a lease against the book, and returns it unchanged. Under the lock, its slot is in use, in the lease's

@@ -141,6 +141,10 @@ impl<'s, W: Wait, S: Naming, F: ContentStore> Backend for StoreBackend<'s, W, S,
         self.store.sweep_at(self.rt, &mut self.desk)
     }
 
+    fn sweep_in_parts(&mut self) -> Swept {
+        self.store.sweep_in_parts(self.rt, &mut self.desk)
+    }
+
     fn size(lease: &Lease<'s, S>) -> u64 {
         lease.len()
     }

@@ -10,7 +10,7 @@ use Rattle.store_model.specs.Catalog.{Catalog}
 use Rattle.store_book.specs.BookState.{BookState, SlotView}
 use Rattle.store_book.specs.SlotSteps.{EachSlot, HasLastGeneration}
 use Rattle.store_api.specs.Answers.{Answer, Session, Received, Stored, Abandoned, Mounted, Deleted, Manifest, Body, Leased, Bytes, Shared, Verified, GivenBack, Swept, NoLease, NameTaken, Refused}
-use Rattle.store_api.specs.Commands.{Command, Start, Status, Append, Close, Abandon, Mount, Delete, PutManifest, GetManifest, DeleteManifest, RemoveRepo, Lease, StoreRequest, Calls, Verifies, Sweeps}
+use Rattle.store_api.specs.Commands.{Command, Start, Status, Append, Close, Abandon, Mount, Delete, PutManifest, GetManifest, DeleteManifest, RemoveRepo, Lease, StoreRequest, Calls, Verifies, Sweeps, SweepsInParts}
 use Rattle.script_player.specs.RowCommands.{command_of}
 use Rattle.store_api.specs.LeaseViews.{LeaseView}
 use Rattle.script_player.specs.Leases.{Leases, no_leases}
@@ -92,6 +92,7 @@ request_happens n old new (Verifies size) answer low few not_memory h = ((h.0, h
 request_happens n old new Sweeps answer low few not_memory h =
     let sweep = h.0 in
     ((sweep.0, sweep.1, sweep.2, none_retired sweep.0.retired (λ some. not_last n old.slots low (omega (arith, few)) (sweep.3 some))), low_by_one n old.slots new.slots low h.1)
+request_happens n old new SweepsInParts answer low few not_memory h = request_happens n old new Sweeps answer low few not_memory h
 
 abbrev catalog_of : State BookState → State Catalog
 catalog_of s = (s.0.catalog, s.1)

@@ -18,7 +18,7 @@ use Rattle.store_model.specs.declared.swept.Swept.{Swept as SweptCounts}
 use Rattle.store_api.specs.Answers.{Answer, Verified, Swept, Refused, answers_of}
 use Rattle.store_api.specs.declared.reply.Reply.{Reply}
 use Rattle.store_api.specs.CommandAnswers.{command_answer}
-use Rattle.store_api.specs.Commands.{Command, Lease, StoreRequest, Calls, Verifies, Sweeps}
+use Rattle.store_api.specs.Commands.{Command, Lease, StoreRequest, Calls, Verifies, Sweeps, SweepsInParts}
 use Rattle.script_player.specs.Leases as leases
 use Rattle.script_player.specs.Plays.{Plays}
 use Rattle.script_player.specs.Replies.{replies_text}
@@ -47,6 +47,7 @@ abbrev pub CatalogLeads : Catalog → StoreRequest → Answer → Catalog → Ty
 CatalogLeads C (Calls command) answer C' = CatalogLeadsCommand C command answer C'
 CatalogLeads C (Verifies size) answer C' = (answer ≡ Verified size) × (C' ≡ C)
 CatalogLeads C Sweeps answer C' = CatalogLeadsSweep C answer C'
+CatalogLeads C SweepsInParts answer C' = CatalogLeadsSweep C answer C'
 
 -- ---- the same for a book: any command may fail with `Memory`, and a lease with `TooManyReaders` if its slot is crowded
 
@@ -73,6 +74,7 @@ abbrev pub BookActs : BookState → StoreRequest → Answer → BookState → Ty
 BookActs s (Calls command) answer t = BookActsCommand s.catalog t.slots command answer t.catalog × EachSlot RisesByOne s.slots t.slots
 BookActs s (Verifies size) answer t = (answer ≡ Verified size) × (t.catalog ≡ s.catalog) × EachSlot RisesByOne s.slots t.slots
 BookActs s Sweeps answer t = BookActsSweep s answer t.catalog × EachSlot RisesByOne s.slots t.slots
+BookActs s SweepsInParts answer t = BookActsSweep s answer t.catalog × EachSlot RisesByOne s.slots t.slots
 
 -- ---- a run
 

@@ -113,6 +113,10 @@ impl<'p, N: PinsName> Backend for PinnedBook<'p, N> {
         self.book.sweep(self.pins)
     }
 
+    fn sweep_in_parts(&mut self) -> Swept {
+        self.book.sweep(self.pins)
+    }
+
     fn size(lease: &Lease<'p, N>) -> u64 {
         lease.len()
     }

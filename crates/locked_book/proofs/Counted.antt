@@ -9,7 +9,7 @@ use Rattle.spec_lib.specs.Outcomes.{◌>>=◌, refuse}
 use Rattle.store_model.specs.Catalog.{HandRecord, Catalog}
 use Rattle.spec_lib.specs.Texts.{Text}
 use Rattle.store_model.specs.declared.swept.Swept.{Swept}
-use Rattle.store_model.specs.Sweep.{IsSweep}
+use Rattle.store_model.specs.Sweep.{IsSweep, IsSweepPart}
 use Rattle.store_model.specs.Runs.{Command, Lease, Answer, Bytes, outcome, map_outcome, takes_memory}
 use Rattle.store_model.specs.Commands as commands
 use Rattle.store_model.specs.Commands.{Outcome}
@@ -18,7 +18,7 @@ use Rattle.store_model.specs.Amounts.{Amounts, zero_amounts, add_amounts, comman
 use Rattle.locked_book.specs.Totals.{Counts}
 use Rattle.locked_book.specs.Counting.{StoreContent, has_room, with_catalog, with_slots, with_counted, uncounted_outcome, accepted_outcome, reserving_outcome}
 use Rattle.store_model.specs.Hands.{filled_length}
-use Rattle.store_model.specs.Histories.{CommandCall, TakeCall, PutBackCall, FinishCall, SweepCall, accepted_amounts, chunk_amounts, IsUncountable, MayLeadTo, IsStep}
+use Rattle.store_model.specs.Histories.{CommandCall, TakeCall, PutBackCall, FinishCall, SweepCall, SweepPartCall, accepted_amounts, chunk_amounts, IsUncountable, MayLeadTo, IsStep}
 use Rattle.locked_book.specs.History.{state_of}
 use Rattle.locked_book.specs.Performing.{HasLeaseOutcome, RepliesBy, performed_outcome}
 use Rattle.blob_digest.proofs.Refusals.{is_memory}
@@ -203,3 +203,6 @@ finishes k k' hand digest (Err e) h =
 
 pub cleans : (k k' : StoreContent) (swept : Swept) → IsSweep k.book.catalog swept k'.book.catalog → k'.counts ≡ k.counts → IsStep (state_of k) (SweepCall swept) (state_of k')
 cleans k k' swept h same = record { leaves = h; counts = ap (λ (c : Counts). c.totals) same ∙ plus_nothing k.counts.totals }
+
+pub cleans_part : (k k' : StoreContent) (swept : Swept) → IsSweepPart k.book.catalog swept k'.book.catalog → k'.counts ≡ k.counts → IsStep (state_of k) (SweepPartCall swept) (state_of k')
+cleans_part k k' swept h same = record { leaves = h; counts = ap (λ (c : Counts). c.totals) same ∙ plus_nothing k.counts.totals }

@@ -41,7 +41,7 @@ use Rattle.store_model.specs.Catalog.{Catalog, CheckedOutWith, Chunks, HandRecor
 use Rattle.store_model.specs.Commands as commands
 use Rattle.store_model.specs.Commands.{Outcome}
 use Rattle.store_model.specs.Durable.{Agrees, AreReturnedAsTaken, BlobLinked, BlobStored, BlobUnlinked, Change, ChunkReceived, DurableState, ManifestDeleted, ManifestPut, NumberSet, RepoAdded, RepoRemoved, SessionDropped, SessionOpened, SessionSealed, TakenChunks, change_of, changes_of, chunk_change, command_change, filled_chunk, mount_change, session_key, taken_after_step}
-use Rattle.store_model.specs.Histories.{AreSteps, CommandCall, FinishCall, MayLeadTo, PutBackCall, State, Step, SweepCall, TakeCall, initial_state}
+use Rattle.store_model.specs.Histories.{AreSteps, CommandCall, FinishCall, MayLeadTo, PutBackCall, State, Step, SweepCall, SweepPartCall, TakeCall, initial_state}
 use Rattle.store_model.specs.Invariant.{Sound, WellFormed}
 use Rattle.store_model.specs.Recovery.{FillsReserve, IsWellFormedStep}
 use Rattle.store_model.specs.Runs as runs
@@ -374,6 +374,7 @@ pub step_fits : (s : State) (step : Step) (X : Catalog) â†’ MayLeadTo s step X â
 step_fits s (CommandCall command (Ok x)) X leaves right lawful = command_fits s.catalog lawful command x X leaves right
 step_fits s (CommandCall command (Err e)) X leaves right lawful = tt
 step_fits s (SweepCall swept) X leaves right lawful = tt
+step_fits s (SweepPartCall swept) X leaves right lawful = tt
 step_fits s (TakeCall r n g len reply) X leaves right lawful = tt
 step_fits s (PutBackCall h (Ok n)) X leaves right lawful = put_back_fits s.catalog lawful h n X leaves right
 step_fits s (PutBackCall h (Err e)) X leaves right lawful = tt

@@ -5,7 +5,7 @@ use Rattle.blob_digest.specs.declared.refusal.Refusal.TheVariants.{LimitReached}
 use Rattle.spec_lib.specs.Outcomes.{refuse}
 use Rattle.store_model.specs.Amounts.{Amounts, command_amounts_of, add_amounts}
 use Rattle.store_model.specs.Catalog.{Catalog}
-use Rattle.store_model.specs.Sweep.{IsSweep}
+use Rattle.store_model.specs.Sweep.{IsSweepOf}
 use Rattle.store_model.specs.declared.swept.Swept.{Swept}
 use Rattle.store_book.specs.BookState.{BookState}
 use Rattle.locked_book.specs.Counting.{StoreContent, IsKeptState, has_room}
@@ -54,9 +54,9 @@ uncounted_kept names b b' k k' hands reserve was sums counted table slots =
       sums.setting ∙ was.7,
     )
 
--- so it does after a sweep
-pub swept_kept : (names : StoreNames) (b b' : BookState) (k : Counts) (hands reserve : ℕ) (swept : Swept) → IsKeptState names b k hands reserve → IsSweep b.catalog swept b'.catalog → b'.table ≡ b.table → length b'.slots ≡ length b.slots → IsKeptState names b' k hands reserve
-swept_kept names b b' k hands reserve swept was sweeps table slots =
+-- so it does after a sweep or part of one
+pub swept_kept : (reached : Text → Bool) (names : StoreNames) (b b' : BookState) (k : Counts) (hands reserve : ℕ) (swept : Swept) → IsKeptState names b k hands reserve → IsSweepOf reached b.catalog swept b'.catalog → b'.table ≡ b.table → length b'.slots ≡ length b.slots → IsKeptState names b' k hands reserve
+swept_kept reached names b b' k hands reserve swept was sweeps table slots =
     uncounted_kept names b b' k k hands reserve was (still_sums b.catalog b'.catalog (ap (λ (C : Catalog). C.sessions) sweeps.rest) (ap setting_of sweeps.rest)) refl table slots
 
 -- and after desks were settled

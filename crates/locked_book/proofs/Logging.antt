@@ -10,7 +10,7 @@ use Rattle.store_book.specs.Pinned.{blob_bytes}
 use Rattle.spec_lib.specs.Texts.{Text}
 use Rattle.store_model.specs.Catalog.{HandRecord, Tenant}
 use Rattle.store_model.specs.Durable.{chunk_change}
-use Rattle.store_model.specs.Histories.{CommandCall, FinishCall, PutBackCall, Step, SweepCall, TakeCall}
+use Rattle.store_model.specs.Histories.{CommandCall, FinishCall, PutBackCall, Step, SweepCall, SweepPartCall, TakeCall}
 use Rattle.store_model.specs.Runs.{Answer, Bytes, Command, GetManifest, Lease, Number, PutManifest, Status}
 use Rattle.locked_book.specs.Calls.{reply, step_of}
 use Rattle.locked_book.specs.Logging.{IsSmall, IsUnrecorded, bytes_if_ok, check_in_bytes, change_bytes, finish_bytes, is_noted, is_change, is_changing, is_chunk, logged_by, manifest_bytes, promises, promises_changes, promises_chunks, recorded_bytes, step_bytes}
@@ -81,6 +81,7 @@ unrecorded p longest tenants (call.DeleteManifest repo digest result) u = absurd
 unrecorded p longest tenants (call.RemoveRepo repo result) u = absurd u
 unrecorded p longest tenants (call.Lease repo digest result) u = reads p longest tenants (Lease repo.now digest.now) (λ r. Bytes (blob_bytes (arc_value r.1))) result.now (λ a. refl) refl
 unrecorded p longest tenants (call.Sweep swept) u = nothing p longest tenants (SweepCall swept.now) refl refl refl
+unrecorded p longest tenants (call.SweepPart swept) u = nothing p longest tenants (SweepPartCall swept.now) refl refl refl
 
 -- a call without a body returns no hand, and adds no chunk
 pub small : (c : Call) → IsSmall c → (own : List Step) → MayReturn own (step_of c) × (is_chunk (step_of c) ≡ false)
@@ -99,6 +100,7 @@ small (call.DeleteManifest repo digest result) s own = (tt, refl)
 small (call.RemoveRepo repo result) s own = (tt, refl)
 small (call.Lease repo digest result) s own = (tt, refl)
 small (call.Sweep swept) s own = (tt, refl)
+small (call.SweepPart swept) s own = (tt, refl)
 
 -- ---- records that are made before their steps
 

@@ -13,7 +13,7 @@ use Rattle.store_model.specs.Amounts.{Amounts, add_amounts, command_amounts_of}
 use Rattle.store_model.specs.Catalog.{Catalog}
 use Rattle.store_model.specs.Commands as commands
 use Rattle.store_model.specs.Commands.{Outcome}
-use Rattle.store_model.specs.Histories.{CommandCall, FinishCall, IsStep, PutBackCall, Step, SweepCall, TakeCall, accepted_amounts, step_amounts}
+use Rattle.store_model.specs.Histories.{CommandCall, FinishCall, IsStep, PutBackCall, Step, SweepCall, SweepPartCall, TakeCall, accepted_amounts, step_amounts}
 use Rattle.store_model.specs.Invariant.{Sound, WellFormed}
 use Rattle.store_model.specs.Runs.{Abandon, Answer, Append, Bytes, Close, Command, Delete, DeleteManifest, Done, GetManifest, Lease, Mount, Mounting, Number, PutManifest, RemoveRepo, Start, Status, map_outcome, outcome, reading_outcome, takes_memory}
 use Rattle.locked_book.specs.Calls.{reply}
@@ -216,6 +216,7 @@ tried b b' k (CommandCall (Lease r d) reply) t = record {
   has = λ k' counted. record { crowded = t.crowded; does = performed b b' k t.crowded (Lease r d) true reply k' tt t.table counted t.does; look = t.look };
 }
 tried b b' k (SweepCall s) t = absurd t
+tried b b' k (SweepPartCall s) t = absurd t
 tried b b' k (TakeCall r n g len reply) t = absurd t
 tried b b' k (PutBackCall h reply) t = absurd t
 tried b b' k (FinishCall h d reply) t = absurd t

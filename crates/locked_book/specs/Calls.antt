@@ -5,7 +5,7 @@ use Rattle.std.specs.Arc.{arc_value}
 use Rattle.blob_digest.specs.declared.refusal.Refusal.{Refusal}
 use Rattle.store_book.specs.Pinned.{blob_bytes}
 use Rattle.store_model.specs.Runs.{Start, Status, Abandon, Mount, Delete, PutManifest, GetManifest, DeleteManifest, RemoveRepo, Lease, Answer, Number, Mounting, Bytes, Done}
-use Rattle.store_model.specs.Histories.{Step, CommandCall, SweepCall, TakeCall, PutBackCall, FinishCall}
+use Rattle.store_model.specs.Histories.{Step, CommandCall, SweepCall, SweepPartCall, TakeCall, PutBackCall, FinishCall}
 use Rattle.locked_book.specs.declared.call.Call.{Call}
 use Rattle.locked_book.specs.declared.call.Call.TheVariants as call
 
@@ -31,3 +31,4 @@ step_of (call.DeleteManifest repo digest result) = CommandCall (DeleteManifest r
 step_of (call.RemoveRepo repo result) = CommandCall (RemoveRepo repo.now) (reply (λ _. Done) result.now)
 step_of (call.Lease repo digest result) = CommandCall (Lease repo.now digest.now) (reply (λ r. Bytes (blob_bytes (arc_value r.1))) result.now)
 step_of (call.Sweep swept) = SweepCall swept.now
+step_of (call.SweepPart swept) = SweepPartCall swept.now

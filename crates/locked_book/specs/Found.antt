@@ -1,5 +1,5 @@
 -- The content that a call through the lock finds. It has no name outside the lock, so contracts speak of some content of the store.
-use Rattle.std.specs.Prelude.{◌≡◌, List, length}
+use Rattle.std.specs.Prelude.{◌≡◌, ℕ, List, [], ◌∷◌, length, sum_by}
 use Rattle.std.specs.FinMap as fmap
 use Rattle.std.specs.List.{AllByRecursion}
 use Rattle.locked_book.specs.Counting.{StoreContent, IsBalanced}
@@ -7,6 +7,7 @@ use Rattle.locked_book.specs.History.{AddsByNobody, state_of}
 use Rattle.locked_book.specs.Names.{StoreNames, setting_of}
 use Rattle.locked_book.specs.declared.totals.Totals.{Totals}
 use Rattle.store_book.specs.BookState.{BookState}
+use Rattle.store_book.specs.SweepParts.{IsPartOfSweep}
 use Rattle.store_model.specs.Amounts.{Amounts}
 use Rattle.store_model.specs.Catalog.{Catalog}
 use Rattle.store_model.specs.Durable.{AreReturnedAsTaken}
@@ -71,3 +72,25 @@ pub record IsSweepOf (names : StoreNames) (before : StoreContent) (swept : Swept
 -- a sweep with this result was made on some content of the store
 abbrev pub IsSweepOfSome : StoreNames → Swept → Type 0
 IsSweepOfSome names swept = (before after : StoreContent) × IsSweepOf names before swept after
+
+-- ---- a sweep in parts
+
+-- A part of a sweep, over the slots from a place up to another, leads from one content of a store to another and counts nothing.
+pub record IsPartOf (names : StoreNames) (from to : ℕ) (before : StoreContent) (swept : Swept) (after : StoreContent) : Type 0 where
+  pub found : IsContentOf names before
+  pub sweeps : IsPartOfSweep from to before.book swept after.book
+  pub counts : after.counts ≡ before.counts
+
+-- parts that follow each other from one place up to another, each made on some content of the store
+abbrev pub AreParts : StoreNames → ℕ → ℕ → List Swept → Type 0
+AreParts names from to [] = from ≡ to
+AreParts names from to (swept ∷ parts) = (mid : ℕ) × (before after : StoreContent) × IsPartOf names from mid before swept after × AreParts names mid to parts
+
+-- the sums of the counts of parts
+abbrev pub swept_in_all : List Swept → Swept
+swept_in_all parts = record {
+  condemned = sum_by (λ s. s.condemned) parts;
+  freed = sum_by (λ s. s.freed) parts;
+  held = sum_by (λ s. s.held) parts;
+  retired = sum_by (λ s. s.retired) parts;
+}

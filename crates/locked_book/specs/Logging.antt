@@ -206,4 +206,5 @@ IsUnrecorded (call.RefuseManifest repo bytes e) = Unit {0}
 IsUnrecorded (call.GetManifest repo digest result) = Unit {0}
 IsUnrecorded (call.Lease repo digest result) = Unit {0}
 IsUnrecorded (call.Sweep swept) = Unit {0}
+IsUnrecorded (call.SweepPart swept) = Unit {0}
 IsUnrecorded c = ⊥

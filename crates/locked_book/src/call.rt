@@ -32,6 +32,7 @@ pub enum Call<'a> {
     RemoveRepo(&'a RepoName, &'a Result<(), Refusal>),
     Lease(&'a RepoName, &'a Digest, &'a Result<(Pin, Arc<Blob, Global>), Refusal>),
     Sweep(&'a Swept),
+    SweepPart(&'a Swept),
 }
 
 impl Call<'_> {
@@ -57,7 +58,8 @@ impl Call<'_> {
             Call::Take(_, _, _, _, _)
             | Call::PutBack(_, _)
             | Call::Finish(_, _, _)
-            | Call::Sweep(_) => {}
+            | Call::Sweep(_)
+            | Call::SweepPart(_) => {}
         }
     }
 }

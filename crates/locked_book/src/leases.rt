@@ -1,15 +1,16 @@
 //! Leases, their pins, and sweeps.
 
-ghost use Rattle.std.specs.Prelude.{◌≡◌, ◌<◌, IfOk};
+ghost use Rattle.std.specs.Prelude.{◌≡◌, ◌<◌, ◌≤◌, IfOk};
 ghost use Rattle.std.specs.Arc.{arc_value};
-ghost use Rattle.store_model.specs.Histories.{SweepCall};
+ghost use Rattle.store_model.specs.Histories.{SweepCall, SweepPartCall};
 ghost use Rattle.store_model.specs.Runs.{Lease, Bytes};
 ghost use Rattle.store_model.specs.Sweep.{IsSweep};
 ghost use Rattle.store_book.specs.Pinned.{blob_bytes, blob_digest};
+ghost use Rattle.store_book.specs.SweepParts.{IsBoundedPart, end_of};
 ghost use Rattle.store_book.specs.SlotSteps.{HasPin, IsUnchanged, ReadsWord};
 ghost use Rattle.locked_book.specs.Calls.{reply};
 ghost use Rattle.locked_book.specs.Counting.{EachSlotOf, KeepsCatalog};
-ghost use Rattle.locked_book.specs.Found.{IsBookOf, IsSweepOf};
+ghost use Rattle.locked_book.specs.Found.{IsBookOf, IsPartOf, IsSweepOf};
 ghost use Rattle.locked_book.specs.History.{Makes};
 ghost use Rattle.locked_book.specs.Performing.{Performs};
 ghost use Rattle.locked_book.specs.Results.{HashesTo, IsPinOf};
@@ -24,7 +25,7 @@ use pin_table::{Pin, Pins};
 use std::alloc::Global;
 use std::snapshot::Snapshot;
 use std::sync::Arc;
-use store_book::Swept;
+use store_book::{Swept, SweptPart};
 
 impl<S: Naming> Kept<S> {
     /// Leases a blob of a repository with `Book::lease`.
@@ -108,5 +109,27 @@ impl<S: Naming> Kept<S> {
         self.history
             .add_unrecorded(&mut desk.writer, Call::Sweep(&result));
         result
+    }
+
+    /// Does a part of a sweep with `Book::sweep_part`. The step is the desk's.
+    pub fn sweep_part(
+        &mut self,
+        pins: &Pins,
+        desk: &mut Desk<S>,
+        from: u32,
+        most: u32,
+    ) -> SweptPart
+        requires table { pins.now ≡ S.names.table }
+        requires within { from ≤ S.names.slots }
+        ensures part { IsPartOf S.names from (end_of S.names.slots result)
+            self.old result.swept self.new }
+        ensures bounded { IsBoundedPart from most S.names.slots result }
+        ensures makes { Makes S.names.opening (SweepPartCall result.swept) desk.old desk.new }
+    {
+        self.reveal_invariant();
+        let part = self.book.sweep_part(pins, from, most);
+        self.history
+            .add_unrecorded(&mut desk.writer, Call::SweepPart(&part.swept));
+        part
     }
 }

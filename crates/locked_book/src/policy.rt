@@ -61,6 +61,7 @@ pub fn is_change(call: &Call<'_>) -> bool
         | Call::RefuseManifest(_, _, _)
         | Call::GetManifest(_, _, _)
         | Call::Lease(_, _, _)
-        | Call::Sweep(_) => false,
+        | Call::Sweep(_)
+        | Call::SweepPart(_) => false,
     }
 }

@@ -12,7 +12,7 @@ use Rattle.spec_lib.proofs.Outcomes.{bound_ok}
 use Rattle.store_model.specs.Catalog.{Catalog, Tenant}
 use Rattle.store_model.specs.Commands as commands
 use Rattle.store_model.specs.Durable.{Agrees, AreReturnedAsTaken, BlobLinked, Change, DurableState, TakenChunks, after_change, change_of, changes_of, chunk_change, command_change, filled_chunk, mount_change, session_key, taken_after_step}
-use Rattle.store_model.specs.Histories.{AreSteps, CommandCall, FinishCall, MayLeadTo, PutBackCall, State, Step, SweepCall, TakeCall, initial_state}
+use Rattle.store_model.specs.Histories.{AreSteps, CommandCall, FinishCall, MayLeadTo, PutBackCall, State, Step, SweepCall, SweepPartCall, TakeCall, initial_state}
 use Rattle.store_model.specs.Runs as runs
 use Rattle.store_model.specs.Runs.{Answer, Command, outcome}
 use Rattle.store_model.specs.Catalog.{SessionNumber}
@@ -87,6 +87,7 @@ step_kept : (taken : TakenChunks) (D : DurableState) (s : State) (step : Step) (
 step_kept taken D s (CommandCall command (Ok x)) X a leaves = command_kept taken D s.catalog a command x X leaves
 step_kept taken D s (CommandCall command (Err e)) X a leaves = tt
 step_kept taken D s (SweepCall swept) X a leaves = tt
+step_kept taken D s (SweepPartCall swept) X a leaves = tt
 step_kept taken D s (TakeCall r n g len reply) X a leaves = tt
 step_kept taken D s (PutBackCall h (Ok n)) X a leaves = chunk_kept taken D s.catalog a h.key (filled_chunk h)
 step_kept taken D s (PutBackCall h (Err e)) X a leaves = tt

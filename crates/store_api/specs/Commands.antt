@@ -14,11 +14,12 @@ pub use Rattle.store_model.specs.Runs.{Command, Start, Status, Append, Close, Ab
 use Rattle.store_api.specs.declared.verb.Verb.{Verb}
 use Rattle.store_api.specs.declared.verb.Verb.TheVariants as verb
 
--- a request: a command, the verification of a lease of a blob of this size, or a sweep
+-- a request: a command, the verification of a lease of a blob of this size, or a sweep, at once or in parts
 pub data StoreRequest : Type 0 where
   Calls : Command → StoreRequest
   Verifies : ℕ → StoreRequest
   Sweeps : StoreRequest
+  SweepsInParts : StoreRequest
 
 -- whether a command leases a blob
 abbrev pub is_lease : Command → Bool

@@ -3,7 +3,7 @@ ghost use Rattle.std.specs.Prelude.{◌≡◌, ◌^◌, ◌<◌, ◌≤◌, leng
 ghost use Rattle.store_api.specs.Answers.{Answer, Swept as SweptAnswer};
 ghost use Rattle.store_api.specs.Backend.{Abandons, Appends, Closes, ConfirmsLease, DeletesLink, DeletesManifest, GetsManifest, GivesExtent, LeasesBlob, Mounts, PerformsCommand, PutsManifest, RemovesRepo, ReportsStatus, SplitsLease, Starts};
 ghost use Rattle.store_api.specs.CommandViews.{command_view};
-ghost use Rattle.store_api.specs.Commands.{StoreRequest, Sweeps};
+ghost use Rattle.store_api.specs.Commands.{StoreRequest, Sweeps, SweepsInParts};
 ghost use Rattle.store_api.specs.LeaseViews.{LeaseView};
 
 use crate::command::Command;
@@ -108,6 +108,11 @@ pub trait Backend {
     /// Frees the slots of blobs that have neither links nor leases, and returns the counts of the sweep.
     fn sweep(&mut self) -> Swept
         ensures { acts self.old Sweeps (SweptAnswer result) self.new };
+
+    /// Frees slots as `sweep` does, but in parts, between which the requests of others may come. Returns the sums of their
+    /// counts.
+    fn sweep_in_parts(&mut self) -> Swept
+        ensures { acts self.old SweepsInParts (SweptAnswer result) self.new };
 
     /// Returns the size of a lease's blob in bytes.
     fn size(lease: &Self::Lease) -> u64

@@ -1,4 +1,5 @@
 -- The slots, the keeper's rows and the view of them, change by change.
+pub mod Between
 pub mod Changed
 pub mod Filled
 pub mod Placement

@@ -10,3 +10,4 @@ pub mod Openings
 pub mod Pinned
 pub mod Printing
 pub mod SlotSteps
+pub mod SweepParts

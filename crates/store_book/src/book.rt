@@ -1,8 +1,9 @@
-ghost use Rattle.std.specs.Prelude.{◌≡◌, ◌≢◌, ◌<◌, length, IfOk, IfErr, IfSome, OnErr, OnOk};
+ghost use Rattle.std.specs.Prelude.{◌≡◌, ◌≢◌, ◌<◌, ◌≤◌, length, IfOk, IfErr, IfSome, OnErr, OnOk};
 ghost use Rattle.std.specs.Arc.{arc_value};
 ghost use Rattle.blob_digest.specs.declared.refusal.Refusal.TheVariants.{TooManyReaders, UploadUnknown};
 ghost use Rattle.store_model.specs.Commands.{status};
 ghost use Rattle.store_model.specs.Invariant.{Sound};
+ghost use Rattle.store_book.specs.SweepParts.{IsBoundedPart, IsPartOfSweep, end_of};
 ghost use Rattle.store_model.specs.Sweep.{IsSweep};
 ghost use Rattle.store_book.specs.BookCalls.{Abandons, AppendsChunk, ChangesSlots, Closes, Deletes, FailsOnlyIfFull, IsNewPin, IsStoredBlob, KeepsSlots, LeasesBlob, Mounts, PlacesOnly, Starts};
 ghost use Rattle.store_book.specs.Openings.{OpensFrom, RefusesConfig};
@@ -16,7 +17,7 @@ use crate::keep::{find_linked, keep, link_slot};
 use crate::mount::find_source;
 use crate::pinned_slots::PinnedSlots;
 use crate::print::print_book;
-use crate::sweep::sweep_slots;
+use crate::sweep::{SweptPart, sweep_slots};
 use blob_digest::{Blob, ByteRange, Digest, Refusal, RepoName};
 use content_files::{ContentName, NoFiles};
 use link_table::Links;
@@ -398,7 +399,29 @@ impl Book {
         ensures slots { ChangesSlots SweepsSlot self.old self.new }
         ensures retired { 0 < result.retired → HasLastGeneration self.old.slots }
     {
-        sweep_slots(&mut self.slots, pins)
+        sweep_slots(&mut self.slots, pins, 0, u32::MAX).swept
+    }
+
+    /// Does a part of what `sweep` does: it goes over the slots from `from` on, and visits at most `most` blobs without links.
+    ///
+    /// Parts that follow each other up to the last slot have gone over each slot once. Between two parts, other calls may
+    /// change the book.
+    ///
+    /// # Cost
+    /// One step for each blob that it visits, and one test for every 64 slots.
+    ///
+    /// # Memory
+    /// None is allocated, but for an entry for each freed blob that lies in a file.
+    pub fn sweep_part(&mut self, pins: &Pins, from: u32, most: u32) -> SweptPart
+        requires table { self.old.table ≡ pins.now }
+        requires within { from ≤ length self.old.slots }
+        ensures sweeps { IsPartOfSweep from (end_of (length self.old.slots) result)
+            self.old result.swept self.new }
+        ensures bounded { IsBoundedPart from most (length self.old.slots) result }
+        ensures slots { ChangesSlots SweepsSlot self.old self.new }
+        ensures retired { 0 < result.swept.retired → HasLastGeneration self.old.slots }
+    {
+        sweep_slots(&mut self.slots, pins, from, most)
     }
 
     /// Confirms that a pin's slot is in use, in the pin's generation and with its digest, and returns the pin.

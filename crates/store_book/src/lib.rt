@@ -40,3 +40,4 @@ pub use link_table::{
 };
 pub use slot_table::GREATEST_SLOTS;
 pub use store_model::{Mount, SlotUse, Swept, Usage};
+pub use sweep::SweptPart;

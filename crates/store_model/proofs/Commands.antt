@@ -19,3 +19,4 @@ pub mod SomeSweep
 pub mod Start
 pub mod Sweep
 pub mod SweepAnswers
+pub mod SweepParts

@@ -9,13 +9,14 @@ use Rattle.store_model.specs.Catalog.{Catalog, HandRecord}
 use Rattle.store_model.specs.Commands.{take, put_back, finish, after_cancel}
 use Rattle.store_model.specs.Hands.{checked_out_count, reserved_bytes, filled_length}
 use Rattle.store_model.specs.Runs.{Command, Append, Close, Abandon, Answer, Number, IsCommandCase}
-use Rattle.store_model.specs.Sweep.{IsSweep}
+use Rattle.store_model.specs.Sweep.{IsSweep, IsSweepPart}
 use Rattle.store_model.specs.declared.swept.Swept.{Swept}
 
--- A step with its reply: a command, a sweep, or the check-out, check-in or finish of a session.
+-- A step with its reply: a command, a sweep or part of one, or the check-out, check-in or finish of a session.
 pub data Step : Type 0 where
   CommandCall : Command → Result Answer Refusal → Step
   SweepCall : Swept → Step
+  SweepPartCall : Swept → Step
   TakeCall : Text → ℕ → Option ByteRange → ℕ → Result HandRecord Refusal → Step
   PutBackCall : HandRecord → Result ℕ Refusal → Step
   FinishCall : HandRecord → Text → Result ℕ Refusal → Step
@@ -44,6 +45,7 @@ abbrev pub step_amounts : Step → Amounts
 step_amounts (CommandCall command (Ok a)) = accepted_amounts command a
 step_amounts (CommandCall command (Err e)) = zero_amounts
 step_amounts (SweepCall swept) = zero_amounts
+step_amounts (SweepPartCall swept) = zero_amounts
 step_amounts (TakeCall r n g len reply) = zero_amounts
 step_amounts (PutBackCall h (Ok n)) = chunk_amounts h.last
 step_amounts (PutBackCall h (Err e)) = zero_amounts
@@ -65,6 +67,7 @@ abbrev pub MayLeadTo : State → Step → Catalog → Type 0
 MayLeadTo s (CommandCall command (Ok a)) C' = IsCommandCase s.catalog command (Ok a) C'
 MayLeadTo s (CommandCall command (Err e)) C' = IsCommandCase s.catalog command (Err e) C' ⊎ (IsUncountable s 0 e × (C' ≡ s.catalog))
 MayLeadTo s (SweepCall swept) C' = IsSweep s.catalog swept C'
+MayLeadTo s (SweepPartCall swept) C' = IsSweepPart s.catalog swept C'
 MayLeadTo s (TakeCall r n g len (Ok h)) C' = take s.catalog r n g len ≡ Ok (h, C')
 MayLeadTo s (TakeCall r n g len (Err e)) C' = ((take s.catalog r n g len ≡ Err e) ⊎ IsUncountable s len e) × (C' ≡ s.catalog)
 MayLeadTo s (PutBackCall h (Ok n)) C' = put_back s.catalog h ≡ Ok (n, C')

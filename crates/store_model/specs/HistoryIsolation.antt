@@ -8,7 +8,7 @@ use Rattle.spec_lib.specs.Texts.{Text}
 use Rattle.store_model.specs.BookText.{book_text}
 use Rattle.store_model.specs.Catalog.{Catalog, HandRecord, Tenant, is_repo_of_tenant, opening, ContentRules}
 use Rattle.store_model.specs.Commands.{Outcome, after_cancel, finish, put_back, take}
-use Rattle.store_model.specs.Histories.{AreSteps, SweepCall, FinishCall, IsUncountable, LeadsTo, CommandCall, PutBackCall, State, Step, TakeCall, initial_state}
+use Rattle.store_model.specs.Histories.{AreSteps, SweepCall, SweepPartCall, FinishCall, IsUncountable, LeadsTo, CommandCall, PutBackCall, State, Step, TakeCall, initial_state}
 use Rattle.store_model.specs.Noninterference.{NoCollision, uploads_of_command, catalog_after, uploaded_pair, isolated_outcome, tenant_view, reply_of}
 use Rattle.store_model.specs.Runs.{Command, repo_of}
 use Rattle.store_model.specs.Sessions.{hand_content}
@@ -19,6 +19,7 @@ use Rattle.store_model.specs.Sessions.{hand_content}
 abbrev pub is_step_of : List Tenant → ℕ → Step → Bool
 is_step_of tenants t (CommandCall command reply) = is_repo_of_tenant tenants t (repo_of command)
 is_step_of tenants t (SweepCall swept) = false
+is_step_of tenants t (SweepPartCall swept) = false
 is_step_of tenants t (TakeCall r n g len reply) = is_repo_of_tenant tenants t r
 is_step_of tenants t (PutBackCall h reply) = h.key.0 == t
 is_step_of tenants t (FinishCall h d reply) = h.key.0 == t
@@ -34,11 +35,12 @@ pub data StepRequest : Type 0 where
   Return : HandRecord → StepRequest
   Finish : HandRecord → Text → StepRequest
 
--- the requests of a list of steps, of which a sweep has none
+-- the requests of a list of steps, of which a sweep and a part of one have none
 abbrev pub requests_of : List Step → List StepRequest
 requests_of [] = []
 requests_of (CommandCall command reply ∷ steps) = Perform command ∷ requests_of steps
 requests_of (SweepCall swept ∷ steps) = requests_of steps
+requests_of (SweepPartCall swept ∷ steps) = requests_of steps
 requests_of (TakeCall r n g len reply ∷ steps) = Take r n g len ∷ requests_of steps
 requests_of (PutBackCall h reply ∷ steps) = Return h ∷ requests_of steps
 requests_of (FinishCall h d reply ∷ steps) = Finish h d ∷ requests_of steps

@@ -9,7 +9,7 @@ use Rattle.spec_lib.specs.Texts.{Text, text_cmp}
 use Rattle.store_model.specs.Catalog.{Tenant, Session, Catalog, link_cmp, session_number_cmp, is_repo_of_tenant, is_repo_of, tenant_holds, next_number_of, opening, ContentRules}
 use Rattle.spec_lib.specs.Outcomes.{◌>>=◌}
 use Rattle.store_model.specs.Commands.{Outcome, tenant, session, content_in, close_by, is_named}
-use Rattle.store_model.specs.Runs.{Command, Close, Answer, Number, repo_of, outcome, map_outcome, Event, CommandEvent, SweepEvent, IsRun}
+use Rattle.store_model.specs.Runs.{Command, Close, Answer, Number, repo_of, outcome, map_outcome, Event, CommandEvent, SweepEvent, SweepPartEvent, IsRun}
 use Rattle.store_model.specs.BookText.{book_text}
 
 -- ---- a tenant's commands, replies and view
@@ -19,18 +19,21 @@ abbrev pub events_of : List Tenant → ℕ → List Event → List Event
 events_of tenants t [] = []
 events_of tenants t (CommandEvent command reply ∷ es) = if is_repo_of_tenant tenants t (repo_of command) then CommandEvent command reply ∷ events_of tenants t es else events_of tenants t es
 events_of tenants t (SweepEvent swept ∷ es) = events_of tenants t es
+events_of tenants t (SweepPartEvent swept ∷ es) = events_of tenants t es
 
 -- the commands of a list of events
 abbrev pub commands_of : List Event → List Command
 commands_of [] = []
 commands_of (CommandEvent command reply ∷ es) = command ∷ commands_of es
 commands_of (SweepEvent swept ∷ es) = commands_of es
+commands_of (SweepPartEvent swept ∷ es) = commands_of es
 
 -- the replies of a list of events
 abbrev pub replies : List Event → List (Result Answer Refusal)
 replies [] = []
 replies (CommandEvent command reply ∷ es) = reply ∷ replies es
 replies (SweepEvent swept ∷ es) = replies es
+replies (SweepPartEvent swept ∷ es) = replies es
 
 -- the digests that a tenant's repositories contain, in order, each with its bytes
 abbrev pub blobs_of : Catalog → ℕ → List (Text × Text)
@@ -94,6 +97,7 @@ abbrev pub IsUnaffectedByOthers : Event → Type 0
 IsUnaffectedByOthers (CommandEvent command (Err e)) = (e ≢ Memory) × (e ≢ StoreFull) × (e ≢ TooManyReaders)
 IsUnaffectedByOthers (CommandEvent command (Ok a)) = Unit {0}
 IsUnaffectedByOthers (SweepEvent swept) = Unit {0}
+IsUnaffectedByOthers (SweepPartEvent swept) = Unit {0}
 
 -- the content of a close: its session's bytes followed by its last chunk, or an error if it has no session
 abbrev pub close_content : Catalog → Text → ℕ → Text → Result Text Refusal
@@ -116,6 +120,7 @@ uploads_of_command C command = []
 abbrev pub uploads_of_event : Catalog → Event → List (Text × Text)
 uploads_of_event C (CommandEvent command r) = uploads_of_command C command
 uploads_of_event C (SweepEvent swept) = []
+uploads_of_event C (SweepPartEvent swept) = []
 
 -- the digests and contents of all closes of a run
 abbrev pub uploads_of_run : (es : List Event) (C C' : Catalog) → IsRun C es C' → List (Text × Text)

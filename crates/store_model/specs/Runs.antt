@@ -11,7 +11,7 @@ use Rattle.store_model.specs.Invariant.{Sound}
 use Rattle.store_model.specs.Commands
 use Rattle.store_model.specs.Commands.{Outcome}
 use Rattle.store_model.specs.declared.swept.Swept.{Swept as SweptCounts}
-use Rattle.store_model.specs.Sweep.{IsSweep}
+use Rattle.store_model.specs.Sweep.{IsSweep, IsSweepPart}
 
 -- a command: its repository and its other arguments
 pub data Command : Type 0 where
@@ -93,15 +93,17 @@ IsCommandCase C command (Err e) C' = (((crowded : Bool) × (outcome crowded C co
 
 -- ---- runs
 
--- an event of a run: a command with its reply, or a sweep with its counts
+-- an event of a run: a command with its reply, or a sweep or part of one with its counts
 pub data Event : Type 0 where
   CommandEvent : Command → Result Answer Refusal → Event
   SweepEvent : SweptCounts → Event
+  SweepPartEvent : SweptCounts → Event
 
 -- an event leads from one catalog to another
 abbrev pub Happens : Catalog → Event → Catalog → Type 0
 Happens C (CommandEvent command reply) C' = IsCommandCase C command reply C'
 Happens C (SweepEvent swept) C' = IsSweep C swept C'
+Happens C (SweepPartEvent swept) C' = IsSweepPart C swept C'
 
 -- a list of events, one after another, leads from one catalog to another
 abbrev pub IsRun : Catalog → List Event → Catalog → Type 0
@@ -112,6 +114,7 @@ IsRun C (e ∷ es) C' = (mid : Catalog) × Happens C e mid × IsRun mid es C'
 abbrev pub HasShortName : Event → Type 0
 HasShortName (CommandEvent command reply) = length (repo_of command) ≤ 255
 HasShortName (SweepEvent swept) = Unit {0}
+HasShortName (SweepPartEvent swept) = Unit {0}
 
 -- Every run from a sound catalog leads to a sound catalog, if its repository names have at most 255 bytes.
 abbrev pub RunsStaySound : Type 0
@@ -119,11 +122,12 @@ RunsStaySound = (C C' : Catalog) (es : List Event) → AllByRecursion HasShortNa
 
 -- ---- a run of given commands and sweeps
 
--- the requests of a list of events: a command, or none for a sweep
+-- the requests of a list of events: a command, or none for a sweep or part of one
 abbrev pub asked_commands : List Event → List (Option Command)
 asked_commands [] = []
 asked_commands (CommandEvent command reply ∷ es) = Some command ∷ asked_commands es
 asked_commands (SweepEvent s ∷ es) = None ∷ asked_commands es
+asked_commands (SweepPartEvent s ∷ es) = None ∷ asked_commands es
 
 -- a run of these requests exists from the catalog C
 pub record HasRun (C : Catalog) (wanted : List (Option Command)) : Type 0 where

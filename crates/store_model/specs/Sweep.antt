@@ -15,17 +15,26 @@ IsAfterSweep false b now = now ≡ Some b
 IsAfterSweep true b None = Unit {0}
 IsAfterSweep true b (Some now) = (b.lent ≡ true) × (now ≡ record b { condemned = true })
 
--- A sweep changes only orphans and reports its counts; the catalog does not determine which leased orphans it removes.
-pub record IsSweep (C : Catalog) (swept : Swept) (C' : Catalog) : Type 0 where
-  -- each orphan is removed or condemned, and every other blob is unchanged
-  pub orphans : (d : Text) (b : Resident) → fmap.get C.residents d ≡ Some b → IsAfterSweep (is_orphan C d) b (fmap.get C'.residents d)
+-- Part of a sweep reaches the blobs of some digests, changes only the orphans among them, and reports its counts; the catalog does not determine
+-- which leased orphans it removes.
+pub record IsSweepOf (reached : Text → Bool) (C : Catalog) (swept : Swept) (C' : Catalog) : Type 0 where
+  -- each orphan that is reached is removed or condemned, and every other blob is unchanged
+  pub orphans : (d : Text) (b : Resident) → fmap.get C.residents d ≡ Some b → IsAfterSweep (reached d && is_orphan C d) b (fmap.get C'.residents d)
   -- no blob is added
   pub no_others : (d : Text) → fmap.get C.residents d ≡ None → fmap.get C'.residents d ≡ None
   -- only the blobs and the number of retired slots change
   pub rest : C' ≡ record C { residents = C'.residents; retired = C.retired + swept.retired }
-  -- `condemned` is the number of orphans that were not condemned before
-  pub condemned : swept.condemned ≡ count_by (λ e. is_orphan C e.0 && not e.1.condemned) (fmap.entries C.residents)
+  -- `condemned` is the number of orphans that were reached and not condemned before
+  pub condemned : swept.condemned ≡ count_by (λ e. reached e.0 && is_orphan C e.0 && not e.1.condemned) (fmap.entries C.residents)
   -- `freed` plus `retired` is the number of removed blobs
   pub gone : swept.freed + swept.retired ≡ count_by (λ e. is_none (fmap.get C'.residents e.0)) (fmap.entries C.residents)
-  -- `held` is the number of condemned blobs that remain
-  pub held : swept.held ≡ count_by (λ e. e.1.condemned) (fmap.entries C'.residents)
+  -- `held` is the number of condemned blobs that were reached and remain
+  pub held : swept.held ≡ count_by (λ e. reached e.0 && e.1.condemned) (fmap.entries C'.residents)
+
+-- a sweep reaches every blob
+abbrev pub IsSweep : Catalog → Swept → Catalog → Type 0
+IsSweep = IsSweepOf (λ _. true)
+
+-- part of a sweep reaches some blobs
+abbrev pub IsSweepPart : Catalog → Swept → Catalog → Type 0
+IsSweepPart C swept C' = (reached : Text → Bool) × IsSweepOf reached C swept C'

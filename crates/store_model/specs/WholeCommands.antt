@@ -7,9 +7,9 @@ use Rattle.blob_digest.specs.declared.refusal.Refusal.{Refusal}
 use Rattle.blob_digest.specs.declared.refusal.Refusal.TheVariants.{Busy, Memory, Quota}
 use Rattle.spec_lib.specs.Texts.{Text}
 use Rattle.store_model.specs.Catalog.{HandRecord, Tenant, session_number_cmp, opening, ContentRules}
-use Rattle.store_model.specs.Histories.{AreSteps, SweepCall, FinishCall, IsUncountable, LeadsTo, CommandCall, PutBackCall, State, Step, TakeCall, initial_state}
+use Rattle.store_model.specs.Histories.{AreSteps, SweepCall, SweepPartCall, FinishCall, IsUncountable, LeadsTo, CommandCall, PutBackCall, State, Step, TakeCall, initial_state}
 use Rattle.store_model.specs.Invariant.{Sound}
-use Rattle.store_model.specs.Runs.{Answer, Append, CommandEvent, Close, Command, Event, HasShortName, IsRun, Number, SweepEvent}
+use Rattle.store_model.specs.Runs.{Answer, Append, CommandEvent, Close, Command, Event, HasShortName, IsRun, Number, SweepEvent, SweepPartEvent}
 
 -- ---- the commands of steps
 
@@ -54,6 +54,7 @@ IsFinish out hand digest reply events = (bytes : Text) × IsFilledHand out hand 
 abbrev pub CorrespondsTo : CheckedOutSessions → Step → List Event → CheckedOutSessions → Type 0
 CorrespondsTo hands (CommandCall command reply) events after = (events ≡ CommandEvent command reply ∷ []) × (after ≡ hands)
 CorrespondsTo hands (SweepCall swept) events after = (events ≡ SweepEvent swept ∷ []) × (after ≡ hands)
+CorrespondsTo hands (SweepPartCall swept) events after = (events ≡ SweepPartEvent swept ∷ []) × (after ≡ hands)
 CorrespondsTo hands (TakeCall r n g len (Ok h)) events after = (events ≡ []) × (after ≡ fmap.insert hands h.key (record { hand = h; repo = r; range = g }))
 CorrespondsTo hands (TakeCall r n g len (Err e)) events after = IsFailedUpload r n g len e events × (after ≡ hands)
 CorrespondsTo hands (PutBackCall h reply) events after = (out : CheckedOut) × (fmap.get hands h.key ≡ Some out) × IsCheckIn out h reply events × (after ≡ fmap.remove hands h.key)

@@ -8,7 +8,7 @@ use Rattle.spec_lib.specs.Texts.{Text}
 use Rattle.store_model.specs.Catalog.{Catalog}
 use Rattle.store_api.specs.Answers.{Answer, Bytes, Refused, Swept}
 use Rattle.store_api.specs.LeaseViews.{stored_bytes}
-use Rattle.store_api.specs.Commands.{Calls, Command, StoreRequest, Sweeps}
+use Rattle.store_api.specs.Commands.{Calls, Command, StoreRequest, SweepsInParts}
 use Rattle.store_api.specs.Steps.{StepOf}
 use Rattle.store_api.specs.declared.query.Query.{Query}
 use Rattle.store_api.specs.declared.query.Query.TheVariants as asked
@@ -126,7 +126,7 @@ module _ {S T U V : Type 0} (on_disk : Bool) (shown : S → U) (lent : T → V)
   verb_through (Some verb.Lease) old new head payload outcome h = lease_through _ old new outcome h
   verb_through (Some verb.Read) old new head payload outcome h = (read_through false head.number _ _ old.1 new.1 outcome h.0, ap shown h.1)
   verb_through (Some verb.GiveBack) old new head payload outcome h = (give_back_through head.number old.1 new.1 outcome h.0, ap shown h.1)
-  verb_through (Some verb.Sweep) old new head payload outcome h = ((h.0.0, h.0.1, tells old.0 Sweeps (Swept h.0.0) new.0 h.0.2), ap lent h.1)
+  verb_through (Some verb.Sweep) old new head payload outcome h = ((h.0.0, h.0.1, tells old.0 SweepsInParts (Swept h.0.0) new.0 h.0.2), ap lent h.1)
   verb_through (Some verb.Start) old new head payload outcome h = command_through _ old new outcome h
   verb_through (Some verb.Status) old new head payload outcome h = command_through _ old new outcome h
   verb_through (Some verb.Append) old new head payload outcome h = command_through _ old new outcome h

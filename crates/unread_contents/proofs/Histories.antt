@@ -9,7 +9,7 @@ use Rattle.store_model.specs.Amounts.{add_amounts}
 use Rattle.store_model.specs.Catalog.{Catalog, HandRecord, Tenant}
 use Rattle.store_model.specs.Commands
 use Rattle.store_model.specs.Commands.{Outcome}
-use Rattle.store_model.specs.Histories.{AreSteps, CommandCall, FinishCall, IsUncountable, MayLeadTo, PutBackCall, State, Step, SweepCall, TakeCall}
+use Rattle.store_model.specs.Histories.{AreSteps, CommandCall, FinishCall, IsUncountable, MayLeadTo, PutBackCall, State, Step, SweepCall, SweepPartCall, TakeCall}
 use Rattle.store_model.specs.HistoryIsolation.{AreOwnReplies, uploads_of_history, uploads_of_step}
 use Rattle.store_model.specs.Noninterference.{close_content, uploaded_pair, uploads_of_command}
 use Rattle.store_model.specs.Sessions.{hand_content}
@@ -19,7 +19,7 @@ use Rattle.std.specs.List.{AllByRecursion}
 use Rattle.store_model.specs.Commands.{is_named}
 use Rattle.store_model.specs.Runs.{Answer, Close, Command, outcome, takes_memory}
 use Rattle.store_model.specs.declared.swept.Swept.{Swept}
-use Rattle.store_model.specs.Sweep.{IsSweep}
+use Rattle.store_model.specs.Sweep.{IsSweep, IsSweepPart}
 use Rattle.unread_contents.specs.Unread.{AreHistoriesUpTo, AreStepsUpTo, IsReadAs}
 use Rattle.unread_contents.proofs.Blobs.{AreRead, Blobs}
 use Rattle.unread_contents.proofs.Commands.{AreAnswers, AreOutcomes, Equal, command_read, finish_read, put_back_read, take_read, with}
@@ -94,8 +94,13 @@ module _ (s : State) (r : Blobs) (read : AreRead s.catalog.residents r) (on_disk
 
   sweep_reached : (swept : Swept) → IsSweep s.catalog swept C' → Reached s r (SweepCall swept) C'
   sweep_reached swept sweep =
-      let k = some_read_sweep s.catalog C' r swept read sweep in
+      let k = some_read_sweep (λ _. true) s.catalog C' r swept read sweep in
       record { other = SweepCall swept; blobs = k.0; leaves = k.2; read = k.1; on_disk = ap (λ (X : Catalog). X.contents.on_disk) sweep.rest ∙ on_disk; same = inl refl }
+
+  part_reached : (swept : Swept) → IsSweepPart s.catalog swept C' → Reached s r (SweepPartCall swept) C'
+  part_reached swept part =
+      let k = some_read_sweep part.0 s.catalog C' r swept read part.1 in
+      record { other = SweepPartCall swept; blobs = k.0; leaves = (part.0, k.2); read = k.1; on_disk = ap (λ (X : Catalog). X.contents.on_disk) part.1.rest ∙ on_disk; same = inl refl }
 
   take_reached : (repo : Text) (n : ℕ) (g : Option ByteRange) (len : ℕ) (reply : Result HandRecord Refusal) → MayLeadTo s (TakeCall repo n g len reply) C' → Reached s r (TakeCall repo n g len reply) C'
   take_reached repo n g len (Ok h) leaves = accepted h (TakeCall repo n g len (Ok h)) (Commands.take s.catalog repo n g len) (Commands.take (with s.catalog r) repo n g len) (take_read s.catalog r read on_disk repo n g len) leaves (λ blobs e. e)
@@ -118,6 +123,7 @@ module _ (s : State) (r : Blobs) (read : AreRead s.catalog.residents r) (on_disk
   reached : (step : Step) → MayLeadTo s step C' → Reached s r step C'
   reached (CommandCall command reply) = command_reached command reply
   reached (SweepCall swept) = sweep_reached swept
+  reached (SweepPartCall swept) = part_reached swept
   reached (TakeCall repo n g len reply) = take_reached repo n g len reply
   reached (PutBackCall h reply) = put_back_reached h reply
   reached (FinishCall h d reply) = finish_reached h d reply
@@ -145,6 +151,7 @@ module _ (C : Catalog) (on_disk : C.contents.on_disk ≡ true) where
   step_named (CommandCall command reply) = command_named command
   step_named (FinishCall h d reply) = pair_named d (Ok (hand_content h))
   step_named (SweepCall swept) = tt
+  step_named (SweepPartCall swept) = tt
   step_named (TakeCall r n g len reply) = tt
   step_named (PutBackCall h reply) = tt
 

@@ -2,7 +2,7 @@
 use Rattle.std.proofs.Common.{◌≡◌, ◌∙◌, ℕ, Bool, true, false, cond, List, [], ◌∷◌, Ok, Err, refl, sym, ap, subst, inl, inr}
 use Rattle.spec_lib.specs.Texts.{Text}
 use Rattle.store_model.specs.Catalog.{Catalog, Tenant}
-use Rattle.store_model.specs.Histories.{CommandCall, FinishCall, PutBackCall, State, Step, SweepCall, TakeCall, step_amounts}
+use Rattle.store_model.specs.Histories.{CommandCall, FinishCall, PutBackCall, State, Step, SweepCall, SweepPartCall, TakeCall, step_amounts}
 use Rattle.store_model.specs.HistoryIsolation.{Finish, IsOwnReply, Perform, Return, Take, is_step_of, requests_of, steps_of, uploads_of_step}
 use Rattle.store_model.specs.Noninterference.{uploads_of_command}
 use Rattle.store_model.specs.Runs as runs
@@ -47,6 +47,7 @@ command_uploads C r command = refl
 step_uploads : (C : Catalog) (r : Blobs) (x : Step) → uploads_of_step (with C r) x ≡ uploads_of_step C x
 step_uploads C r (CommandCall command reply) = command_uploads C r command
 step_uploads C r (SweepCall swept) = refl
+step_uploads C r (SweepPartCall swept) = refl
 step_uploads C r (TakeCall repo n g len reply) = refl
 step_uploads C r (PutBackCall h reply) = refl
 step_uploads C r (FinishCall h d reply) = refl
@@ -60,6 +61,7 @@ own_reply : (s : State) (r : Blobs) (x : Step) → IsOwnReply s x → IsOwnReply
 own_reply s r (CommandCall command (Ok a)) own = tt
 own_reply s r (CommandCall command (Err e)) own = own
 own_reply s r (SweepCall swept) own = tt
+own_reply s r (SweepPartCall swept) own = tt
 own_reply s r (TakeCall repo n g len (Ok h)) own = tt
 own_reply s r (TakeCall repo n g len (Err e)) own = own
 own_reply s r (PutBackCall h (Ok n)) own = tt
@@ -90,6 +92,7 @@ same_owners ts t (x ∷ xs) (y ∷ ys) h = by (is_step_of ts t x) (is_step_of ts
 one_request : (y : Step) (xs ys : List Step) → requests_of xs ≡ requests_of ys → requests_of (y ∷ xs) ≡ requests_of (y ∷ ys)
 one_request (CommandCall command reply) xs ys e = ap (λ qs. Perform command ∷ qs) e
 one_request (SweepCall swept) xs ys e = e
+one_request (SweepPartCall swept) xs ys e = e
 one_request (TakeCall r n g len reply) xs ys e = ap (λ qs. Take r n g len ∷ qs) e
 one_request (PutBackCall h reply) xs ys e = ap (λ qs. Return h ∷ qs) e
 one_request (FinishCall h d reply) xs ys e = ap (λ qs. Finish h d ∷ qs) e

@@ -6,7 +6,7 @@ use Rattle.wire_format.specs.declared.request.Head.{Head}
 use Rattle.spec_lib.specs.Texts.{Text}
 use Rattle.store_model.specs.Catalog.{Catalog}
 use Rattle.store_api.specs.Answers.{Answer, Bytes, Refused, Swept}
-use Rattle.store_api.specs.Commands.{Calls, Command, StoreRequest, Sweeps}
+use Rattle.store_api.specs.Commands.{Calls, Command, StoreRequest, SweepsInParts}
 use Rattle.store_api.specs.Steps.{StepOf}
 use Rattle.store_api.specs.declared.verb.Verb.{Verb}
 use Rattle.store_api.specs.declared.verb.Verb.TheVariants as verb
@@ -89,7 +89,7 @@ module _ {S T : Type 0} (on_disk : Bool) (acts : S → StoreRequest → Answer �
   verb_committed (Some verb.Lease) head payload outcome h = lease_committed _ outcome h
   verb_committed (Some verb.Read) head payload outcome h = (h.0, stays h.1)
   verb_committed (Some verb.GiveBack) head payload outcome h = (h.0, stays h.1)
-  verb_committed (Some verb.Sweep) head payload outcome h = ((h.0.0, h.0.1, keeps old Sweeps (Swept h.0.0) h.0.2), h.1)
+  verb_committed (Some verb.Sweep) head payload outcome h = ((h.0.0, h.0.1, keeps old SweepsInParts (Swept h.0.0) h.0.2), h.1)
   verb_committed (Some verb.Start) head payload outcome h = command_committed _ outcome h
   verb_committed (Some verb.Status) head payload outcome h = command_committed _ outcome h
   verb_committed (Some verb.Append) head payload outcome h = command_committed _ outcome h

@@ -9,7 +9,7 @@ use Rattle.wire_format.specs.declared.request.Head.{Head}
 use Rattle.wire_format.specs.declared.request.RequestFrame.{RequestFrame as Incoming}
 use Rattle.spec_lib.specs.Texts.{Text}
 use Rattle.store_api.specs.Answers.{Answer, Bytes, GivenBack, NoLease, Refused, Swept as SweptAnswer, answer_of}
-use Rattle.store_api.specs.Commands.{Command, StoreRequest, Calls, Sweeps, digest_in}
+use Rattle.store_api.specs.Commands.{Command, StoreRequest, Calls, SweepsInParts, digest_in}
 use Rattle.store_api.specs.LeaseViews.{Extent, IsLocatedAt, IsPieceRead, LeaseView as LentView, bytes_between, extent, stored_bytes}
 use Rattle.store_api.specs.Steps.{StepOf}
 use Rattle.store_api.specs.declared.reply.Reply.{Reply}
@@ -173,9 +173,9 @@ GiveBackStep does number old outcome new =
 
 -- ---- requests
 
--- the outcome is that of a sweep of the store
+-- the outcome is that of a sweep of the store in parts
 abbrev pub SweepStep : {S : Type 0} → (S → StoreRequest → Answer → S → Type 0) → S → RequestResult → S → Type 0
-SweepStep acts old outcome new = (swept : SweptCounts) × (outcome ≡ Answered (SweptAnswer swept)) × acts old Sweeps (SweptAnswer swept) new
+SweepStep acts old outcome new = (swept : SweptCounts) × (outcome ≡ Answered (SweptAnswer swept)) × acts old SweepsInParts (SweptAnswer swept) new
 
 -- the step of a request whose first byte names no verb: a fetch, a request for the place of bytes, or a query, which changes nothing
 abbrev pub NoVerbStep : {S T : Type 0} → Bool → (S → StoreRequest → Answer → S → Type 0) → (S → Catalog → Type 0) → (T → TableEvent → T → Type 0) → (fetch located : Bool) → S × T → Head → Text → RequestResult → S × T → Type 0

@@ -293,7 +293,7 @@ pub fn execute_request<F: ContentStore, B: Backend + Queries, L: LeaseStore<B>>(
             leases,
             request.head.number,
         )),
-        Verb::Sweep => RequestResult::Answered(Reply::Swept(backend.sweep())),
+        Verb::Sweep => RequestResult::Answered(Reply::Swept(backend.sweep_in_parts())),
         Verb::Share | Verb::Verify => unreachable!(),
         _ => answered(execute_command(alloc, backend, verb, request)),
     }

@@ -7,7 +7,7 @@ use Rattle.spec_lib.specs.Texts.{Text}
 use Rattle.script_player.specs.Counts.{chunk_size}
 use Rattle.store_model.specs.Amounts.{Amounts}
 use Rattle.store_model.specs.Catalog.{HandRecord}
-use Rattle.store_model.specs.Histories.{AreSteps, SweepCall, FinishCall, CommandCall, PutBackCall, State, Step, TakeCall, can_count, chunk_amounts, accepted_amounts, step_amounts}
+use Rattle.store_model.specs.Histories.{AreSteps, SweepCall, SweepPartCall, FinishCall, CommandCall, PutBackCall, State, Step, TakeCall, can_count, chunk_amounts, accepted_amounts, step_amounts}
 use Rattle.store_model.specs.Hands.{checked_out_count, reserved_bytes}
 use Rattle.store_model.specs.Invariant.{Sound}
 use Rattle.store_model.specs.Runs as runs
@@ -38,6 +38,7 @@ step_adds : (step : Step) → AreAtMost (step_amounts step) (commands_in step) (
 step_adds (CommandCall command (Ok a)) = command_adds command a
 step_adds (CommandCall command (Err e)) = (omega arith, omega arith)
 step_adds (SweepCall swept) = (omega arith, omega arith)
+step_adds (SweepPartCall swept) = (omega arith, omega arith)
 step_adds (TakeCall repo number range len (Ok h)) = (omega arith, omega arith)
 step_adds (TakeCall repo number range len (Err e)) = (omega arith, omega arith)
 step_adds (PutBackCall h (Ok n)) = returned_adds h h.last
@@ -57,6 +58,7 @@ calm_step : (s : State) (step : Step) → IsMild step → Sound s.catalog → s.
 calm_step s (CommandCall command (Ok a)) mild sound commands bytes = tt
 calm_step s (CommandCall command (Err e)) mild sound commands bytes = (mild, λ no. false≢true (sym no.0 ∙ can s 0 sound (omega (arith, commands)) (omega (arith, bytes))))
 calm_step s (SweepCall swept) mild sound commands bytes = tt
+calm_step s (SweepPartCall swept) mild sound commands bytes = tt
 calm_step s (TakeCall repo number range len (Ok h)) mild sound commands bytes = tt
 calm_step s (TakeCall repo number range len (Err e)) mild sound commands bytes = (mild, λ no. false≢true (sym no.0 ∙ can s len sound (omega (arith, commands)) (omega (arith, bytes))))
 calm_step s (PutBackCall h reply) mild sound commands bytes = tt

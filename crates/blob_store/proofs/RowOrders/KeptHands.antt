@@ -11,7 +11,7 @@ use Rattle.spec_lib.proofs.Maps.{cases_key, get-insert_at, get-insert_other, get
 use Rattle.spec_lib.proofs.Sums.{get-remove_same}
 use Rattle.store_model.specs.Catalog.{Catalog, CheckedIn, CheckedOutWith, SessionNumber, Session, HandRecord, session_number_cmp, received_length}
 use Rattle.store_model.specs.Commands.{after_cancel, finish, put_back, take}
-use Rattle.store_model.specs.Histories.{FinishCall, MayLeadTo, CommandCall, PutBackCall, State, Step, TakeCall, SweepCall}
+use Rattle.store_model.specs.Histories.{FinishCall, MayLeadTo, CommandCall, PutBackCall, State, Step, TakeCall, SweepCall, SweepPartCall}
 use Rattle.store_model.specs.Invariant.{Sound}
 use Rattle.store_model.specs.Runs.{Event, HasShortName}
 use Rattle.store_model.specs.Sessions.{are_checked_in, at_home, with_old_chunks, chunks_of, session_of_hand, with_chunks}
@@ -169,7 +169,8 @@ kept_whole hands s X kept (CommandCall command (Ok a)) e comes named leaves = re
       record { session = was.session; found = stays_in_hand s.catalog kept.sound.lawful q was.session was.found was.in_hand X command a leaves; in_hand = was.in_hand; pieces = was.pieces });
 }
 kept_whole hands s X kept (CommandCall command (Err e)) f comes named leaves = same_catalog hands s.catalog X kept (elim leaves [ inl x ↦ x.1 | inr x ↦ x.1 ])
-kept_whole hands s X kept (SweepCall swept) e comes named leaves = same_sessions hands s.catalog X kept (Sound-sweep s.catalog X swept leaves kept.sound.lawful kept.sound.quotas kept.sound.shares kept.sound.slots) (ap (λ (Y : Catalog). Y.sessions) leaves.rest)
+kept_whole hands s X kept (SweepCall swept) e comes named leaves = same_sessions hands s.catalog X kept (Sound-sweep (λ _. true) s.catalog X swept leaves kept.sound.lawful kept.sound.quotas kept.sound.shares kept.sound.slots) (ap (λ (Y : Catalog). Y.sessions) leaves.rest)
+kept_whole hands s X kept (SweepPartCall swept) e comes named leaves = same_sessions hands s.catalog X kept (Sound-sweep leaves.0 s.catalog X swept leaves.1 kept.sound.lawful kept.sound.quotas kept.sound.shares kept.sound.slots) (ap (λ (Y : Catalog). Y.sessions) leaves.1.rest)
 kept_whole hands s X kept (TakeCall r n g len (Ok h)) e comes named leaves = absurd (let none = (comes hands).0 in cc)
 kept_whole hands s X kept (TakeCall r n g len (Err f)) e comes named leaves = same_catalog hands s.catalog X kept leaves.1
 kept_whole hands s X kept (PutBackCall h reply) e comes named leaves = absurd (let c = comes empty in let none : None ≡ Some c.0 = sym (get-empty session_number_cmp h.key) ∙ c.1 in cc)

@@ -14,7 +14,7 @@ use Rattle.ghost_log.specs.Entries.{events_by}
 use Rattle.ghost_log.specs.declared.view.Entry.{Entry}
 use Rattle.store_model.specs.Catalog.{Catalog, SessionNumber, HandRecord, session_number_cmp}
 use Rattle.store_model.specs.Commands.{take}
-use Rattle.store_model.specs.Histories.{AreSteps, SweepCall, FinishCall, IsStep, MayLeadTo, CommandCall, PutBackCall, State, Step, TakeCall}
+use Rattle.store_model.specs.Histories.{AreSteps, SweepCall, SweepPartCall, FinishCall, IsStep, MayLeadTo, CommandCall, PutBackCall, State, Step, TakeCall}
 use Rattle.store_model.specs.Hands.{filled_length}
 use Rattle.store_model.specs.Invariant.{Sound}
 use Rattle.store_model.specs.Runs as runs
@@ -138,6 +138,7 @@ mild_whole : (d : Step) (e : Event) → IsWhole d e → IsMildEvent e → IsMild
 mild_whole (CommandCall command (Ok a)) e whole mild = tt
 mild_whole (CommandCall command (Err f)) e whole mild = (subst (λ es. AllByRecursion IsMildEvent es) (whole empty).0 (mild, tt)).0
 mild_whole (SweepCall swept) e whole mild = tt
+mild_whole (SweepPartCall swept) e whole mild = tt
 mild_whole (TakeCall repo number range len (Ok h)) e whole mild = tt
 mild_whole (TakeCall repo number range len (Err f)) e whole mild = (subst (λ es. AllByRecursion IsMildEvent es) (whole empty).0.4 (mild, tt)).0
 mild_whole (PutBackCall h reply) e whole mild = tt
@@ -157,6 +158,7 @@ mild_return t d e r mild = elim r.is [
 one_at_most : (d : Step) → commands_in d ≤ 1
 one_at_most (CommandCall command reply) = omega arith
 one_at_most (SweepCall swept) = omega arith
+one_at_most (SweepPartCall swept) = omega arith
 one_at_most (TakeCall repo number range len (Ok h)) = omega arith
 one_at_most (TakeCall repo number range len (Err f)) = omega arith
 one_at_most (PutBackCall h reply) = omega arith
@@ -175,6 +177,7 @@ upload_chunk repo number range bytes command upload = elim upload [
 bytes_whole : (d : Step) (e : Event) → IsWhole d e → bytes_in d ≤ chunk_in e
 bytes_whole (CommandCall command reply) e whole = let same : chunk_in e ≡ chunk_size command = ap chunk_in (same_event (whole empty).0) in omega (arith, same)
 bytes_whole (SweepCall swept) e whole = omega arith
+bytes_whole (SweepPartCall swept) e whole = omega arith
 bytes_whole (TakeCall repo number range len (Ok h)) e whole = omega arith
 bytes_whole (TakeCall repo number range len (Err f)) e whole =
     let u = (whole empty).0 in

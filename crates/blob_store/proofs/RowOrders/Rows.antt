@@ -18,7 +18,7 @@ use Rattle.store_model.specs.Sweep.{IsSweep}
 use Rattle.store_model.specs.WholeCommands.{CorrespondsTo, CheckedOutSessions, IsContentionFree, IsUpload, CheckedOut as Out, length_reply}
 use Rattle.store_api.specs.Answers.{Answer, Bytes, Received, Refused, Stored, result_answer}
 use Rattle.store_api.specs.CommandAnswers.{command_answer}
-use Rattle.store_api.specs.Commands.{Abandon, Append, Calls, Close, Command, Delete, DeleteManifest, GetManifest, Lease, Mount, PutManifest, RemoveRepo, StoreRequest, Start, Status, Sweeps, Verifies, command_of_verb as command_by, repo_in}
+use Rattle.store_api.specs.Commands.{Abandon, Append, Calls, Close, Command, Delete, DeleteManifest, GetManifest, Lease, Mount, PutManifest, RemoveRepo, StoreRequest, Start, Status, Sweeps, SweepsInParts, Verifies, command_of_verb as command_by, repo_in}
 use Rattle.script_player.specs.RowCommands.{command_of}
 use Rattle.script_player.specs.Counts.{chunk_size}
 use Rattle.store_api.specs.LeaseViews.{LeaseView}
@@ -84,6 +84,7 @@ IsMildEvent event = Unit {0}
 abbrev pub chunk_in : Event → ℕ
 chunk_in (CommandEvent command reply) = chunk_size command
 chunk_in (runs.SweepEvent swept) = 0
+chunk_in (runs.SweepPartEvent swept) = 0
 
 abbrev request_chunk : StoreRequest → ℕ
 request_chunk (Calls command) = chunk_size command
@@ -131,9 +132,10 @@ stored : (repo : Text) (number : ℕ) (digest : Text) (range : Option ByteRange)
 stored repo number digest range bytes (Ok n) = refl
 stored repo number digest range bytes (Err e) = refl
 
--- the repository of a request's command has a short name
+-- a request of a row: the repository of its command has a short name, and a sweep is at once
 abbrev IsShort : StoreRequest → Type 0
 IsShort (Calls command) = length (repo_of command) ≤ 255
+IsShort SweepsInParts = ⊥
 IsShort request = Unit {0}
 
 request_comes : (request : StoreRequest) (answer : Answer) (steps : List Step) → IsShort request → answer ≢ Refused Memory → AreRequestSteps request answer steps → ComeTo steps (IsRequestOf request answer)
@@ -167,6 +169,7 @@ request_comes Sweeps answer steps short fine are =
         leads = λ C C' run. (are.0, subst (λ (X : Catalog). IsSweep C are.0 X) (sym run.2) run.1, are.2);
       },
     ))
+request_comes SweepsInParts answer steps short fine are = absurd short
 
 -- ---- the steps of a row
 

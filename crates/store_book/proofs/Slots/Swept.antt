@@ -1,11 +1,12 @@
 -- A sweep of the slots, orphan by orphan.
 use Rattle.std.proofs.Common.{◌≡◌, ℕ, ◌+◌, ◌<◌, ◌≤◌, ◌^◌, Bool, true, false, cond, List, [], ◌∷◌, length, drop, Option, Some, None, refl, sym, ap, ◌∙◌, subst, arith, inl, inr}
 use Prim.Native.Nat.{zero, suc}
-use Rattle.std.specs.Prelude.{slice_get, slice_index, slice_set, ◌==◌, ◌&&◌, not, ◌-◌, ◌⊎◌, ◌↔◌, IsTrue}
+use Rattle.std.specs.Prelude.{if◌then◌else◌, slice_get, slice_index, slice_set, ◌==◌, ◌&&◌, not, ◌-◌, ◌⊎◌, ◌↔◌, IsTrue}
 use Rattle.std.specs.Option.{option_map, option_map_or}
 use Rattle.std.specs.List.{count_by, position}
-use Rattle.std.proofs.lemmas.Bool.{cases_eq, cases_lt}
+use Rattle.std.proofs.lemmas.Bool.{cases_eq, cases_lt, eqb-false, eqb-true}
 use Rattle.std.proofs.lemmas.Option.{slice_get_within}
+use Rattle.std.proofs.Math.ListN.{drop_of_length-le}
 use Rattle.std.proofs.lemmas.List.{drop-drop, get_or-set_other}
 use Rattle.std.proofs.lemmas.List.Sums.{sum_by-cons}
 use Rattle.pin_table.specs.declared.reclaim.Reclaim.{Reclaim}
@@ -15,11 +16,13 @@ use Rattle.slot_table.specs.declared.phase.Phase.TheVariants as phase
 use Rattle.slot_table.specs.Slots.{Slot, StoredBlob, SlotContent, Free, Used, Retired, stored_blob_at, stored_blob_in, phase_at, phase_in, generation_at, is_orphan, is_retired, orphan_from, with_slot, on_stored_blob, content_with, mark, freed_slot, retire}
 use Rattle.store_book.specs.Layers.{is_lent}
 use Rattle.store_book.specs.Pinned.{Pinned, ReclaimsSlot, is_orphan_at, with_changed_slot}
-use Rattle.store_book.specs.Internal.SweptSlots.{Sweeps, IsSweptTo, counts_with, is_live_orphan, kept, held, freed, retired}
+use Rattle.store_book.specs.SweepParts.{is_between}
+use Rattle.store_book.specs.Internal.SweptSlots.{IsLeftBy, Sweeps, IsSweptTo, counts_with, is_live_orphan, kept, held, freed, retired}
 use Rattle.store_model.specs.declared.swept.Swept.{Swept}
 use Rattle.spec_lib.proofs.Places.{IsFirst, get-drop, first, nowhere, count_by-nowhere}
 use Rattle.spec_lib.proofs.Options.{some_same}
-use Rattle.store_book.proofs.Slots.Pinned.{index-set-le}
+use Rattle.store_book.proofs.Slots.Between.{is_below, is_beyond, is_inside}
+use Rattle.store_book.proofs.Slots.Pinned.{index-set-le, le-self}
 use Rattle.store_book.proofs.Slots.Reclaimed.{orphan_held}
 use Rattle.store_book.proofs.Slots.Writes.{length-with_slot, slot-other, slot-same, with_slot-suc, with_slot-twice}
 
@@ -95,18 +98,28 @@ lent_there s is weight unlent = by s.content is unlent
         at false is = absurd (unlent (mark true h) refl is)
     by Retired e unlent = absurd cc
 
--- ---- the sweep up to a slot
+-- the slots from a place on, with one of them changed
+drop-with_slot : (n : ℕ) (slots : List Slot) (i : ℕ) (f : Slot → Slot) → drop n (with_slot slots (n + i) f) ≡ with_slot (drop n slots) i f
+drop-with_slot zero slots i f = ap (λ k. with_slot slots k f) (let e : 0 + i ≡ i = omega arith in e)
+drop-with_slot (suc n) [] i f = refl
+drop-with_slot (suc n) (s ∷ slots) i f = ap (λ k. drop (suc n) (with_slot (s ∷ slots) k f)) (let e : suc n + i ≡ suc (n + i) = omega arith in e) ∙ ap (drop (suc n)) (with_slot-suc s slots (n + i) f) ∙ drop-with_slot n slots i f
 
--- The slots below a place were swept, and the counts are those of their orphans.
-pub record IsPartly (p q : Pinned) (from : ℕ) (n : Swept) : Type 0 where
+-- ---- the sweep from a slot up to another
+
+-- The slots from `start` up to a place were swept, and the counts are those of their orphans.
+pub record IsPartly (start : ℕ) (p q : Pinned) (from : ℕ) (n : Swept) : Type 0 where
   pub table : q.table ≡ p.table
   pub long : length q.slots ≡ length p.slots
   pub within : from ≤ length p.slots
+  pub onwards : start + (n.freed + n.held + n.retired) ≤ from
+  pub live : n.condemned ≤ n.freed + n.held + n.retired
+  pub before : (k : ℕ) → k < start → (slice_get q.slots k ≡ slice_get p.slots k) × (slice_index q.bounds k ≡ slice_index p.bounds k)
   pub rest : drop from q.slots ≡ drop from p.slots
   pub bounds : (k : ℕ) → from ≤ k → slice_index q.bounds k ≡ slice_index p.bounds k
-  pub each : (k : ℕ) (s : Slot) → k < from → slice_get p.slots k ≡ Some s → (t : Slot) × (slice_get q.slots k ≡ Some t) × IsSweptTo s (slice_index p.bounds k) t (slice_index q.bounds k)
-  pub condemned : n.condemned + count_by is_live_orphan (drop from p.slots) ≡ count_by is_live_orphan p.slots
-  pub all : n.held + (n.freed + n.retired) + count_by is_orphan (drop from p.slots) ≡ count_by is_orphan p.slots
+  pub each : (k : ℕ) (s : Slot) → start ≤ k → k < from → slice_get p.slots k ≡ Some s → (t : Slot) × (slice_get q.slots k ≡ Some t) × IsSweptTo s (slice_index p.bounds k) t (slice_index q.bounds k)
+  pub condemned : n.condemned + count_by is_live_orphan (drop from p.slots) ≡ count_by is_live_orphan (drop start p.slots)
+  pub all : n.held + (n.freed + n.retired) + count_by is_orphan (drop from p.slots) ≡ count_by is_orphan (drop start p.slots)
+  pub remaining : count_by is_orphan (drop start q.slots) + (n.freed + n.retired) ≡ count_by is_orphan (drop start p.slots)
   pub left : count_by is_orphan q.slots + (n.freed + n.retired) ≡ count_by is_orphan p.slots
   pub retired : count_by is_retired q.slots ≡ count_by is_retired p.slots + n.retired
   pub last : 0 < n.retired → (k : ℕ) × (s : Slot) × (slice_get p.slots k ≡ Some s) × (s.generation + 1 ≡ 2 ^ 32)
@@ -156,6 +169,27 @@ orphan_condemned slots from k e =
     by Free e = absurd cc
     by (Used h) e = refl
     by Retired e = absurd cc
+
+-- at most one is counted
+one_at_most : (b : Bool) → cond {A = ℕ} b 1 0 ≤ 1
+one_at_most true = omega arith
+one_at_most false = omega arith
+
+-- a slot is given only if more may be visited
+pub next_given : (left : ℕ) (o : Option ℕ) (k : ℕ) → (if left == 0 then None else o) ≡ Some k → (0 < left) × (o ≡ Some k)
+next_given left o k e = by (left == 0) refl e
+  where
+    by : (b : Bool) → (left == 0) ≡ b → (if b then None else o) ≡ Some k → (0 < left) × (o ≡ Some k)
+    by true is f = absurd cc
+    by false is f = (elim (cases_lt 0 left) [ | inl lt ↦ lt | inr le ↦ absurd (eqb-false left 0 is (omega arith)) ], f)
+
+-- if more may be visited, none is left
+pub next_ended : (left : ℕ) (o : Option ℕ) → 0 < left → (if left == 0 then None else o) ≡ None → o ≡ None
+next_ended left o lt e = by (left == 0) refl e
+  where
+    by : (b : Bool) → (left == 0) ≡ b → (if b then None else o) ≡ None → o ≡ None
+    by true is f = absurd (let none = eqb-true left 0 is in omega arith)
+    by false is f = f
 
 -- ---- one orphan more
 
@@ -230,7 +264,7 @@ became_of k q r1 r s n live (reclaim.Held weight) at is e done unlent =
       last = λ lt. inl lt;
     }
 
-module _ (p q r : Pinned) (from k : ℕ) (n m : Swept) (live : Bool) (part : IsPartly p q from n) (next : orphan_from q.slots from ≡ Some k) where
+module _ (start : ℕ) (p q r : Pinned) (from k : ℕ) (n m : Swept) (live : Bool) (part : IsPartly start p q from n) (next : orphan_from q.slots from ≡ Some k) where
   abbrev pub o : (i : ℕ) × (k ≡ from + i) × IsFirst is_orphan (drop from q.slots) i
   o = found_orphan q.slots from k next
 
@@ -262,8 +296,8 @@ module _ (p q r : Pinned) (from k : ℕ) (n m : Swept) (live : Bool) (part : IsP
       ∙ ap (λ xs. cond {A = ℕ} (f s) 1 0 + count_by f xs) (ap (drop (suc o.0)) part.rest ∙ drop-drop (suc o.0) from p.slots ∙ ap (λ i. drop i p.slots) place)
 
   module _ (told : IsTrue live ↔ (phase_at q.slots k ≡ phase.Live)) (b : Becomes k q r s n m live) where
-    turns : (j : ℕ) (x : Slot) → j < k + 1 → slice_get p.slots j ≡ Some x → (t : Slot) × (slice_get r.slots j ≡ Some t) × IsSweptTo x (slice_index p.bounds j) t (slice_index r.bounds j)
-    turns j x lt here = elim (cases_eq j k) [
+    turns : (j : ℕ) (x : Slot) → start ≤ j → j < k + 1 → slice_get p.slots j ≡ Some x → (t : Slot) × (slice_get r.slots j ≡ Some t) × IsSweptTo x (slice_index p.bounds j) t (slice_index r.bounds j)
+    turns j x first lt here = elim (cases_eq j k) [
       | inl e ↦
           let same : x ≡ s = some_same (sym here ∙ sym (as_before j (let le = past in omega arith)) ∙ ap (slice_get q.slots) e ∙ at) in
           let old : slice_index q.bounds k ≡ slice_index p.bounds j = ap (slice_index q.bounds) (sym e) ∙ part.bounds j (let le = past in omega arith) in
@@ -277,7 +311,7 @@ module _ (p q r : Pinned) (from k : ℕ) (n m : Swept) (live : Bool) (part : IsP
           let there : slice_get r.slots j ≡ slice_get q.slots j = ap (λ xs. slice_get xs j) b.slots ∙ slot-other q.slots k b.f j other in
           elim (cases_lt j from) [
             | inl below ↦
-                let t = part.each j x below here in
+                let t = part.each j x first below here in
                 (t.0, there ∙ t.1, transported x x refl t.0 (slice_index p.bounds j) (slice_index p.bounds j) refl (slice_index q.bounds j) (slice_index r.bounds j) (sym bound) t.2)
             | inr le ↦
                 let here_now : slice_get q.slots j ≡ Some x = as_before j le ∙ here in
@@ -285,11 +319,28 @@ module _ (p q r : Pinned) (from k : ℕ) (n m : Swept) (live : Bool) (part : IsP
           ]
     ]
 
-    pub more : IsPartly p r (k + 1) m
+    -- the changed slot is not below the start
+    later : start ≤ k
+    later = let le = past in let on = part.onwards in omega arith
+
+    unchanged : (j : ℕ) → j < start → (slice_get r.slots j ≡ slice_get p.slots j) × (slice_index r.bounds j ≡ slice_index p.bounds j)
+    unchanged j lt =
+        let other : ¬ (j ≡ k) = λ e. absurd (let le = later in omega arith) in
+        let was = part.before j lt in
+        (ap (λ xs. slice_get xs j) b.slots ∙ slot-other q.slots k b.f j other ∙ was.0, ap (λ xs. slice_index xs j) b.bounds ∙ get_or-set_other q.bounds k j b.bound 0 other ∙ was.1)
+
+    -- one orphan more was visited
+    pub one_more : m.freed + m.held + m.retired ≡ n.freed + n.held + n.retired + 1
+    one_more = let all = b.all in omega arith
+
+    pub more : IsPartly start p r (k + 1) m
     more = record {
       table = b.table ∙ part.table;
       long = ap length b.slots ∙ length-with_slot q.slots k b.f ∙ part.long;
       within = (let lt = slice_get_within q.slots k s at in let long = part.long in omega arith);
+      onwards = (let le = past in let on = part.onwards in let one = one_more in omega arith);
+      live = (let was = part.live in let one = one_more in let now = b.condemned in let few = one_at_most live in omega arith);
+      before = unchanged;
       rest =
           (let place : from + suc o.0 ≡ k + 1 = (let e = o.1 in omega arith) in
           ap (drop (k + 1)) b.slots ∙ ap (λ i. drop i (with_slot q.slots k b.f)) (let e : k + 1 ≡ suc k = omega arith in e) ∙ drop-written q.slots k b.f
@@ -309,6 +360,13 @@ module _ (p q r : Pinned) (from k : ℕ) (n m : Swept) (live : Bool) (part : IsP
           (let was = part.left in let now = b.left in
           let written : count_by is_orphan r.slots + 1 ≡ count_by is_orphan q.slots + cond (is_orphan (b.f s)) 1 0 = ap (λ xs. count_by is_orphan xs + 1) b.slots ∙ ap (λ c. count_by is_orphan (with_slot q.slots k b.f) + cond {A = ℕ} c 1 0) (sym o.2.passes) ∙ count_by-written is_orphan q.slots k b.f s at in
           omega arith);
+      remaining =
+          (let was = part.remaining in let now = b.left in
+          let from_start : start + (k - start) ≡ k = (let le = later in omega arith) in
+          let there : slice_get (drop start q.slots) (k - start) ≡ Some s = get-drop start q.slots (k - start) ∙ ap (slice_get q.slots) from_start ∙ at in
+          let changed : drop start r.slots ≡ with_slot (drop start q.slots) (k - start) b.f = ap (drop start) (b.slots ∙ ap (λ i. with_slot q.slots i b.f) (sym from_start)) ∙ drop-with_slot start q.slots (k - start) b.f in
+          let written : count_by is_orphan (drop start r.slots) + 1 ≡ count_by is_orphan (drop start q.slots) + cond (is_orphan (b.f s)) 1 0 = ap (λ xs. count_by is_orphan xs + 1) changed ∙ ap (λ c. count_by is_orphan (with_slot (drop start q.slots) (k - start) b.f) + cond {A = ℕ} c 1 0) (sym o.2.passes) ∙ count_by-written is_orphan (drop start q.slots) (k - start) b.f s there in
+          omega arith);
       retired =
           (let was = part.retired in let now = b.retired in
           let written : count_by is_retired r.slots + 0 ≡ count_by is_retired q.slots + cond (is_retired (b.f s)) 1 0 = ap (λ xs. count_by is_retired xs + 0) b.slots ∙ ap (λ c. count_by is_retired (with_slot q.slots k b.f) + cond {A = ℕ} c 1 0) (sym (orphan_unretired s o.2.passes)) ∙ count_by-written is_retired q.slots k b.f s at in
@@ -324,17 +382,53 @@ module _ (p q r : Pinned) (from k : ℕ) (n m : Swept) (live : Bool) (part : IsP
 
 -- ---- the end
 
-pub ends : (p q : Pinned) (from : ℕ) (n : Swept) → IsPartly p q from n → orphan_from q.slots from ≡ None → Sweeps p q n
-ends p q from n part none = record {
+-- the part ends after the last orphan that it visited
+pub stops : (start : ℕ) (p q : Pinned) (from : ℕ) (n : Swept) → IsPartly start p q from n → Sweeps start from p q n
+stops start p q from n part = record {
   table = part.table;
   long = part.long;
-  each = λ k s at. elim (cases_lt k from) [
-    | inl below ↦ part.each k s below at
+  onwards = (let on = part.onwards in omega arith);
+  each = each;
+  condemned = part.condemned;
+  held = (let all = part.all in let left = part.remaining in let same : count_by is_orphan (drop from q.slots) ≡ count_by is_orphan (drop from p.slots) = ap (count_by is_orphan) part.rest in omega arith);
+  gone = part.left;
+  retired = part.retired;
+  last = part.last;
+}
+  where
+    beyond : (k : ℕ) → from ≤ k → slice_get q.slots k ≡ slice_get p.slots k
+    beyond k le =
+        let there : from + (k - from) ≡ k = omega arith in
+        ap (slice_get q.slots) (sym there) ∙ sym (get-drop from q.slots (k - from)) ∙ ap (λ xs. slice_get xs (k - from)) part.rest ∙ get-drop from p.slots (k - from) ∙ ap (slice_get p.slots) there
+
+    each : (k : ℕ) (s : Slot) → slice_get p.slots k ≡ Some s → (t : Slot) × (slice_get q.slots k ≡ Some t) × IsLeftBy (is_between start from k) s (slice_index p.bounds k) t (slice_index q.bounds k)
+    each k s at = elim (cases_lt k start) [
+      | inl low ↦ (s, (part.before k low).0 ∙ at, subst (λ b. IsLeftBy b s (slice_index p.bounds k) s (slice_index q.bounds k)) (sym (is_below start from k low)) (refl, (part.before k low).1))
+      | inr le ↦ elim (cases_lt k from) [
+        | inl lt ↦ let e = part.each k s le lt at in (e.0, e.1, subst (λ b. IsLeftBy b s (slice_index p.bounds k) e.0 (slice_index q.bounds k)) (sym (is_inside start from k le lt)) e.2)
+        | inr past ↦ (s, beyond k past ∙ at, subst (λ b. IsLeftBy b s (slice_index p.bounds k) s (slice_index q.bounds k)) (sym (is_beyond start from k past)) (refl, part.bounds k past))
+      ]
+    ]
+
+-- no orphan is left, so the part goes on to the last slot
+pub ends : (start : ℕ) (p q : Pinned) (from : ℕ) (n : Swept) → IsPartly start p q from n → orphan_from q.slots from ≡ None → IsPartly start p q (length p.slots) n
+ends start p q from n part none = record {
+  table = part.table;
+  long = part.long;
+  within = (let le = le-self (length p.slots) in le);
+  onwards = (let on = part.onwards in let le = part.within in omega arith);
+  live = part.live;
+  before = part.before;
+  rest = drop_of_length-le q.slots (let e = part.long in let le : length q.slots ≤ length p.slots = omega arith in le) ∙ sym (drop_of_length-le p.slots (le-self (length p.slots)));
+  bounds = λ k le. part.bounds k (let w = part.within in omega arith);
+  each = λ k s first lt at. elim (cases_lt k from) [
+    | inl below ↦ part.each k s first below at
     | inr le ↦ (s, sym (same k le) ∙ at, kept (unlinked (k - from) s (get-drop from p.slots (k - from) ∙ ap (slice_get p.slots) (let e : from + (k - from) ≡ k = omega arith in e) ∙ at)) refl (part.bounds k le))
   ];
-  condemned = (let was = part.condemned in let zero_left = count_by-nowhere is_live_orphan (drop from p.slots) (λ j x at. live_is_orphan x (unlinked j x at)) in omega arith);
-  held = (let all = part.all in let left = part.left in let zero_left = count_by-nowhere is_orphan (drop from p.slots) unlinked in omega arith);
-  all = (let all = part.all in let zero_left = count_by-nowhere is_orphan (drop from p.slots) unlinked in omega arith);
+  condemned = (let was = part.condemned in let zero_left = count_by-nowhere is_live_orphan (drop from p.slots) (λ j x at. live_is_orphan x (unlinked j x at)) in let none_after : count_by is_live_orphan (drop (length p.slots) p.slots) ≡ 0 = ap (count_by is_live_orphan) (drop_of_length-le p.slots (le-self (length p.slots))) in omega arith);
+  all = (let all = part.all in let zero_left = count_by-nowhere is_orphan (drop from p.slots) unlinked in let none_after : count_by is_orphan (drop (length p.slots) p.slots) ≡ 0 = ap (count_by is_orphan) (drop_of_length-le p.slots (le-self (length p.slots))) in omega arith);
+  remaining = part.remaining;
+  left = part.left;
   retired = part.retired;
   last = part.last;
 }

@@ -1,11 +1,12 @@
 -- The effect of a sweep on the slots and their bounds.
-use Rattle.std.specs.Prelude.{◌≡◌, ◌+◌, ◌<◌, ◌≤◌, ◌^◌, ◌==◌, ◌&&◌, not, ℕ, Bool, true, false, Some, count_by, cond, length, slice_get, slice_index}
+use Rattle.std.specs.Prelude.{◌≡◌, ◌+◌, ◌<◌, ◌≤◌, ◌^◌, ◌==◌, ◌&&◌, not, ℕ, Bool, true, false, Some, count_by, cond, drop, length, slice_get, slice_index}
 use Rattle.std.specs.Option.{option_map_or}
 use Rattle.pin_table.specs.declared.reclaim.Reclaim.{Reclaim}
 use Rattle.pin_table.specs.declared.reclaim.Reclaim.TheVariants as reclaim
 use Rattle.slot_table.specs.Slots.{Slot, stored_blob_in, is_orphan, is_retired, on_stored_blob, mark, freed_slot, retire}
 use Rattle.store_book.specs.Layers.{is_lent}
 use Rattle.store_book.specs.Pinned.{Pinned}
+use Rattle.store_book.specs.SweepParts.{is_between}
 use Rattle.store_model.specs.declared.swept.Swept.{Swept}
 
 -- whether a slot holds a live blob without links
@@ -26,13 +27,20 @@ pub data IsSweptTo (s : Slot) (bound : ℕ) (t : Slot) (now : ℕ) : Type 0 wher
   freed : is_orphan s ≡ true → s.generation + 1 < 2 ^ 32 → t ≡ freed_slot s → now ≡ 0 → IsSweptTo s bound t now
   retired : is_orphan s ≡ true → s.generation + 1 ≡ 2 ^ 32 → t ≡ retire s → now ≡ 0 → IsSweptTo s bound t now
 
--- Each slot was swept once. The counts are those of the orphans: the live ones, the remaining ones, and all of them.
-pub record Sweeps (p q : Pinned) (swept : Swept) : Type 0 where
+-- A slot that was reached was swept. Another one is unchanged with its bound.
+abbrev pub IsLeftBy : Bool → Slot → ℕ → Slot → ℕ → Type 0
+IsLeftBy true s bound t now = IsSweptTo s bound t now
+IsLeftBy false s bound t now = (t ≡ s) × (now ≡ bound)
+
+-- Each slot from a place up to another was swept once. The counts are those of the orphans there: the live ones, the remaining ones, and all of
+-- them.
+pub record Sweeps (from to : ℕ) (p q : Pinned) (swept : Swept) : Type 0 where
   pub table : q.table ≡ p.table
   pub long : length q.slots ≡ length p.slots
-  pub each : (k : ℕ) (s : Slot) → slice_get p.slots k ≡ Some s → (t : Slot) × (slice_get q.slots k ≡ Some t) × IsSweptTo s (slice_index p.bounds k) t (slice_index q.bounds k)
-  pub condemned : swept.condemned ≡ count_by is_live_orphan p.slots
-  pub held : swept.held ≡ count_by is_orphan q.slots
-  pub all : swept.held + (swept.freed + swept.retired) ≡ count_by is_orphan p.slots
+  pub onwards : from ≤ to
+  pub each : (k : ℕ) (s : Slot) → slice_get p.slots k ≡ Some s → (t : Slot) × (slice_get q.slots k ≡ Some t) × IsLeftBy (is_between from to k) s (slice_index p.bounds k) t (slice_index q.bounds k)
+  pub condemned : swept.condemned + count_by is_live_orphan (drop to p.slots) ≡ count_by is_live_orphan (drop from p.slots)
+  pub held : swept.held + count_by is_orphan (drop to q.slots) ≡ count_by is_orphan (drop from q.slots)
+  pub gone : count_by is_orphan q.slots + (swept.freed + swept.retired) ≡ count_by is_orphan p.slots
   pub retired : count_by is_retired q.slots ≡ count_by is_retired p.slots + swept.retired
   pub last : 0 < swept.retired → (k : ℕ) × (s : Slot) × (slice_get p.slots k ≡ Some s) × (s.generation + 1 ≡ 2 ^ 32)

@@ -1,10 +1,10 @@
 -- From a sound catalog each case of a command, each sweep and each run leads to a sound one.
-use Rattle.std.proofs.Common.{false, ◌≡◌, ◌≤◌, [], ◌∷◌, length, Result, Ok, Err, sym, subst}
+use Rattle.std.proofs.Common.{true, false, ◌≡◌, ◌≤◌, [], ◌∷◌, length, Result, Ok, Err, sym, subst}
 use Rattle.blob_digest.specs.declared.refusal.Refusal.{Refusal}
 use Rattle.store_model.specs.Catalog.{Catalog}
 use Rattle.store_model.specs.Commands.{Outcome}
 use Rattle.store_model.specs.Invariant.{Sound}
-use Rattle.store_model.specs.Runs.{Command, Answer, Event, map_outcome, reading_outcome, outcome, IsCommandCase, Happens, HasShortName, RunsStaySound, repo_of, Start, Status, Append, Close, Abandon, Mount, Delete, PutManifest, GetManifest, DeleteManifest, RemoveRepo, Lease, CommandEvent, SweepEvent}
+use Rattle.store_model.specs.Runs.{Command, Answer, Event, map_outcome, reading_outcome, outcome, IsCommandCase, Happens, HasShortName, RunsStaySound, repo_of, Start, Status, Append, Close, Abandon, Mount, Delete, PutManifest, GetManifest, DeleteManifest, RemoveRepo, Lease, CommandEvent, SweepEvent, SweepPartEvent}
 use Rattle.store_model.proofs.Commands.Accepted.{left_by}
 use Rattle.store_model.proofs.Commands.Start.{Sound-after_start}
 use Rattle.store_model.proofs.Commands.AppendClose.{Sound-after_append, Sound-after_close}
@@ -46,7 +46,8 @@ Sound-case C C' command (Err e) short case sound = subst (λ (D : Catalog). Soun
 
 pub Sound-event : (C C' : Catalog) (e : Event) → HasShortName e → Happens C e C' → Sound C → Sound C'
 Sound-event C C' (CommandEvent command reply) short happens sound = Sound-case C C' command reply short happens sound
-Sound-event C C' (SweepEvent swept) short happens sound = Sound-sweep C C' swept happens sound.lawful sound.quotas sound.shares sound.slots
+Sound-event C C' (SweepEvent swept) short happens sound = Sound-sweep (λ _. true) C C' swept happens sound.lawful sound.quotas sound.shares sound.slots
+Sound-event C C' (SweepPartEvent swept) short happens sound = Sound-sweep happens.0 C C' swept happens.1 sound.lawful sound.quotas sound.shares sound.slots
 
 pub Sound-run : RunsStaySound
 Sound-run C C' [] short run sound = subst (λ (D : Catalog). Sound D) (sym run) sound

@@ -1,18 +1,18 @@
--- A sweep keeps the catalog well-formed, every use unchanged, and the blobs and retired slots within the slots.
+-- A sweep, and each part of one, keeps the catalog well-formed, every use unchanged, and the blobs and retired slots within the slots.
 use Rattle.store_model.specs.Commands.{is_named}
 use Rattle.std.proofs.Common.{◌≡◌, ℕ, ◌+◌, true, false, cond, length, Option, Some, None, refl, sym, ap, ◌∙◌, subst, arith}
-use Rattle.std.specs.Prelude.{is_none}
+use Rattle.std.specs.Prelude.{◌&&◌, is_none, Bool}
 use Rattle.std.specs.List.{sum_by}
 use Rattle.std.specs.Cmp.Lexicographic.{nat_list_cmp_total}
 use Rattle.std.specs.FinMap.{entries, get, len, len-entries}
-use Rattle.std.proofs.lemmas.Bool.{true≢false, eqb-true}
+use Rattle.std.proofs.lemmas.Bool.{and_parts, true≢false, eqb-true}
 use Rattle.std.proofs.lemmas.Map.Lookups.{exact_bytes}
 use Rattle.spec_lib.specs.Sets as set
 use Rattle.spec_lib.specs.Texts.{Text}
 use Rattle.store_model.specs.Catalog.{Link, Resident, Catalog, tenant_holds, link_count, blob_share, used_bytes}
 use Rattle.store_model.specs.Invariant.{WellFormed, KeepsQuotas, KeepsShares, FitsSlots, Sound}
 use Rattle.store_model.specs.declared.swept.Swept.{Swept}
-use Rattle.store_model.specs.Sweep.{is_orphan, IsAfterSweep, IsSweep}
+use Rattle.store_model.specs.Sweep.{is_orphan, IsAfterSweep, IsSweepOf}
 use Rattle.store_model.proofs.Commands.SomeSweep.{left_bytes}
 use Rattle.spec_lib.proofs.Maps.{sum_alike, term}
 use Rattle.spec_lib.proofs.Lists.{sum_by-add, sum_by-ones}
@@ -22,22 +22,26 @@ one_each : (x : Option Resident) → cond {A = ℕ} (is_none x) 1 0 + cond {A = 
 one_each None = omega arith
 one_each (Some b) = omega arith
 
-module _ (C C' : Catalog) (swept : Swept) (sweep : IsSweep C swept C') (lawful : WellFormed C) where
+module _ (reached : Text → Bool) (C C' : Catalog) (swept : Swept) (sweep : IsSweepOf reached C swept C') (lawful : WellFormed C) where
+  -- whether a blob is an orphan that is reached
+  abbrev is_swept : Text → Bool
+  is_swept d = reached d && is_orphan C d
+
   abbrev after : Catalog
   after = record C { residents = C'.residents; retired = C.retired + swept.retired }
 
   -- a linked blob is unchanged
   pub linked_stays : (l : Link) → set.contains C.links l ≡ true → (b : Resident) → get C.residents l.1 ≡ Some b → get C'.residents l.1 ≡ Some b
   linked_stays l h b found =
-      elim (is_orphan C l.1) as (λ o. is_orphan C l.1 ≡ o → IsAfterSweep o b (get C'.residents l.1) → get C'.residents l.1 ≡ Some b) [
-        | true ↦ λ o _. absurd (true≢false (sym h ∙ uncounted C lawful l.1 (eqb-true (link_count C l.1) 0 o) l.0))
+      elim (is_swept l.1) as (λ o. is_swept l.1 ≡ o → IsAfterSweep o b (get C'.residents l.1) → get C'.residents l.1 ≡ Some b) [
+        | true ↦ λ o _. absurd (true≢false (sym h ∙ uncounted C lawful l.1 (eqb-true (link_count C l.1) 0 (and_parts (reached l.1) (is_orphan C l.1) o).1) l.0))
         | false ↦ λ o left. left
       ] refl (sweep.orphans l.1 b found)
 
   content_from : (d : Text) (now : Resident) (x : Option Resident) → get C.residents d ≡ x → get C'.residents d ≡ Some now → is_named C.contents d now.bytes ≡ true
   content_from d now None none h = absurd (let e : Some now ≡ None = sym h ∙ sweep.no_others d none in cc)
   content_from d now (Some b) found h =
-      let same = left_bytes (is_orphan C d) b now (subst (λ (x : Option Resident). IsAfterSweep (is_orphan C d) b x) h (sweep.orphans d b found)) in
+      let same = left_bytes (is_swept d) b now (subst (λ (x : Option Resident). IsAfterSweep (is_swept d) b x) h (sweep.orphans d b found)) in
       ap (is_named C.contents d) (sym same) ∙ lawful.content d b found
 
   lawful_after : WellFormed after
@@ -62,8 +66,8 @@ module _ (C C' : Catalog) (swept : Swept) (sweep : IsSweep C swept C') (lawful :
   share_alike : (u : ℕ) (d : Text) (x : Option Resident) → get C.residents d ≡ x → term (blob_share C u) d x ≡ term (blob_share C u) d (get C'.residents d)
   share_alike u d None none = sym (ap (term (blob_share C u) d) (sweep.no_others d none))
   share_alike u d (Some b) found =
-      elim (is_orphan C d) as (λ o. is_orphan C d ≡ o → IsAfterSweep o b (get C'.residents d) → blob_share C u (d, b) ≡ term (blob_share C u) d (get C'.residents d)) [
-        | true ↦ λ o _. nothing o b ∙ sym (at o (get C'.residents d))
+      elim (is_swept d) as (λ o. is_swept d ≡ o → IsAfterSweep o b (get C'.residents d) → blob_share C u (d, b) ≡ term (blob_share C u) d (get C'.residents d)) [
+        | true ↦ λ o _. let orphan = (and_parts (reached d) (is_orphan C d) o).1 in nothing orphan b ∙ sym (at orphan (get C'.residents d))
         | false ↦ λ o left. sym (ap (term (blob_share C u) d) left)
       ] refl (sweep.orphans d b found)
     where

@@ -1,5 +1,5 @@
 -- Steps keep a catalog sound, and its slots and its limit on blobs; so a store survives a crash.
-use Rattle.std.proofs.Common.{◌≡◌, ℕ, false, List, [], ◌∷◌, ◌++◌, length, Some, Result, Ok, Err, refl, sym, ap, ◌∙◌, subst, append_assoc, arith, ⊎_elim}
+use Rattle.std.proofs.Common.{true, ◌≡◌, ℕ, false, List, [], ◌∷◌, ◌++◌, length, Some, Result, Ok, Err, refl, sym, ap, ◌∙◌, subst, append_assoc, arith, ⊎_elim}
 use Rattle.std.specs.Prelude.{IfSome}
 use Rattle.std.specs.List.{AllByRecursion}
 use Rattle.std.specs.FinMap.{empty, get}
@@ -10,7 +10,7 @@ use Rattle.store_model.specs.Catalog.{Catalog, HandRecord, Session, ContentRules
 use Rattle.store_model.specs.Commands
 use Rattle.store_model.specs.Commands.{Outcome, after_cancel, finish, has_slot, put_back, put_back_outcome_in, session_of_hand, take}
 use Rattle.store_model.specs.Durable.{Agrees, AreReturnedAsTaken, DurableState, IsReturnedAsTaken, TakenChunks, after_changes, change_of, changes_of, taken_after_step, taken_after_steps}
-use Rattle.store_model.specs.Histories.{AreSteps, CommandCall, FinishCall, MayLeadTo, PutBackCall, State, Step, SweepCall, TakeCall, initial_state}
+use Rattle.store_model.specs.Histories.{AreSteps, CommandCall, FinishCall, MayLeadTo, PutBackCall, State, Step, SweepCall, SweepPartCall, TakeCall, initial_state}
 use Rattle.store_model.specs.Invariant.{Sound}
 use Rattle.store_model.specs.Recovery.{IsWellFormedStep, StoresSurviveCrashes}
 use Rattle.store_model.specs.Runs as runs
@@ -55,6 +55,7 @@ pub step_setting : (s : State) (step : Step) (X : Catalog) → MayLeadTo s step 
 step_setting s (CommandCall command (Ok x)) X leaves = let same = left_ok (SameSlots s.catalog) (outcome false s.catalog command) x X (command_setting s.catalog command) leaves in (same.0, same.1)
 step_setting s (CommandCall command (Err e)) X leaves = subst (λ (Y : Catalog). SameSetting s.catalog Y) (sym (⊎_elim (λ y. y.1) (λ y. y.1) leaves)) (refl, refl)
 step_setting s (SweepCall swept) X leaves = subst (λ (Y : Catalog). SameSetting s.catalog Y) (sym leaves.rest) (refl, refl)
+step_setting s (SweepPartCall swept) X leaves = subst (λ (Y : Catalog). SameSetting s.catalog Y) (sym leaves.1.rest) (refl, refl)
 step_setting s (TakeCall r n g len (Ok h)) X leaves = left_ok (SameSetting s.catalog) (take s.catalog r n g len) h X (take_leaves (SameSetting s.catalog) s.catalog r n g len (λ t _. (refl, refl))) leaves
 step_setting s (TakeCall r n g len (Err e)) X leaves = subst (λ (Y : Catalog). SameSetting s.catalog Y) (sym leaves.1) (refl, refl)
 step_setting s (PutBackCall h (Ok n)) X leaves = left_ok (SameSetting s.catalog) (put_back s.catalog h) n X (put_back_leaves (SameSetting s.catalog) s.catalog h (λ x _. (refl, refl))) leaves
@@ -90,7 +91,8 @@ module _ (taken : TakenChunks) (D : DurableState) (C : Catalog) (a : Agrees take
 pub step_sound : (taken : TakenChunks) (D : DurableState) (s : State) (step : Step) (X : Catalog) → Agrees taken D s.catalog → MayLeadTo s step X → IsReturnedAsTaken taken step → IsWellFormedStep step → Sound s.catalog → Sound X
 step_sound taken D s (CommandCall command (Ok x)) X a leaves returned right sound = Sound-case s.catalog X command (Ok x) right leaves sound
 step_sound taken D s (CommandCall command (Err e)) X a leaves returned right sound = subst (λ (Y : Catalog). Sound Y) (sym (⊎_elim (λ y. y.1) (λ y. y.1) leaves)) sound
-step_sound taken D s (SweepCall swept) X a leaves returned right sound = Sound-sweep s.catalog X swept leaves sound.lawful sound.quotas sound.shares sound.slots
+step_sound taken D s (SweepCall swept) X a leaves returned right sound = Sound-sweep (λ _. true) s.catalog X swept leaves sound.lawful sound.quotas sound.shares sound.slots
+step_sound taken D s (SweepPartCall swept) X a leaves returned right sound = Sound-sweep leaves.0 s.catalog X swept leaves.1 sound.lawful sound.quotas sound.shares sound.slots
 step_sound taken D s (TakeCall r n g len (Ok h)) X a leaves returned right sound = Sound-after_take s.catalog X r n len g h leaves sound
 step_sound taken D s (TakeCall r n g len (Err e)) X a leaves returned right sound = subst (λ (Y : Catalog). Sound Y) (sym leaves.1) sound
 step_sound taken D s (PutBackCall h (Ok n)) X a leaves returned right sound = sound_put_back taken D s.catalog a sound h returned right n X leaves

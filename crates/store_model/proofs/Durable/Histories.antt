@@ -1,6 +1,7 @@
 -- A history's changes, applied to a durable state, keep its agreement with the catalog: the induction over the steps.
 use Rattle.std.proofs.Common.{◌≡◌, ◌≢◌, ℕ, Bool, true, false, not, List, [], ◌∷◌, length, Option, Some, None, Result, Ok, Err, refl, sym, ap, ◌∙◌, subst, ⊎_elim}
 use Rattle.std.specs.Prelude.{if◌then◌else◌}
+use Rattle.std.proofs.lemmas.Bool.{and_right}
 use Rattle.std.specs.Option.{option_map_or}
 use Rattle.std.specs.List.{AllByRecursion, cons_option, sum_by}
 use Rattle.std.specs.FinMap.{contains_key, empty, get, get-empty, insert}
@@ -18,9 +19,9 @@ use Rattle.spec_lib.proofs.Outcomes.{bound_ok, ok_pair}
 use Rattle.store_model.specs.Catalog.{Catalog, CheckedIn, CheckedOutWith, Chunks, HandRecord, Resident, Session, SessionNumber, Tenant, link_cmp, opening, received_length, session_number_cmp, ContentRules}
 use Rattle.store_model.specs.Commands.{check_share, after_cancel, finish, has_slot, is_digest_accepted, put_back, take, was_leased, with_stored_blob}
 use Rattle.store_model.specs.Durable.{Agrees, AgreesOnChunks, AgreesOnSession, AreReturnedAsTaken, Change, DurableState, IsReturnedAsTaken, LogsAgree, LogsExtend, ManifestPut, SessionSealed, TakenChunks, after_change, after_changes, after_seal, change_of, changes_of, chunk_change, filled_chunk, initial_durable, taken_after_step, taken_after_steps}
-use Rattle.store_model.specs.Histories.{AreSteps, CommandCall, FinishCall, MayLeadTo, PutBackCall, State, Step, SweepCall, TakeCall, initial_state}
+use Rattle.store_model.specs.Histories.{AreSteps, CommandCall, FinishCall, MayLeadTo, PutBackCall, State, Step, SweepCall, SweepPartCall, TakeCall, initial_state}
 use Rattle.store_model.specs.Sessions.{chunks_of, hand_content, put_back_outcome_in, session_of_hand, with_chunk, with_chunks, with_old_chunks}
-use Rattle.store_model.specs.Sweep.{IsAfterSweep, IsSweep}
+use Rattle.store_model.specs.Sweep.{IsAfterSweep, IsSweepOf, is_orphan}
 use Rattle.store_model.specs.declared.swept.Swept.{Swept}
 use Rattle.store_model.proofs.Commands.Accepted.{left_by}
 use Rattle.store_model.proofs.Commands.ByHand.{taken_hand, taken_leaves, taken_received}
@@ -102,8 +103,8 @@ module _ (taken : TakenChunks) (D : DurableState) (C : Catalog) (a : Agrees take
 
 -- ---- sweeps
 
-pub sweeps : (taken : TakenChunks) (D : DurableState) (C X : Catalog) (swept : Swept) → Agrees taken D C → IsSweep C swept X → Agrees taken D X
-sweeps taken D C X swept a sweep = subst (λ (Y : Catalog). Agrees taken D Y) (sym sweep.rest) (record {
+pub sweeps : (reached : Text → Bool) (taken : TakenChunks) (D : DurableState) (C X : Catalog) (swept : Swept) → Agrees taken D C → IsSweepOf reached C swept X → Agrees taken D X
+sweeps reached taken D C X swept a sweep = subst (λ (Y : Catalog). Agrees taken D Y) (sym sweep.rest) (record {
   tenants = a.tenants;
   repos = a.repos;
   links = a.links;
@@ -111,7 +112,7 @@ sweeps taken D C X swept a sweep = subst (λ (Y : Catalog). Agrees taken D Y) (s
   next = a.next;
   sessions = a.sessions;
   contents = λ l h. let has = a.contents l h in
-      (has.0, subst (λ o. IsAfterSweep o has.0 (get X.residents l.1)) (no_orphan C l.0 l.1 (a.linked_in l h) h) (sweep.orphans l.1 has.0 has.1), has.2);
+      (has.0, subst (λ o. IsAfterSweep o has.0 (get X.residents l.1)) (and_right (reached l.1) (is_orphan C l.1) (no_orphan C l.0 l.1 (a.linked_in l h) h)) (sweep.orphans l.1 has.0 has.1), has.2);
   linked_in = a.linked_in;
   uploaded_to = a.uploaded_to;
 })
@@ -122,7 +123,8 @@ pub step_agrees : (taken : TakenChunks) (D : DurableState) (s : State) (step : S
     Agrees (taken_after_step taken step) (after_record D (change_of s.catalog.tenants step)) X
 step_agrees taken D s (CommandCall command (Ok x)) X a leaves returned = command_agrees taken D s.catalog a command x X leaves
 step_agrees taken D s (CommandCall command (Err e)) X a leaves returned = subst (λ (Y : Catalog). Agrees taken D Y) (sym (⊎_elim (λ y. y.1) (λ y. y.1) leaves)) a
-step_agrees taken D s (SweepCall swept) X a leaves returned = sweeps taken D s.catalog X swept a leaves
+step_agrees taken D s (SweepCall swept) X a leaves returned = sweeps (λ _. true) taken D s.catalog X swept a leaves
+step_agrees taken D s (SweepPartCall swept) X a leaves returned = sweeps leaves.0 taken D s.catalog X swept a leaves.1
 step_agrees taken D s (TakeCall r n g len (Ok h)) X a leaves returned = takes taken D s.catalog X a r n len g h leaves
 step_agrees taken D s (TakeCall r n g len (Err e)) X a leaves returned = subst (λ (Y : Catalog). Agrees taken D Y) (sym leaves.1) a
 step_agrees taken D s (PutBackCall h (Ok n)) X a leaves returned = puts_back taken D s.catalog a h returned n X leaves

@@ -14,7 +14,7 @@ use Rattle.store_model.specs.Catalog.{Catalog, CheckedIn, CheckedOutWith, HandRe
 use Rattle.store_model.specs.Commands
 use Rattle.store_model.specs.Commands.{Outcome, after_append_in, after_cancel, check_quota, chunk_length_check, finish, has_slot, not_busy, put_back, session, take}
 use Rattle.store_model.specs.Durable.{Agrees, AreReturnedAsTaken, DurableState, IsReturnedAsTaken, TakenChunks, change_of, taken_after_step}
-use Rattle.store_model.specs.Histories.{AreSteps, CommandCall, FinishCall, MayLeadTo, PutBackCall, State, Step, SweepCall, TakeCall, initial_state}
+use Rattle.store_model.specs.Histories.{AreSteps, CommandCall, FinishCall, MayLeadTo, PutBackCall, State, Step, SweepCall, SweepPartCall, TakeCall, initial_state}
 use Rattle.store_model.specs.Invariant.{Sound, WellFormed}
 use Rattle.store_model.specs.Lanes.{IsHeldHand, IsPaired, LaneSteps, LanesReturnHands, all_steps, steps_by}
 use Rattle.store_model.specs.Recovery.{IsWellFormedStep}
@@ -103,6 +103,7 @@ stays_out : (s : State) (step : Step) (X : Catalog) → WellFormed s.catalog →
 stays_out s (CommandCall command (Ok x)) X lawful leaves k out other = left_ok (λ Y. IsOut Y k) _ x X (command_leaves_it s.catalog lawful k out command) leaves
 stays_out s (CommandCall command (Err e)) X lawful leaves k out other = subst (λ (Y : Catalog). IsOut Y k) (sym (⊎_elim (λ y. y.1) (λ y. y.1) leaves)) out
 stays_out s (SweepCall counts) X lawful leaves k out other = subst (λ (Y : Catalog). IsOut Y k) (sym leaves.rest) out
+stays_out s (SweepPartCall counts) X lawful leaves k out other = subst (λ (Y : Catalog). IsOut Y k) (sym leaves.1.rest) out
 stays_out s (TakeCall r n g len (Ok h)) X lawful leaves k out other =
     let p : TookIn s.catalog X r n len g h leaves = took s.catalog X r n len g h leaves in
     subst (λ (Y : Catalog). IsOut Y k) (taken_leaves s.catalog X r n len g h leaves)
@@ -219,6 +220,7 @@ module _ (w : ℕ) (hands : ℕ → Option HandRecord) where
     next : (step : Step) (own : List Step) → MayLeadTo s step X → IsPaired (hands w) (step ∷ own) → Next taken step X own
     next (CommandCall command reply) own leaves paired = record { out = hands w; returned = tt; known = same_hands (CommandCall command reply) leaves (λ k. tt); paired = paired.1 }
     next (SweepCall counts) own leaves paired = record { out = hands w; returned = tt; known = same_hands (SweepCall counts) leaves (λ k. tt); paired = paired.1 }
+    next (SweepPartCall counts) own leaves paired = record { out = hands w; returned = tt; known = same_hands (SweepPartCall counts) leaves (λ k. tt); paired = paired.1 }
     next (TakeCall r n g len (Ok h)) own leaves paired = record { out = Some h; returned = tt; known = takes r n g len h leaves; paired = paired.1 }
     next (TakeCall r n g len (Err e)) own leaves paired = record { out = hands w; returned = tt; known = same_hands (TakeCall r n g len (Err e)) leaves (λ k. tt); paired = paired.1 }
     next (PutBackCall h reply) own leaves paired =

@@ -19,7 +19,7 @@ use Rattle.spec_lib.proofs.Outcomes.{bound_ok, not_refused, some_of_ok}
 use Rattle.store_model.specs.Catalog.{Catalog, CheckedIn, HandRecord, Resident, SessionNumber, Tenant, holds, link_count, opening, tenant_of, ContentRules}
 use Rattle.store_model.specs.Commands.{check_share, check_quota, chunk_length_check, close, finish, fits_stored, has_slot, is_digest_accepted, is_full_for, mount, session_of_hand, start, tenant, is_named}
 use Rattle.store_model.specs.Durable.{Agrees, AreReturnedAsTaken, Change, DurableState, IsReturnedAsTaken, SessionSealed, TakenChunks, after_change, change_of, changes_of, chunk_change, command_change, filled_chunk, initial_durable, mount_change, session_key, taken_after_step}
-use Rattle.store_model.specs.Histories.{AreSteps, CommandCall, FinishCall, MayLeadTo, PutBackCall, State, Step, SweepCall, TakeCall, initial_state}
+use Rattle.store_model.specs.Histories.{AreSteps, CommandCall, FinishCall, MayLeadTo, PutBackCall, State, Step, SweepCall, SweepPartCall, TakeCall, initial_state}
 use Rattle.store_model.specs.Invariant.{Sound}
 use Rattle.store_model.specs.Recovery.{IsWellFormedStep}
 use Rattle.store_model.specs.Replaying.{HasLogReplay, HasReplay, HasRoomFor, LogsHaveReplays, replay_commands}
@@ -193,6 +193,7 @@ module _ (taken : TakenChunks) (D : DurableState) (s : State) (a : Agrees taken 
   step_room (FinishCall h d (Ok n)) X leaves returned change records = subst (λ y. HasRoomFor D (after R) y) (some_same records) (finish_room h returned d n X leaves)
   step_room (CommandCall command (Err e)) X leaves returned change records = some_none (sym records)
   step_room (SweepCall counts) X leaves returned change records = some_none (sym records)
+  step_room (SweepPartCall counts) X leaves returned change records = some_none (sym records)
   step_room (TakeCall r n g len reply) X leaves returned change records = some_none (sym records)
   step_room (PutBackCall h (Err e)) X leaves returned change records = some_none (sym records)
   step_room (FinishCall h d (Err e)) X leaves returned change records = some_none (sym records)
@@ -245,8 +246,8 @@ steps_replayed tenants (step ∷ steps) taken D s s' a known sound run returned 
         (record { agrees = alike.agrees; sound = alike.sound; slots = alike.slots ∙ sym setting.0; limit = alike.limit ∙ sym setting.1; retired = alike.retired }))
     by (Some change) is rest =
         let records : change_of D.tenants step ≡ Some change = ap (λ ts. change_of ts step) known ∙ is in
-        let clean : Agrees empty D (after R) = sweeps empty D R (after R) (swept R) alike.agrees (some_sweep R) in
-        let clean_sound : Sound (after R) = Sound-sweep R (after R) (swept R) (some_sweep R) alike.sound.lawful alike.sound.quotas alike.sound.shares alike.sound.slots in
+        let clean : Agrees empty D (after R) = sweeps (λ _. true) empty D R (after R) (swept R) alike.agrees (some_sweep R) in
+        let clean_sound : Sound (after R) = Sound-sweep (λ _. true) R (after R) (swept R) (some_sweep R) alike.sound.lawful alike.sound.quotas alike.sound.shares alike.sound.slots in
         let free = step_room taken D s a sound R alike.agrees alike.slots alike.retired alike.limit step mid.catalog run.1.leaves returned.0 change records in
         let one : HasReplay D (after R) change = changes_have_replays taken D s step mid.catalog change
         (record { agrees = a; sound = sound; leaves = run.1.leaves; returned = returned.0; well_formed = right.0; records = records }) (after R) clean clean_sound alike.limit free in

@@ -21,7 +21,7 @@ use Rattle.store_model.specs.Catalog.{Catalog, CheckedIn, HandRecord, Resident, 
 use Rattle.store_model.specs.Commands
 use Rattle.store_model.specs.Commands.{check_share, add_manifest, after_append_in, append, cannot_open, check_all_links, check_link, check_no_referrer, check_quota, check_repo, chunk_length_check, close, content_in, delete, finish, has_links, has_manifest, has_manifests, fits_stored, has_sessions, has_slot, has_source, is_digest_accepted, is_full_of_manifests, is_in_use, lacks_room_for, manifest, mounted_outcome, not_busy, put_back, put_back_outcome_in, referrer, session, session_in, session_of_hand, start, started_outcome, tenant, with_link, with_manifest, with_new_session, with_stored_blob, without_repo, without_session, is_named}
 use Rattle.store_model.specs.Durable.{Agrees, BlobLinked, BlobUnlinked, Change, DurableState, IsReturnedAsTaken, ManifestDeleted, ManifestPut, RepoRemoved, SessionDropped, SessionOpened, SessionSealed, TakenChunks, change_of, chunk_change, command_change, filled_chunk, mount_change, session_key}
-use Rattle.store_model.specs.Histories.{CommandCall, FinishCall, MayLeadTo, PutBackCall, State, Step, SweepCall, TakeCall}
+use Rattle.store_model.specs.Histories.{CommandCall, FinishCall, MayLeadTo, PutBackCall, State, Step, SweepCall, SweepPartCall, TakeCall}
 use Rattle.store_model.specs.Invariant.{Sound}
 use Rattle.store_model.specs.Recovery.{IsWellFormedStep}
 use Rattle.store_model.specs.Replaying.{ChangesHaveReplays, HasReplay, HasRoomFor, replay_command}
@@ -483,6 +483,7 @@ step_replayed taken D s (FinishCall h d (Ok n)) X change R a sound leaves return
     subst (λ y. HasRoomFor D R y → HasReplay D R y) (some_same records) (finished taken D s a sound R b sound_here limit h returned right.0 d n X leaves) free
 step_replayed taken D s (CommandCall command (Err e)) X change R a sound leaves returned right records b sound_here limit free = some_none (sym records)
 step_replayed taken D s (SweepCall swept) X change R a sound leaves returned right records b sound_here limit free = some_none (sym records)
+step_replayed taken D s (SweepPartCall swept) X change R a sound leaves returned right records b sound_here limit free = some_none (sym records)
 step_replayed taken D s (TakeCall r n g len reply) X change R a sound leaves returned right records b sound_here limit free = some_none (sym records)
 step_replayed taken D s (PutBackCall h (Err e)) X change R a sound leaves returned right records b sound_here limit free = some_none (sym records)
 step_replayed taken D s (FinishCall h d (Err e)) X change R a sound leaves returned right records b sound_here limit free = some_none (sym records)

@@ -6,7 +6,7 @@ use Rattle.spec_lib.proofs.Maps.{cases_key, get-insert_at, get-insert_other, got
 use Rattle.spec_lib.proofs.Options.{nothing, some_same}
 use Rattle.store_model.specs.Catalog.{HandRecord, SessionNumber, session_number_cmp}
 use Rattle.store_model.specs.Durable.{AreReturnedAsTaken, IsReturnedAsTaken, TakenChunks, WholeCommandsReturnHands, taken_after_step}
-use Rattle.store_model.specs.Histories.{CommandCall, FinishCall, PutBackCall, Step, SweepCall, TakeCall}
+use Rattle.store_model.specs.Histories.{CommandCall, FinishCall, PutBackCall, Step, SweepCall, SweepPartCall, TakeCall}
 use Rattle.store_model.specs.Runs.{Event}
 use Rattle.store_model.specs.WholeCommands.{AreWholeCommands, CheckedOut, CheckedOutSessions, CorrespondsTo}
 use Rattle.store_model.proofs.Durable.Torn.{first_returned}
@@ -36,6 +36,7 @@ module _ (taken : TakenChunks) (hands : CheckedOutSessions) (known : Known taken
 step_returns : (taken : TakenChunks) (hands : CheckedOutSessions) (step : Step) (events : List Event) (after : CheckedOutSessions) → Known taken hands → CorrespondsTo hands step events after → IsReturnedAsTaken taken step × Known (taken_after_step taken step) after
 step_returns taken hands (CommandCall command reply) events after known comes = (tt, same_hands taken hands known after comes.1)
 step_returns taken hands (SweepCall swept) events after known comes = (tt, same_hands taken hands known after comes.1)
+step_returns taken hands (SweepPartCall swept) events after known comes = (tt, same_hands taken hands known after comes.1)
 step_returns taken hands (TakeCall r n g len (Ok h)) events after known comes =
     (tt, subst (λ x. Known (insert taken h.key h.chunks) x) (sym comes.1) (lent taken hands known h (record { hand = h; repo = r; range = g }) refl))
 step_returns taken hands (TakeCall r n g len (Err e)) events after known comes = (tt, same_hands taken hands known after comes.1)

@@ -224,7 +224,7 @@ full_stores_have_orphans C sound fit full = full_by_orphans C sound fit full
 -- each orphan that a sweep left is condemned
 pub swept_stores_are_full_by_leases : SweptStoresAreFullByLeases
 swept_stores_are_full_by_leases C C' swept sound fit sweep full =
-    let sound' : Sound C' = Sound-sweep C C' swept sweep sound.lawful sound.quotas sound.shares sound.slots in
+    let sound' : Sound C' = Sound-sweep (λ _. true) C C' swept sweep sound.lawful sound.quotas sound.shares sound.slots in
     let fit' : SharesFit C' = subst (λ (D : Catalog). SharesFit D) (sym sweep.rest) fit in
     let some = full_by_orphans C' sound' fit' full in
     let held = sweep.held in

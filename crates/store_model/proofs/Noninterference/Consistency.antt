@@ -1,15 +1,15 @@
 -- Each step from a consistent catalog leads to a consistent one, if contents of closes are those of `content`.
-use Rattle.std.proofs.Common.{◌≡◌, ℕ, true, false, [], length, Option, Some, None, is_some, Result, Ok, refl, sym, ap, ◌∙◌, subst, ⊎_elim}
+use Rattle.std.proofs.Common.{◌≡◌, ℕ, Bool, true, false, [], length, Option, Some, None, is_some, Result, Ok, refl, sym, ap, ◌∙◌, subst, ⊎_elim}
 use Rattle.std.specs.Option.{option_map_or, ok_or}
 use Rattle.std.specs.Ordering.{eq_by_cmp}
 use Rattle.std.specs.Cmp.Lexicographic.{nat_list_cmp_total}
 use Rattle.std.specs.List.{list_any}
-use Rattle.std.specs.Prelude.{nat_lt}
+use Rattle.std.specs.Prelude.{nat_lt, ◌&&◌}
 use Rattle.std.specs.FinMap.{contains_key-keys, FinMap, get, insert, remove}
-use Rattle.std.proofs.lemmas.Bool.{ne_eqb, true≢false, and_parts}
+use Rattle.std.proofs.lemmas.Bool.{ne_eqb, true≢false, and_parts, and_right}
 use Rattle.store_model.specs.Catalog.{link_count, Link, SessionNumber, CheckedIn, Session, Resident, Catalog, link_cmp, session_number_cmp, tenant_of, is_repo_of, holds, next_number_of}
 use Rattle.store_model.specs.declared.swept.Swept.{Swept}
-use Rattle.store_model.specs.Sweep.{IsSweep, IsAfterSweep, is_orphan}
+use Rattle.store_model.specs.Sweep.{IsSweepOf, IsAfterSweep, is_orphan}
 use Rattle.spec_lib.proofs.Lists.{list_any_weaker, list_any_count}
 use Rattle.store_model.proofs.Noninterference.SameFor.{Alike, Consistent, held_kept}
 use Rattle.std.proofs.lemmas.Map.Lookups.{exact_bytes}
@@ -213,21 +213,21 @@ no_orphan C r d there held =
     (kept_set.items C.repos) (sym (contains_key-keys C.repos r) ∙ there) in
     ne_eqb (link_count C d) 0 (λ e. true≢false (sym some ∙ list_any_count (λ q. holds C q d) (kept_set.items C.repos) ∙ ap (nat_lt 0) e))
 
-pub consistent_sweep : (content : Text → Text) (C C' : Catalog) (swept : Swept) → Consistent content C → IsSweep C swept C' → Consistent content C'
-consistent_sweep content C C' swept consistent sweep = subst (λ X. Consistent content X) (sym sweep.rest) (record {
+pub consistent_sweep : (content : Text → Text) (reached : Text → Bool) (C C' : Catalog) (swept : Swept) → Consistent content C → IsSweepOf reached C swept C' → Consistent content C'
+consistent_sweep content reached C C' swept consistent sweep = subst (λ X. Consistent content X) (sym sweep.rest) (record {
   repos = consistent.repos;
   links = consistent.links;
   manifests = consistent.manifests;
   sessions = consistent.sessions;
   owners = consistent.owners;
   kept = λ l h. let b = some_value (get C.residents l.1) (consistent.kept l h) in
-      ap is_some (subst (λ o. IsAfterSweep o b.0 (get C'.residents l.1)) (no_orphan C l.0 l.1 (consistent.links l h) h) (sweep.orphans l.1 b.0 b.1));
+      ap is_some (subst (λ o. IsAfterSweep o b.0 (get C'.residents l.1)) (and_right (reached l.1) (is_orphan C l.1) (no_orphan C l.0 l.1 (consistent.links l h) h)) (sweep.orphans l.1 b.0 b.1));
   bytes = λ d b h. at d b (get C.residents d) refl h;
 })
   where
     at : (d : Text) (b : Resident) (o : Option Resident) → get C.residents d ≡ o → get C'.residents d ≡ Some b → b.bytes ≡ content d
     at d b None found h = let none = sweep.no_others d found in absurd cc
-    at d b (Some x) found h = sym (left_bytes (is_orphan C d) x b (subst (λ o. IsAfterSweep (is_orphan C d) x o) h (sweep.orphans d x found))) ∙ consistent.bytes d x found
+    at d b (Some x) found h = sym (left_bytes (reached d && is_orphan C d) x b (subst (λ o. IsAfterSweep (reached d && is_orphan C d) x o) h (sweep.orphans d x found))) ∙ consistent.bytes d x found
 
-pub unseen_sweep : (u : ℕ) (C C' : Catalog) (swept : Swept) → IsSweep C swept C' → Alike u C' C
-unseen_sweep u C C' swept sweep = subst (λ X. Alike u X C) (sym sweep.rest) (alike_itself u C)
+pub unseen_sweep : (u : ℕ) (reached : Text → Bool) (C C' : Catalog) (swept : Swept) → IsSweepOf reached C swept C' → Alike u C' C
+unseen_sweep u reached C C' swept sweep = subst (λ X. Alike u X C) (sym sweep.rest) (alike_itself u C)

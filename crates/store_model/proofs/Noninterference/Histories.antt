@@ -10,13 +10,13 @@ use Rattle.spec_lib.proofs.Options.{nothing}
 use Rattle.store_model.specs.Catalog.{Catalog, CheckedIn, HandRecord, Tenant, is_repo_of, next_number_of, session_number_cmp, opening, tenant_of, ContentRules}
 use Rattle.store_model.specs.Commands
 use Rattle.store_model.specs.Commands.{Outcome, after_cancel, finish, has_slot, put_back, take}
-use Rattle.store_model.specs.Histories.{AreSteps, SweepCall, FinishCall, MayLeadTo, CommandCall, PutBackCall, State, Step, TakeCall, initial_state}
+use Rattle.store_model.specs.Histories.{AreSteps, SweepCall, SweepPartCall, FinishCall, MayLeadTo, CommandCall, PutBackCall, State, Step, TakeCall, initial_state}
 use Rattle.store_model.specs.HistoryIsolation.{AreOwnReplies, Finish, HistoriesLeaveTheSameText, IsCollisionFreeHistory, IsOwnRefusal, IsOwnReply, IsUnaffectedHistory, Perform, StepRequest, Return, Take, TenantsAreIsolatedInHistories, catalog_after_request, uploads_of_history, uploads_of_step, catalog_after_requests, is_step_of, catalog_after_or, requests_of, isolated_step, isolated_steps, steps_of, reply_of_outcome, with_slot}
 use Rattle.store_model.specs.Noninterference.{IsUnaffectedByOthers, blobs_of, uploads_of_command, uploaded_pair}
 use Rattle.store_model.specs.Runs as runs
 use Rattle.store_model.specs.Runs.{Answer, CommandEvent, Command, IsCommandCase, outcome, repo_of}
 use Rattle.store_model.specs.Sessions.{at_home, hand_content, with_chunk}
-use Rattle.store_model.specs.Sweep.{IsSweep}
+use Rattle.store_model.specs.Sweep.{IsSweep, IsSweepPart}
 use Rattle.store_model.proofs.Noninterference.Consistency.{consistent_command, consistent_sweep, unseen_sweep}
 use Rattle.store_model.proofs.Noninterference.Hands.{Owned, changed_leaves, consistent_cancel, consistent_finish, consistent_put_back, consistent_take, finish_leaves, cancel_leaves, own_cancel, own_finish, own_put_back, own_take, owned_cancel, owned_chunks, owned_finish, owned_put_back, owned_session, owned_take, owned_without, put_back_leaves, take_leaves, unseen_cancel, unseen_finish, unseen_put_back, unseen_take}
 use Rattle.store_model.proofs.Noninterference.LocalRespect.{Leaves, abandon_leaves, alike_itself, alike_through, answers_leave, append_leaves, close_leaves, delete_leaves, delete_manifest_leaves, lease_leaves, mount_leaves, put_leaves, reading_leave, remove_repo_leaves, start_leaves, tenants_stay, unseen_command}
@@ -31,6 +31,7 @@ use Rattle.store_model.proofs.Noninterference.Texts.{alike_back, same_text_of}
 abbrev Keeps : (Catalog → Type 0) → Catalog → Step → Type 0
 Keeps P C (CommandCall command reply) = P C × Leaves P (outcome false C command)
 Keeps P C (SweepCall swept) = (X : Catalog) → IsSweep C swept X → P X
+Keeps P C (SweepPartCall swept) = (X : Catalog) → IsSweepPart C swept X → P X
 Keeps P C (TakeCall r n g len reply) = P C × Leaves P (take C r n g len)
 Keeps P C (PutBackCall h reply) = P C × Leaves P (put_back C h)
 Keeps P C (FinishCall h d reply) = P (after_cancel C h) × Leaves P (finish C h d)
@@ -39,6 +40,7 @@ leaves_of : (P : Catalog → Type 0) (s : State) (step : Step) (C' : Catalog) �
 leaves_of P s (CommandCall command (Ok a)) C' h keeps = subst (λ x. Leaves P x) h keeps.1
 leaves_of P s (CommandCall command (Err e)) C' h keeps = subst P (sym (⊎_elim (λ x. x.1) (λ x. x.1) h)) keeps.0
 leaves_of P s (SweepCall swept) C' h keeps = keeps C' h
+leaves_of P s (SweepPartCall swept) C' h keeps = keeps C' h
 leaves_of P s (TakeCall r n g len (Ok hand)) C' h keeps = subst (λ x. Leaves P x) h keeps.1
 leaves_of P s (TakeCall r n g len (Err e)) C' h keeps = subst P (sym h.1) keeps.0
 leaves_of P s (PutBackCall hand (Ok n)) C' h keeps = subst (λ x. Leaves P x) h keeps.1
@@ -50,6 +52,7 @@ leaves_of P s (FinishCall hand d (Err e)) C' h keeps = subst P (sym h.1) keeps.0
 same_tenants : (C : Catalog) (step : Step) → Keeps (λ X. X.tenants ≡ C.tenants) C step
 same_tenants C (CommandCall command reply) = (refl, tenants_stay C command)
 same_tenants C (SweepCall swept) = λ X sweep. ap (λ (Y : Catalog). Y.tenants) sweep.rest
+same_tenants C (SweepPartCall swept) = λ X sweep. ap (λ (Y : Catalog). Y.tenants) sweep.1.rest
 same_tenants C (TakeCall r n g len reply) = (refl, take_leaves (λ X. X.tenants ≡ C.tenants) C r n g len (λ t _. refl))
 same_tenants C (PutBackCall h reply) = (refl, put_back_leaves (λ X. X.tenants ≡ C.tenants) C h (λ s _. refl))
 same_tenants C (FinishCall h d reply) = (cancel_leaves (λ X. X.tenants ≡ C.tenants) C h refl (λ s _. refl), finish_leaves (λ X. X.tenants ≡ C.tenants) C h d (λ s _ _. refl))
@@ -80,13 +83,15 @@ module _ (C : Catalog) (owned : Owned C) where
   owned_step : (step : Step) → Keeps Owned C step
   owned_step (CommandCall command reply) = (owned, owned_command command)
   owned_step (SweepCall swept) = λ X sweep. subst (λ (Y : Catalog). Owned Y) (sym sweep.rest) owned
+  owned_step (SweepPartCall swept) = λ X sweep. subst (λ (Y : Catalog). Owned Y) (sym sweep.1.rest) owned
   owned_step (TakeCall r n g len reply) = (owned, owned_take C owned r n g len)
   owned_step (PutBackCall h reply) = (owned, owned_put_back C owned h)
   owned_step (FinishCall h d reply) = (owned_cancel C owned h, owned_finish C owned h d)
 
 consistent_step : (content : Text → Text) (C : Catalog) → Consistent content C → (step : Step) → Fits content (uploads_of_step C step) → Keeps (Consistent content) C step
 consistent_step content C consistent (CommandCall command reply) fits = (consistent, (consistent_command content C consistent command fits).0)
-consistent_step content C consistent (SweepCall swept) fits = λ X sweep. consistent_sweep content C X swept consistent sweep
+consistent_step content C consistent (SweepCall swept) fits = λ X sweep. consistent_sweep content (λ _. true) C X swept consistent sweep
+consistent_step content C consistent (SweepPartCall swept) fits = λ X sweep. consistent_sweep content sweep.0 C X swept consistent sweep.1
 consistent_step content C consistent (TakeCall r n g len reply) fits = (consistent, consistent_take content C consistent r n g len)
 consistent_step content C consistent (PutBackCall h reply) fits = (consistent, consistent_put_back content C consistent h)
 consistent_step content C consistent (FinishCall h d reply) fits = (consistent_cancel content C consistent h, consistent_finish content C consistent h d fits)
@@ -94,7 +99,8 @@ consistent_step content C consistent (FinishCall h d reply) fits = (consistent_c
 -- another tenant's step, or a sweep, changes nothing for the tenant
 unseen_step : (t : ℕ) (C : Catalog) → Owned C → (step : Step) → is_step_of C.tenants t step ≡ false → Keeps (λ X. Alike t X C) C step
 unseen_step t C owned (CommandCall command reply) other = (alike_itself t C, unseen_command C t command other)
-unseen_step t C owned (SweepCall swept) other = λ X sweep. unseen_sweep t C X swept sweep
+unseen_step t C owned (SweepCall swept) other = λ X sweep. unseen_sweep t (λ _. true) C X swept sweep
+unseen_step t C owned (SweepPartCall swept) other = λ X sweep. unseen_sweep t sweep.0 C X swept sweep.1
 unseen_step t C owned (TakeCall r n g len reply) other = (alike_itself t C, unseen_take t C r n g len other)
 unseen_step t C owned (PutBackCall h reply) other = (alike_itself t C, unseen_put_back t C h other)
 unseen_step t C owned (FinishCall h d reply) other = (unseen_cancel t C h other, unseen_finish t C h other owned d)
@@ -197,6 +203,7 @@ module _ (content : Text → Text) (tenants : List Tenant) (t : ℕ) where
     and_own : (step : Step) → MayLeadTo s step mid → is_step_of s.catalog.tenants t step ≡ true → IsOwnReply s step → Fits content (uploads_of_step s.catalog step) → Follows content t C' D (step ∷ own)
     and_own (CommandCall command r) leaves is free fits = and_then D mid C' (CommandCall command r) (Perform command) own refl (own_performed content t s D mid alike c d command r leaves free is fits) rest
     and_own (SweepCall swept) leaves is free fits = absurd (false≢true is)
+    and_own (SweepPartCall swept) leaves is free fits = absurd (false≢true is)
     and_own (TakeCall r n g len x) leaves is free fits = and_then D mid C' (TakeCall r n g len x) (Take r n g len) own refl (own_took content t s D mid alike c d r n g len x leaves free is) rest
     and_own (PutBackCall h x) leaves is free fits = and_then D mid C' (PutBackCall h x) (Return h) own refl (own_returned content t s D mid alike c d h is x leaves free) rest
     and_own (FinishCall h digest x) leaves is free fits = and_then D mid C' (FinishCall h digest x) (Finish h digest) own refl (own_finished content t s D mid alike c d h is digest fits x leaves free) rest

@@ -20,7 +20,7 @@ use Rattle.store_model.specs.Commands
 use Rattle.store_model.specs.Commands.{Outcome, tenant, content_in, linked_blob, with_leased}
 use Rattle.spec_lib.specs.Outcomes.{◌>>=◌, refuse}
 use Rattle.store_model.specs.Runs as runs
-use Rattle.store_model.specs.Runs.{Command, Answer, map_outcome, takes_memory, outcome, IsCommandCase, Event, CommandEvent, SweepEvent, Happens, IsRun, repo_of}
+use Rattle.store_model.specs.Runs.{Command, Answer, map_outcome, takes_memory, outcome, IsCommandCase, Event, CommandEvent, SweepEvent, SweepPartEvent, Happens, IsRun, repo_of}
 use Rattle.store_model.specs.Noninterference.{events_of, commands_of, replies, tenant_view, isolated_outcome, uploaded_pair, reply_of, catalog_after, isolated_replies, isolated_catalog, IsUnaffectedByOthers, uploads_of_event, uploads_of_command, uploads_of_run, NoCollision, IsCollisionFreeRun, TenantsAreIsolated}
 use Rattle.blob_digest.proofs.KeyOrders.{number_cmp_total, exact_number, link_cmp_total, exact_link}
 use Rattle.spec_lib.proofs.Lists.{all_by_index}
@@ -63,7 +63,8 @@ module _ (content : Text → Text) where
   pub consistent_event : (C mid : Catalog) (e : Event) → Consistent content C → Happens C e mid → Fits content (uploads_of_event C e) → Consistent content mid
   consistent_event C mid (CommandEvent command (Ok a)) consistent h fits = subst (λ x. Leaves (Consistent content) x) h (consistent_command content C consistent command fits).0
   consistent_event C mid (CommandEvent command (Err e)) consistent h fits = subst (λ X. Consistent content X) (sym h.1) consistent
-  consistent_event C mid (SweepEvent swept) consistent h fits = consistent_sweep content C mid swept consistent h
+  consistent_event C mid (SweepEvent swept) consistent h fits = consistent_sweep content (λ _. true) C mid swept consistent h
+  consistent_event C mid (SweepPartEvent swept) consistent h fits = consistent_sweep content h.0 C mid swept consistent h.1
 
   unseen_called : (t : ℕ) (C mid : Catalog) (command : Command) (r : Result Answer Refusal) → IsCommandCase C command r mid → is_repo_of C t (repo_of command) ≡ false → Alike t mid C
   unseen_called t C mid command (Ok a) h other = subst (λ x. Leaves (λ X. Alike t X C) x) h (unseen_command C t command other)
@@ -134,8 +135,11 @@ module _ (content : Text → Text) (tenants : List Tenant) (t : ℕ) where
       AllByRecursion IsUnaffectedByOthers (events_of tenants t es) → Follows content t C' D (events_of tenants t es)
   follows [] C C' D are run fits alike c d free = record { told = refl; alike = subst (λ X. Alike t X D) (sym run) alike; consistent = subst (λ X. Consistent content X) (sym run) c; consistent_alone = d }
   follows (SweepEvent swept ∷ es) C C' D are run fits alike c d free =
-      let unseen = unseen_sweep t C run.0 swept run.1 in
-      follows es run.0 C' D (unseen.tenants ∙ are) run.2 fits (alike_through t run.0 C D unseen alike) (consistent_sweep content C run.0 swept c run.1) d free
+      let unseen = unseen_sweep t (λ _. true) C run.0 swept run.1 in
+      follows es run.0 C' D (unseen.tenants ∙ are) run.2 fits (alike_through t run.0 C D unseen alike) (consistent_sweep content (λ _. true) C run.0 swept c run.1) d free
+  follows (SweepPartEvent swept ∷ es) C C' D are run fits alike c d free =
+      let unseen = unseen_sweep t run.1.0 C run.0 swept run.1.1 in
+      follows es run.0 C' D (unseen.tenants ∙ are) run.2 fits (alike_through t run.0 C D unseen alike) (consistent_sweep content run.1.0 C run.0 swept c run.1.1) d free
   follows (CommandEvent command r ∷ es) C C' D are run fits alike c d free =
       let both = fits_both content (uploads_of_command C command) (uploads_of_run es run.0 C' run.2) fits in
       let s = consistent_event content C run.0 (CommandEvent command r) c run.1 both.0 in

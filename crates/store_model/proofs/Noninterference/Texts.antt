@@ -14,7 +14,7 @@ use Rattle.std.proofs.lemmas.Map.Lookups.{exact_bytes}
 use Rattle.spec_lib.specs.Sets as kept_set
 use Rattle.spec_lib.specs.Texts.{Text, text_cmp, same_text}
 use Rattle.store_model.specs.Catalog.{Tenant, Link, Resident, Catalog, link_cmp, tenant_of, is_repo_of, tenant_holds, blob_length, link_count, used_bytes, opening, is_repo_of_tenant}
-use Rattle.store_model.specs.Runs.{Event, CommandEvent, SweepEvent, repo_of}
+use Rattle.store_model.specs.Runs.{Event, CommandEvent, SweepEvent, SweepPartEvent, repo_of}
 use Rattle.store_model.specs.Noninterference.{events_of, commands_of, blobs_of, isolated_catalog, IsUnaffectedByOthers, TextsAreTheSame}
 use Rattle.store_model.specs.BookText.{blob_line, book_line, end_line, repository_line, tenant_line, blob_text, manifest_text, session_text, repo_text, tenant_text, book_text}
 use Rattle.blob_digest.proofs.KeyOrders.{number_cmp_total, exact_number, link_cmp_total, exact_link}
@@ -153,6 +153,7 @@ module _ (b c : Text → Text) (C D : Catalog) (consistent_C : Consistent b C) (
 uncrowded_of : (tenants : List Tenant) (t : ℕ) (es : List Event) → AllByRecursion IsUnaffectedByOthers es → AllByRecursion IsUnaffectedByOthers (events_of tenants t es)
 uncrowded_of tenants t [] h = tt
 uncrowded_of tenants t (SweepEvent swept ∷ es) h = uncrowded_of tenants t es h.1
+uncrowded_of tenants t (SweepPartEvent swept ∷ es) h = uncrowded_of tenants t es h.1
 uncrowded_of tenants t (CommandEvent command r ∷ es) h =
     elim (is_repo_of_tenant tenants t (repo_of command)) as (λ b. AllByRecursion IsUnaffectedByOthers (if b then CommandEvent command r ∷ events_of tenants t es else events_of tenants t es)) [
       | true ↦ (h.0, uncrowded_of tenants t es h.1)

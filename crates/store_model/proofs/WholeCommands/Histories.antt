@@ -17,12 +17,12 @@ use Rattle.spec_lib.proofs.Rows.{insert_same}
 use Rattle.spec_lib.proofs.Texts.{same_itself}
 use Rattle.store_model.specs.Catalog.{Catalog, CheckedIn, CheckedOutWith, SessionNumber, Session, HandRecord, session_number_cmp, opening, quota_of, received_length, charged_length, used_bytes}
 use Rattle.store_model.specs.Commands.{after_cancel, append, chunk_length_check, close, finish, hand_in, not_busy, put_back, session_in, take, tenant, check_quota}
-use Rattle.store_model.specs.Histories.{AreSteps, SweepCall, FinishCall, MayLeadTo, CommandCall, PutBackCall, State, Step, TakeCall, initial_state}
+use Rattle.store_model.specs.Histories.{AreSteps, SweepCall, SweepPartCall, FinishCall, MayLeadTo, CommandCall, PutBackCall, State, Step, TakeCall, initial_state}
 use Rattle.store_model.specs.Invariant.{Sound}
 use Rattle.store_model.specs.Runs as runs
-use Rattle.store_model.specs.Runs.{Answer, CommandEvent, Command, Event, IsCommandCase, HasShortName, IsRun, SweepEvent, map_outcome, outcome, takes_memory}
+use Rattle.store_model.specs.Runs.{Answer, CommandEvent, Command, Event, IsCommandCase, Happens, HasShortName, IsRun, SweepEvent, SweepPartEvent, map_outcome, outcome, takes_memory}
 use Rattle.store_model.specs.Sessions.{Sessions, at_home, chunks_in, length_after, after_take_in, with_chunks}
-use Rattle.store_model.specs.Sweep.{IsSweep}
+use Rattle.store_model.specs.Sweep.{IsSweepOf}
 use Rattle.store_model.specs.declared.swept.Swept.{Swept as SweptCounts}
 use Rattle.store_model.specs.WholeCommands.{AreContentionFree, AreWholeCommands, CorrespondsTo, CheckedOutSessions, HistoriesAreRuns, IsContentionFree, IsContentionFreeStep, IsUpload, CheckedOut, length_reply}
 use Rattle.store_model.proofs.Commands.Accepted.{left_by, session_found, tenant_there}
@@ -69,13 +69,25 @@ by_case hands C m home sound command (Err e) X case named calm = record {
     told : (crowded : Bool) → outcome crowded C command ≡ Err e → outcome crowded (record C { sessions = m }) command ≡ Err e
     told crowded is = (subst (λ x. SameAtHome hands x (outcome crowded (record C { sessions = m }) command)) is (same_outcome hands C m home sound.lawful crowded command)) calm
 
--- a sweep
-by_sweep : (hands : CheckedOutSessions) (C : Catalog) (m : Sessions) → AtHome hands C m → Sound C → (swept : SweptCounts) (X : Catalog) → IsSweep C swept X → Moved (record C { sessions = m }) (SweepEvent swept ∷ []) hands X
-by_sweep hands C m home sound swept X sweep = record {
+-- a sweep or part of one, also with other sessions
+with_sessions : (reached : Text → Bool) (C X : Catalog) (swept : SweptCounts) (m : Sessions) → IsSweepOf reached C swept X → IsSweepOf reached (record C { sessions = m }) swept (record X { sessions = m })
+with_sessions reached C X swept m sweep = record {
+  orphans = sweep.orphans;
+  no_others = sweep.no_others;
+  rest = ap (λ (Y : Catalog). record Y { sessions = m }) sweep.rest;
+  condemned = sweep.condemned;
+  gone = sweep.gone;
+  held = sweep.held;
+}
+
+-- the event of a sweep or of part of one
+by_sweep : (reached : Text → Bool) (hands : CheckedOutSessions) (C : Catalog) (m : Sessions) → AtHome hands C m → Sound C → (swept : SweptCounts) (X : Catalog) → IsSweepOf reached C swept X → (event : Event) →
+    (IsSweepOf reached (record C { sessions = m }) swept (record X { sessions = m }) → Happens (record C { sessions = m }) event (record X { sessions = m })) → Moved (record C { sessions = m }) (event ∷ []) hands X
+by_sweep reached hands C m home sound swept X sweep event happens = record {
   home = m;
-  run = λ rest last r. (record X { sessions = m }, record { orphans = sweep.orphans; no_others = sweep.no_others; rest = ap (λ (Y : Catalog). record Y { sessions = m }) sweep.rest; condemned = sweep.condemned; gone = sweep.gone; held = sweep.held }, r);
+  run = λ rest last r. (record X { sessions = m }, happens (with_sessions reached C X swept m sweep), r);
   at_home = subst (λ (Y : Catalog). AtHome hands Y m) (sym sweep.rest) home;
-  sound = Sound-sweep C X swept sweep sound.lawful sound.quotas sound.shares sound.slots;
+  sound = Sound-sweep reached C X swept sweep sound.lawful sound.quotas sound.shares sound.slots;
 }
 
 -- ---- check-outs
@@ -273,7 +285,9 @@ step_moves s hands m home sound (CommandCall command (Err e)) X leaves calm even
     as_told (record s.catalog { sessions = m }) X comes.0 comes.1
     (by_case hands s.catalog m home sound command (Err e) X (⊎_elim (λ x. x) (λ x. absurd (calm.1 x.0)) leaves) (named_one events _ comes.0 named) calm.0)
 step_moves s hands m home sound (SweepCall swept) X leaves calm events after comes named =
-    as_told (record s.catalog { sessions = m }) X comes.0 comes.1 (by_sweep hands s.catalog m home sound swept X leaves)
+    as_told (record s.catalog { sessions = m }) X comes.0 comes.1 (by_sweep (λ _. true) hands s.catalog m home sound swept X leaves (SweepEvent swept) (λ h. h))
+step_moves s hands m home sound (SweepPartCall swept) X leaves calm events after comes named =
+    as_told (record s.catalog { sessions = m }) X comes.0 comes.1 (by_sweep leaves.0 hands s.catalog m home sound swept X leaves.1 (SweepPartEvent swept) (λ h. (leaves.0, h)))
 step_moves s hands m home sound (TakeCall r n g len (Ok h)) X leaves calm events after comes named =
     as_told (record s.catalog { sessions = m }) X comes.0 comes.1 (taken hands s.catalog X m home sound r n len g h leaves)
 step_moves s hands m home sound (TakeCall r n g len (Err e)) X leaves calm events after comes named =
