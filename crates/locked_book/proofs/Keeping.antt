@@ -1,10 +1,11 @@
 -- Calls keep the invariant: each checked-out session can still be counted, and the totals are balanced.
-use Rattle.std.proofs.Common.{◌≡◌, ℕ, not, Result, Ok, ap, length, arith, refl, subst, sym, ◌∙◌}
+use Rattle.std.proofs.Common.{◌≡◌, ℕ, Bool, not, Result, Ok, ap, length, arith, refl, subst, sym, ◌∙◌}
 use Rattle.blob_digest.specs.declared.refusal.Refusal.{Refusal}
 use Rattle.blob_digest.specs.declared.refusal.Refusal.TheVariants.{LimitReached}
 use Rattle.spec_lib.specs.Outcomes.{refuse}
 use Rattle.store_model.specs.Amounts.{Amounts, command_amounts_of, add_amounts}
 use Rattle.store_model.specs.Catalog.{Catalog}
+use Rattle.spec_lib.specs.Texts.{Text}
 use Rattle.store_model.specs.Sweep.{IsSweepOf}
 use Rattle.store_model.specs.declared.swept.Swept.{Swept}
 use Rattle.store_book.specs.BookState.{BookState}
