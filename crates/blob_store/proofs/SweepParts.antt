@@ -61,9 +61,11 @@ module _ (names : StoreNames) where
     amounts = step.amounts ∙ sym (plus_nothing desk.amounts) ∙ made.amounts;
     number = step.adds.number ∙ made.number;
     durable = step.adds.durable ∙ made.durable;
-    seen = (made.seen.0 ++ (step.adds.between ++ entry desk.trace.number (SweepPartCall s) ∷ []),
-        sym (append_assoc old.trace.seen made.seen.0 (step.adds.between ++ entry desk.trace.number (SweepPartCall s) ∷ []))
-        ∙ ap (λ xs. xs ++ (step.adds.between ++ entry desk.trace.number (SweepPartCall s) ∷ [])) made.seen.1
-        ∙ sym (append_assoc desk.trace.seen step.adds.between (entry desk.trace.number (SweepPartCall s) ∷ []))
-        ∙ sym step.adds.seen);
+    seen = (
+      made.seen.0 ++ (step.adds.between ++ entry desk.trace.number (SweepPartCall s) ∷ []),
+      sym (append_assoc old.trace.seen made.seen.0 (step.adds.between ++ entry desk.trace.number (SweepPartCall s) ∷ []))
+          ∙ ap (λ xs. xs ++ (step.adds.between ++ entry desk.trace.number (SweepPartCall s) ∷ [])) made.seen.1
+          ∙ sym (append_assoc desk.trace.seen step.adds.between (entry desk.trace.number (SweepPartCall s) ∷ []))
+          ∙ sym step.adds.seen,
+    );
   }

@@ -1,6 +1,6 @@
 //! The store that threads share.
 
-ghost use Rattle.std.specs.Prelude.{◌≡◌, ◌⊎◌, ◌<◌, Err, IfErr, IfOk, IsSome, OnOk, length, true, vec_len};
+ghost use Rattle.std.specs.Prelude.{◌≡◌, ◌⊎◌, ◌+◌, ◌<◌, ◌^◌, Err, IfErr, IfOk, IsSome, OnOk, length, true, vec_len};
 ghost use Rattle.std.specs.Arc.{arc_value};
 ghost use Rattle.std.specs.Option.{option_map};
 ghost use Rattle.blob_digest.specs.Digests.{sha256_text};
@@ -467,7 +467,9 @@ impl<S: Naming> Store<S> {
         };
         let mut from = Some(0);
         'parts: while let Some(slot) = from {
-            let part = self.locked(rt).sweep_part(&self.pins, desk, slot, PART_BLOBS);
+            let part = self
+                .locked(rt)
+                .sweep_part(&self.pins, desk, slot, PART_BLOBS);
             add_part(&mut swept, &part.swept);
             from = part.next;
             self.pause_before(rt, from);

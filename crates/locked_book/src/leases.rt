@@ -112,13 +112,7 @@ impl<S: Naming> Kept<S> {
     }
 
     /// Does a part of a sweep with `Book::sweep_part`. The step is the desk's.
-    pub fn sweep_part(
-        &mut self,
-        pins: &Pins,
-        desk: &mut Desk<S>,
-        from: u32,
-        most: u32,
-    ) -> SweptPart
+    pub fn sweep_part(&mut self, pins: &Pins, desk: &mut Desk<S>, from: u32, most: u32) -> SweptPart
         requires table { pins.now ≡ S.names.table }
         requires within { from ≤ S.names.slots }
         ensures part { IsPartOf S.names from (end_of S.names.slots result)

@@ -49,12 +49,7 @@ fn next_orphan(slots: &PinnedSlots, from: u32, left: u32) -> Option<u32>
 ///
 /// It condemns a live one. It frees or retires the slot of each condemned one that no pin holds. Memory is allocated only for
 /// the entries of freed blobs in files.
-pub(crate) fn sweep_slots(
-    slots: &mut PinnedSlots,
-    pins: &Pins,
-    from: u32,
-    most: u32,
-) -> SweptPart
+pub(crate) fn sweep_slots(slots: &mut PinnedSlots, pins: &Pins, from: u32, most: u32) -> SweptPart
     requires table { slots.old.table ≡ pins.now }
     requires few { length slots.old.slots ≤ greatest_slots }
     requires within { from ≤ length slots.old.slots }

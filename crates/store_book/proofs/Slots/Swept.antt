@@ -181,7 +181,7 @@ next_given left o k e = by (left == 0) refl e
   where
     by : (b : Bool) → (left == 0) ≡ b → (if b then None else o) ≡ Some k → (0 < left) × (o ≡ Some k)
     by true is f = absurd cc
-    by false is f = (elim (cases_lt 0 left) [ | inl lt ↦ lt | inr le ↦ absurd (eqb-false left 0 is (omega arith)) ], f)
+    by false is f = (elim (cases_lt 0 left) [ inl lt ↦ lt | inr le ↦ absurd (eqb-false left 0 is (omega arith)) ], f)
 
 -- if more may be visited, none is left
 pub next_ended : (left : ℕ) (o : Option ℕ) → 0 < left → (if left == 0 then None else o) ≡ None → o ≡ None

@@ -12,6 +12,7 @@ add_unrecorded-requires-clause-allows g c =
 
 pub invariant_of-self : goal.invariant_of-self
 invariant_of-self g c =
-    let reached = is_reached c.args.from (end_of (length c.self.inside.book.slots) c.sweep_part-part.result) c.self.inside.book.slots in
-    (swept_kept reached g.S.Naming.names c.self.inside.book c.sweep_part-part.new.self c.self.inside.counters c.self.inside.out.hands c.self.inside.out.reserve c.sweep_part-part.result.swept c.self.invariant.0 c.sweep_part-part.ensures.sweeps c.sweep_part-part.ensures.slots.0 c.sweep_part-part.ensures.slots.1.0,
-    c.add_unrecorded.ensures.leads (state_of (record { book = c.self.inside.book; counts = c.self.inside.counters })) (state_of (record { book = c.sweep_part-part.new.self; counts = c.self.inside.counters })) c.self.invariant.1 (cleans_part (record { book = c.self.inside.book; counts = c.self.inside.counters }) (record { book = c.sweep_part-part.new.self; counts = c.self.inside.counters }) c.sweep_part-part.result.swept (reached, c.sweep_part-part.ensures.sweeps) refl))
+    let reached = is_reached c.args.from (end_of (length c.self.inside.book.slots) c.sweep_part-part.result) c.self.inside.book.slots in (
+      swept_kept reached g.S.Naming.names c.self.inside.book c.sweep_part-part.new.self c.self.inside.counters c.self.inside.out.hands c.self.inside.out.reserve c.sweep_part-part.result.swept c.self.invariant.0 c.sweep_part-part.ensures.sweeps c.sweep_part-part.ensures.slots.0 c.sweep_part-part.ensures.slots.1.0,
+      c.add_unrecorded.ensures.leads (state_of (record { book = c.self.inside.book; counts = c.self.inside.counters })) (state_of (record { book = c.sweep_part-part.new.self; counts = c.self.inside.counters })) c.self.invariant.1 (cleans_part (record { book = c.self.inside.book; counts = c.self.inside.counters }) (record { book = c.sweep_part-part.new.self; counts = c.self.inside.counters }) c.sweep_part-part.result.swept (reached, c.sweep_part-part.ensures.sweeps) refl),
+    )
