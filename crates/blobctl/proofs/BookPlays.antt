@@ -83,16 +83,20 @@ call_happens n C slots command (Refused refusal) C' low few not_memory h =
     ] in
     (λ i. (Refused refusal, h.1 i)) ∙ sym (ap (outcome_result C) refused)
 
+-- a sweep of a book is one of its catalog
+sweep_happens : (n : ℕ) (old new : BookState) (answer : Answer) → AreLow n old.slots → n ≤ 65536 → BookActs old Sweeps answer new → CatalogLeads old.catalog Sweeps answer new.catalog × AreLow (n + 1) new.slots
+sweep_happens n old new answer low few h =
+    let sweep = h.0 in
+    ((sweep.0, sweep.1, sweep.2, none_retired sweep.0.retired (λ some. not_last n old.slots low (omega (arith, few)) (sweep.3 some))), low_by_one n old.slots new.slots low h.1)
+
 -- a book's action is its catalog's, unless memory ran out
 request_happens : (n : ℕ) (old new : BookState) (request : StoreRequest) (answer : Answer) → AreLow n old.slots → n ≤ 65536 → answer ≢ Refused Memory → BookActs old request answer new → CatalogLeads old.catalog request answer new.catalog × AreLow (n + 1) new.slots
 request_happens n old new (Calls command) answer low few not_memory h =
     let after = low_by_one n old.slots new.slots low h.1 in
     (call_happens (n + 1) old.catalog new.slots command answer new.catalog after (omega (arith, few)) not_memory h.0, after)
 request_happens n old new (Verifies size) answer low few not_memory h = ((h.0, h.1), low_by_one n old.slots new.slots low h.2)
-request_happens n old new Sweeps answer low few not_memory h =
-    let sweep = h.0 in
-    ((sweep.0, sweep.1, sweep.2, none_retired sweep.0.retired (λ some. not_last n old.slots low (omega (arith, few)) (sweep.3 some))), low_by_one n old.slots new.slots low h.1)
-request_happens n old new SweepsInParts answer low few not_memory h = request_happens n old new Sweeps answer low few not_memory h
+request_happens n old new Sweeps answer low few not_memory h = sweep_happens n old new answer low few h
+request_happens n old new SweepsInParts answer low few not_memory h = sweep_happens n old new answer low few h
 
 abbrev catalog_of : State BookState → State Catalog
 catalog_of s = (s.0.catalog, s.1)

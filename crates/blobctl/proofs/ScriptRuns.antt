@@ -161,6 +161,7 @@ module _ (tenants : List Tenant) (t : ℕ) where
       let named = subst (λ (r : Text). all ≡ spelled_commands (if is_repo_of_tenant tenants t r then l ∷ R else R)) (repo_spelled l c h.0) here in
       subst (λ (u : Bool). all ≡ spelled_commands (if u && is_repo_of_tenant tenants t l.repo then l ∷ R else R)) (sym (names_repo l c h.0)) named
   event_spelled l ls a (runs.SweepEvent swept) rest h more = skipped l (rows_of tenants t ls) (commands_of (events_of tenants t rest)) more (is_repo_of_tenant tenants t l.repo) (ap uses_repo h.0)
+  event_spelled l ls a (runs.SweepPartEvent swept) rest h more = absurd h
 
   -- the commands among a tenant's events are those that its rows spell
   pub spelled_of : (lines : List RowView) (answers : List Answer) (es : List runs.Event) → AreEventsOf lines answers es → AllByRecursion (λ answer. answer ≢ NameTaken) answers → commands_of (events_of tenants t es) ≡ spelled_commands (rows_of tenants t lines)

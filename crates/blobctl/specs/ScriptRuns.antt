@@ -34,10 +34,11 @@ HasMalformedField row answer = (refusal : Refusal) × (command_of row ≡ Err re
 abbrev pub IsNoEvent : RowView → Answer → Type 0
 IsNoEvent row answer = HasMalformedField row answer ⊎ ((row.verb ≡ verb.Lease) × (answer ≡ NameTaken)) ⊎ ((uses_repo row.verb ≡ false) × (row.verb ≢ verb.Sweep))
 
--- a row with its reply is this event: its command with the reply, or a sweep with its counts
+-- a row with its reply is this event: its command with the reply, or a sweep with its counts, which a script makes at once
 abbrev pub IsEvent : RowView → Answer → runs.Event → Type 0
 IsEvent row answer (runs.CommandEvent command reply) = (command_of row ≡ Ok (Some command)) × (answer ≡ shown_reply command reply)
 IsEvent row answer (runs.SweepEvent swept) = (row.verb ≡ verb.Sweep) × (answer ≡ Swept swept)
+IsEvent row answer (runs.SweepPartEvent swept) = ⊥
 
 -- the events of rows with these replies, in their order
 abbrev pub AreEventsOf : List RowView → List Answer → List runs.Event → Type 0

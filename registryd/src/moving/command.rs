@@ -165,12 +165,21 @@ async fn begin(
     Ok((state.stage, robots))
 }
 
-/// Prints the robots that are at one side alone after the move.
-async fn warn_of_robots(options: &MoveCommand, source: &Peer, target: &Peer, moved: &[MovedRobot]) -> Result<(), String> {
-    let MoveCommand { tenant, from, to, .. } = options;
-    let (at_source, at_target) = (source.robots(true).await?, target.robots(true).await?);
-    for robot in at_source.iter().filter(|name| !at_target.contains(name) && !moved.iter().any(|robot| robot.name == **name)) {
-        print(&format!("warning: {robot} has rights in {tenant} at {from}, and does not exist at {to}"));
+impl Move {
+    /// Prints the robots that are at one side alone after the move.
+    async fn warn_of_robots(&self) -> Result<(), String> {
+        let MoveCommand { tenant, from, to, .. } = &self.options;
+        let Copier { source, target, .. } = &*self.copier;
+        let moved = self.robots.as_deref().unwrap_or_default();
+        let (at_source, at_target) = (source.robots(true).await?, target.robots(true).await?);
+        let moves = |name: &String| moved.iter().any(|robot| robot.name == *name);
+        for robot in at_source.iter().filter(|name| !at_target.contains(name) && !moves(name)) {
+            print(&format!("warning: {robot} has rights in {tenant} at {from}, and does not exist at {to}"));
+        }
+        for robot in target.robots(false).await?.iter().filter(|name| !at_source.contains(name)) {
+            print(&format!("warning: {robot} has rights in {tenant} at {to}, and does not exist at {from}"));
+        }
+        Ok(())
     }
     for robot in target.robots(false).await?.iter().filter(|name| !at_source.contains(name)) {
         print(&format!("warning: {robot} has rights in {tenant} at {to}, and does not exist at {from}"));
