@@ -8,7 +8,9 @@ use crate::progress::{Progress, Work};
 use crate::room::{base_length, room_for_base};
 use crate::segment::Segment;
 use log_frames::{Cursor, header_bytes, write_frame};
-use log_rewriting::{Filter, Inventory, LogRewriting, RewriteError, take_inventory};
+use log_rewriting::{
+    Filter, Inventory, LogRewriting, Receiver, RewriteError, Survey, give_changes,
+};
 use log_state::{Bytes, LogReading, ReadingError};
 use std::alloc::{AllocError, Global};
 use std::fs::File;
@@ -59,6 +61,59 @@ fn fault_of(
     }
 }
 
+/// Gives the changes of segments to a receiver, which it returns. A verb names this work.
+fn give_all<C: Receiver>(
+    rt: &HostRuntime,
+    folder: &str,
+    verb: &'static str,
+    segments: &mut [Segment],
+    buffer: &mut Vec<u8>,
+    receiver: C,
+) -> Result<C, RewriteFault> {
+    let work = Work::begin(rt, verb, length_of(segments));
+    let mut given = (receiver, 0);
+    for segment in segments {
+        let (name, id) = (segment.name, segment.id);
+        let mut input = match segment.frames(rt, folder, work) {
+            Ok(input) => input,
+            Err(error) => return Err(RewriteFault::of_file(name, RewriteError::of_read(error))),
+        };
+        let (receiver, offset) = given;
+        given = match give_changes(rt.alloc(), receiver, offset, &mut input, buffer, id) {
+            Ok(given) => given,
+            Err(error) => return Err(fault_of(name, &input, error)),
+        };
+    }
+    Ok(given.0)
+}
+
+/// Returns how many bytes of the records of segments are needed at least, if a survey finds that no inventory can find less than half
+/// of them needed.
+///
+/// It finds at least three quarters of them, so that segments grow by half before they are looked at again.
+fn surely_needed(
+    rt: &HostRuntime,
+    folder: &str,
+    segments: &mut [Segment],
+    buffer: &mut Vec<u8>,
+) -> Result<Option<u64>, RewriteFault> {
+    let survey = give_all(
+        rt,
+        folder,
+        "surveying",
+        segments,
+        buffer,
+        Survey::new(rt.alloc()),
+    )?;
+    let total = survey.total();
+    let needed = survey.needed();
+    if needed >= total - total / 4 {
+        Ok(Some(needed))
+    } else {
+        Ok(None)
+    }
+}
+
 /// Returns the inventory of segments.
 fn inventory_of(
     rt: &HostRuntime,
@@ -66,20 +121,14 @@ fn inventory_of(
     segments: &mut [Segment],
     buffer: &mut Vec<u8>,
 ) -> Result<Inventory, RewriteFault> {
-    let work = Work::begin(rt, "examining", length_of(segments));
-    let mut inventory = Inventory::new(rt.alloc());
-    for segment in segments {
-        let (name, id) = (segment.name, segment.id);
-        let mut input = match segment.frames(rt, folder, work) {
-            Ok(input) => input,
-            Err(error) => return Err(RewriteFault::of_file(name, RewriteError::of_read(error))),
-        };
-        inventory = match take_inventory(rt.alloc(), inventory, &mut input, buffer, id) {
-            Ok(inventory) => inventory,
-            Err(error) => return Err(fault_of(name, &input, error)),
-        };
-    }
-    Ok(inventory)
+    give_all(
+        rt,
+        folder,
+        "examining",
+        segments,
+        buffer,
+        Inventory::new(rt.alloc()),
+    )
 }
 
 /// Syncs a log, and writes a last frame which states that it was synced up to there.
@@ -250,6 +299,11 @@ fn rewrite(
         return Ok(Outcome::Kept(was));
     }
     let mut buffer = Vec::new(rt.alloc()); // One for all files, so that memory does not grow with their number.
+    if when == When::Wasteful {
+        if let Some(needed) = surely_needed(rt, folder, segments, &mut buffer)? {
+            return Ok(Outcome::Kept(needed));
+        }
+    }
     let inventory = inventory_of(rt, folder, segments, &mut buffer)?;
     let live = inventory.live();
     if when == When::Wasteful && live >= inventory.total() / 2 {

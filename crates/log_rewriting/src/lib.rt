@@ -2,8 +2,8 @@
 //! state.
 //!
 //! The records of the log are read twice. An [`Inventory`] notes each change of the first pass. The [`Filter`] made of it gives, for
-//! each change of the second pass, those of the rewritten log. [`take_inventory`] and [`LogRewriting`] make the passes over the
-//! frames of the log's segments.
+//! each change of the second pass, those of the rewritten log. [`give_changes`] and [`LogRewriting`] make the passes over the
+//! frames of the log's segments. A [`Survey`] finds at less cost how much of a log is needed at least.
 #![tactic(auto)]
 
 mod blobs;
@@ -20,6 +20,7 @@ mod logs;
 mod names;
 mod place;
 mod seals;
+mod survey;
 mod writing;
 
 pub use error::InventoryError;
@@ -28,5 +29,6 @@ pub use filter::Filter;
 pub use inventory::Inventory;
 pub use joining::{Receiver, give_changes};
 pub use kept::Kept;
-pub use logs::{LogRewriting, take_inventory};
+pub use logs::LogRewriting;
+pub use survey::Survey;
 pub use writing::RecordWriter;

@@ -1,4 +1,4 @@
-//! Takes the inventory of a log, and writes the rewritten one.
+//! Receives the changes of a log: notes them in an inventory, and writes those of the rewritten log.
 
 use crate::error::InventoryError;
 use crate::failure::RewriteError;
@@ -40,31 +40,6 @@ impl<'f, W: Write + Drop> Receiver for Rewriter<'f, W> {
             }
         }
     }
-}
-
-/// Adds the next segment, a log with this id, to the inventory of the segments before it. The input begins after the log's header.
-/// The buffer grows with the longest frame, and can be used again.
-///
-/// # Errors
-///
-/// - `Broken`: a record that a store does not write.
-/// - `NoRecord`, `NotWhole`: the frames of the log are not whole records.
-/// - `Read`
-/// - `Memory`
-///
-/// # Memory
-///
-/// That of the inventory and the buffer, besides the longest record.
-pub fn take_inventory<R: Read>(
-    alloc: Global,
-    before: Inventory,
-    input: &mut R,
-    buffer: &mut Vec<u8>,
-    id: u64,
-) -> Result<Inventory, RewriteError> {
-    let start = before.total();
-    let (inventory, _) = give_changes(alloc, before, start, input, buffer, id)?;
-    Ok(inventory)
 }
 
 /// A log that is written in place of the segments of which a filter was made.
