@@ -169,7 +169,7 @@ impl<E, N: Naming<E>> Backlog<E, N> {
         writer.add::<D>(&mut self.history, position, promised);
     }
 
-    /// Adds the event that `D` names, and records its bytes without a copy. If they have no room, the log is closed.
+    /// Adds the event that `D` names, and records its bytes. Long ones are not copied. If they have no room, the log is closed.
     pub fn append_owned<D: Event<E>>(
         &mut self,
         writer: &mut LogWriter<E, N>,

@@ -130,7 +130,7 @@ impl Pending {
         self.bytes += bytes.len() as u64;
     }
 
-    /// Records these bytes as a segment of their own, if the log records. If they have no room, the log is closed.
+    /// Records these bytes, if the log records. Long ones are not copied. If they have no room, the log is closed.
     pub fn append_owned(&mut self, bytes: Vec<u8>)
         ensures recorded { RecordsIfOpen self.old bytes.items self.new }
         ensures room { HasSlot self.old (length bytes.items) →

@@ -1,6 +1,6 @@
 //! Bytes in segments, which are written one after another.
 
-ghost use Rattle.std.specs.Prelude.{◌≡◌, ◌<◌, ◌≤◌, ◌++◌, [], flat_map, length, Decides, IsOk, MatchOption, OnOk, OnErr};
+ghost use Rattle.std.specs.Prelude.{◌≡◌, ◌<◌, ◌≤◌, ◌++◌, [], flat_map, length, Decides, IsOk, MatchOption, true, OnOk, OnErr};
 ghost use Rattle.log_disk.specs.Torn.{IsTorn};
 ghost use Rattle.durable_log.specs.Views.{BeginsNot};
 
@@ -12,6 +12,10 @@ use thiserror::Error;
 
 /// The capacity of a segment for small records.
 const SEGMENT_BYTES: usize = 65536;
+
+/// The length up to which a record that could be a segment of its own is copied into the last one, if it fits, in bytes. Otherwise each of
+/// many small records would cost a segment, and the next record another one.
+const COPIED: usize = 4096;
 
 /// A record has no room: memory ran out, or the history would have 2^64 bytes.
 #[derive(Clone, Copy, PartialEq, Eq, Debug, Error)]
@@ -135,12 +139,22 @@ impl Segments {
         }
     }
 
-    /// Adds a record at the end, as a segment of its own. It is not copied.
+    /// Returns whether a record is short, and the last segment has room for it.
+    fn takes_copy(&self, bytes: &[u8]) -> bool
+        ensures { result ≡ true → length bytes.now ≤ self.now.room }
+    {
+        bytes.len() <= COPIED && bytes.len() <= self.last.capacity() - self.last.len()
+    }
+
+    /// Adds a record at the end. A long one is not copied: it is a segment of its own.
     pub fn append_owned(&mut self, bytes: Vec<u8>) -> Result<(), NoRoom>
         ensures ok { OnOk result (self.new.bytes ≡ self.old.bytes ++ bytes.items) }
         ensures err { OnErr result (self.new.bytes ≡ self.old.bytes) }
         ensures room { 0 < self.old.slots → IsOk result }
     {
+        if self.takes_copy(bytes.as_slice()) {
+            return self.append(bytes.as_slice());
+        }
         let Ok(()) = self.earlier.reserve(1) else {
             return Err(NoRoom);
         };
