@@ -22,7 +22,7 @@ ROUNDS = 12
 SOON = 10
 
 # How a rewriting of the log ended, also one before another program took over, how far a slow start was, and a content that cannot be used.
-PROGRESS = re.compile(r" was (not rewritten|not written|written): |^blobd: (examining|scanning|replaying) |^blobd: cannot (write|read|remove) \S+/contents/")
+PROGRESS = re.compile(r" was (not rewritten|not written|written): |^blobd: (surveying|examining|scanning|replaying) |^blobd: cannot (write|read|remove) \S+/contents/")
 
 
 def begun(everybody, lines):
