@@ -15,6 +15,7 @@ mod operation;
 mod signatures;
 mod start;
 mod store;
+mod tenants;
 
 use crate::http::connections::Connections;
 use crate::operation::exit::Failure;
@@ -37,13 +38,13 @@ static ALLOCATOR: memory_reserve::Reserving = memory_reserve::Reserving;
 const REST_TIME: Duration = Duration::from_secs(1);
 
 fn main() -> ExitCode {
-    let options = options();
+    let mut options = options();
     if let Some(command) = &options.command {
         return control::client::run(command);
     }
     log::begin(options.log_level.filter(), options.log_format == LogFormat::Json);
-    if let Some(conflict) = options.conflict() {
-        tracing::error!("{conflict}");
+    if let Some(wrong) = options.read_tenants().err().or_else(|| options.conflict()) {
+        tracing::error!("{wrong}");
         return ExitCode::from(2);
     }
     memory_reserve::share_heap();
@@ -98,6 +99,7 @@ async fn run(options: Options) -> Result<(), Failure> {
     if let Some(address) = metrics_address {
         tracing::info!(%address, "serving metrics");
     }
+    reloads.extend(launch::tenant_file(&options, &started.registry));
     background::run(hangup.reload(reloads));
     background::run(rewriting::rewrite_on_signal(rewrite, started.registry.clone()));
     notifier.send("READY=1\nSTATUS=serving");

@@ -31,10 +31,10 @@ def the_state_is_that_of_the_store():
         opened(client, "acme/two")
         status = status_of(client)
         acme = {"name": "acme", "used": len(b"{}layer"), "quota": 1000000, "blobs": 2, "share": 9, "repositories": 2, "manifests": 1,
-                "manifest_bytes": len(image), "most_manifest_bytes": 16 << 20, "tags": 1}
+                "most_manifests": None, "manifest_bytes": len(image), "most_manifest_bytes": 16 << 20, "tags": 1, "most_tags": None}
         assert tenant_of(status, "acme") == acme, tenant_of(status, "acme")
         poor = {"name": "poor", "used": 0, "quota": 5, "blobs": 0, "share": 20, "repositories": 0, "manifests": 0,
-                "manifest_bytes": 0, "most_manifest_bytes": 16 << 20, "tags": 0}
+                "most_manifests": None, "manifest_bytes": 0, "most_manifest_bytes": 16 << 20, "tags": 0, "most_tags": None}
         assert tenant_of(status, "poor") == poor, tenant_of(status, "poor")
         assert (status["slots"], status["free_slots"], status["uploads"], status["durable"]) == (40, 38, 1, False)
         assert status["bounds"] == {"manifests": None, "manifest_bytes": None, "tags": None}

@@ -14,7 +14,6 @@ use crate::metadata::immutable_tags::ImmutableTags;
 use crate::metadata::limits::Limits;
 use crate::metadata::loose_blobs::LooseBlobs;
 use crate::metadata::manifests::Manifests;
-use crate::metadata::names::tenant_of;
 use crate::metadata::open_uploads::OpenUploads;
 use crate::metadata::repositories::Repositories;
 use crate::metadata::repository::Removal;
@@ -31,8 +30,9 @@ use crate::signatures::checking::SignedTags;
 use crate::start::provenance::Provenance;
 use crate::store::client::Store;
 use crate::store::frames::{Reason, Refusal};
+use crate::tenants::bounds::TenantBounds;
 use hyper::StatusCode;
-use std::collections::{BTreeMap, HashMap};
+use std::collections::BTreeMap;
 use std::sync::Arc;
 use std::time::Duration;
 
@@ -79,8 +79,8 @@ pub(crate) struct Registry {
     pub(crate) hashes_once: bool,
     /// The limits of each tenant in the store.
     pub(crate) limits: Limits,
-    /// The bounds on the manifests and tags of each tenant, as far as they are given.
-    pub(crate) bounds: Bounds,
+    /// The bounds on the manifests and tags of each tenant.
+    pub(crate) bounds: TenantBounds,
     /// The condition on which a client's delete of a manifest is made.
     pub(crate) asked_removal: Removal,
     /// The tags that no client moves or deletes, if there is a file of them.
@@ -95,8 +95,6 @@ pub(crate) struct Registry {
     pub(crate) keeps_untagged: Option<Duration>,
     /// The recorder of events, if there is a file of receivers.
     pub(crate) events: Option<Arc<Recorder>>,
-    /// The bounds of each tenant, with the defaults.
-    pub(crate) bounds_by_tenant: HashMap<String, Bounds>,
     /// Where the store's program comes from.
     pub(crate) provenance: Provenance,
     /// The requests that are logged in detail.
@@ -133,7 +131,7 @@ impl MetricsAccess {
 impl Registry {
     /// Returns the bounds on the manifests and tags of a repository's tenant.
     pub(crate) fn bounds_of(&self, repo: &str) -> Bounds {
-        self.bounds_by_tenant.get(tenant_of(repo)).copied().unwrap_or(self.bounds)
+        self.bounds.of(repo)
     }
 
     /// Returns whether no client moves or deletes a tag of a repository.

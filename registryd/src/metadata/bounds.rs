@@ -60,6 +60,15 @@ pub(crate) enum Excess {
 }
 
 impl Bounds {
+    /// Returns these bounds, with those of another in place of missing ones.
+    pub(crate) fn or(self, other: Bounds) -> Bounds {
+        Bounds {
+            manifests: self.manifests.or(other.manifests),
+            manifest_bytes: self.manifest_bytes.or(other.manifest_bytes),
+            tags: self.tags.or(other.tags),
+        }
+    }
+
     /// Returns the bounds of a tenant with a quota. The bytes of its manifests have a default: a tenth of the quota, and at
     /// least 16 MiB.
     pub(crate) fn with_quota(self, quota: u64) -> Bounds {
@@ -122,6 +131,14 @@ mod tests {
         let most = |given, quota| Bounds { manifest_bytes: given, ..Bounds::default() }.with_quota(quota).manifest_bytes;
         assert_eq!((most(None, 1 << 30), most(None, 100)), (Some((1 << 30) / 10), Some(16 << 20)));
         assert_eq!((most(Some(7), 1 << 30), most(Some(u64::MAX), 100)), (Some(7), Some(u64::MAX)));
+    }
+
+    #[test]
+    fn missing_bounds_are_those_of_another() {
+        let own = Bounds { manifests: Some(1), manifest_bytes: None, tags: Some(0) };
+        let other = Bounds { manifests: Some(5), manifest_bytes: Some(6), tags: None };
+        assert_eq!(own.or(other), Bounds { manifests: Some(1), manifest_bytes: Some(6), tags: Some(0) });
+        assert_eq!((own.or(Bounds::default()), Bounds::default().or(other)), (own, other));
     }
 
     #[test]

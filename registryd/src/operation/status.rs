@@ -131,7 +131,7 @@ impl Registry {
         for tenant in &self.tenants {
             let (used, quota) = self.store.usage(tenant).await?.unwrap_or_default();
             let held = self.store.slot_use(tenant).await?.ok();
-            let totals = self.manifests.totals(tenant);
+            let (totals, bounds) = (self.manifests.totals(tenant), self.bounds_of(tenant));
             let mut state = json!({
                 "name": tenant,
                 "used": used,
@@ -140,9 +140,11 @@ impl Registry {
                 "share": held.as_ref().and_then(|held| held.share),
                 "repositories": self.repositories.count(tenant),
                 "manifests": totals.manifests,
+                "most_manifests": bounds.manifests,
                 "manifest_bytes": totals.manifest_bytes,
-                "most_manifest_bytes": self.bounds_of(tenant).manifest_bytes,
+                "most_manifest_bytes": bounds.manifest_bytes,
                 "tags": totals.tags,
+                "most_tags": bounds.tags,
             });
             if let Some(mirror) = self.mirrors.of(tenant) {
                 state["mirror"] = mirror.json(self.cached.count(tenant));
@@ -171,9 +173,9 @@ impl Registry {
             "events": self.events.as_ref().map(|events| events.queue.json()),
             "scrub": self.scrub.as_ref().map(|scrub| scrub.json()),
             "bounds": {
-                "manifests": self.bounds.manifests,
-                "manifest_bytes": self.bounds.manifest_bytes,
-                "tags": self.bounds.tags,
+                "manifests": self.bounds.given.manifests,
+                "manifest_bytes": self.bounds.given.manifest_bytes,
+                "tags": self.bounds.given.tags,
             },
             "tenants": tenants,
         }))

@@ -1,7 +1,7 @@
 //! The resources of the machine: what the tenants together may take of them, and what a start needs.
 use crate::folder::{disk_room, files};
 use crate::start::default_shares::default_share;
-use crate::start::tenants::Tenant;
+use crate::tenants::words::Tenant;
 use std::fs::read_to_string;
 use std::path::{Path, PathBuf};
 

@@ -15,12 +15,10 @@ use crate::folder::disk_room::DiskRoom;
 use crate::folder::files::Folder;
 use crate::folder::scrub::Scrub;
 use crate::http::in_flight::Memory;
-use crate::metadata::bounds::Bounds;
 use crate::metadata::cached::CachedContents;
 use crate::metadata::clock;
 use crate::metadata::limits::Limits;
 use crate::metadata::loose_blobs::LooseBlobs;
-use crate::metadata::manifest_table::ManifestTable;
 use crate::metadata::manifests::Manifests;
 use crate::metadata::open_uploads::OpenUploads;
 use crate::metadata::repositories::Repositories;
@@ -31,17 +29,18 @@ use crate::moving::moves::Moves;
 use crate::moving::stage::MoveRow;
 use crate::operation::exit::Failure;
 use crate::operation::metrics::Metrics;
+use crate::operation::reload::Reload;
 use crate::operation::{background, memory_reserve};
 use crate::start::credentials::Files;
 use crate::start::opening::Opened;
 use crate::start::options::Options;
 use crate::start::provenance::Provenance;
 use crate::start::recovery::Recovered;
-use crate::start::tenants::Tenant;
 use crate::start::{capacity, default_shares, opening, recovery};
 use crate::store::client::Store;
 use crate::store::process;
-use std::collections::HashMap;
+use crate::tenants::bounds::TenantBounds;
+use crate::tenants::reload::TenantFile;
 use std::net::SocketAddr;
 use std::path::PathBuf;
 use std::sync::Arc;
@@ -61,24 +60,17 @@ pub(crate) struct Started {
     pub(crate) control: Option<ControlSocket>,
 }
 
-/// Returns the bounds on the manifests and tags of each tenant. A tenant that has more than a default has no such bound.
-fn bounds_by_tenant(options: &Options, manifests: &ManifestTable) -> HashMap<String, Bounds> {
-    let mut by_tenant = HashMap::new();
-    for Tenant { name, quota, .. } in options.tenants() {
-        let mut bounds = options.bounds().with_quota(quota);
-        let used = manifests.totals(&name).manifest_bytes;
-        if let Some(default) = bounds.manifest_bytes.filter(|most| used > *most && options.manifest_bytes.is_none()) {
-            tracing::warn!(
-                tenant = %name,
-                used,
-                default,
-                "the tenant has more bytes of manifests than the default, and is not limited: give --manifest-bytes"
-            );
-            bounds.manifest_bytes = None;
-        }
-        by_tenant.insert(name, bounds);
-    }
-    by_tenant
+/// Returns the bounds on the manifests and tags of each tenant.
+fn bounds(options: &Options, manifests: &Manifests) -> TenantBounds {
+    let bounds = TenantBounds::new(options.bounds());
+    bounds.set(options.tenants_with_bounds().iter().map(|(tenant, own)| (tenant, *own)), manifests);
+    bounds
+}
+
+/// Returns the file of tenants as a value that SIGHUP reads again, if there is one.
+pub(crate) fn tenant_file(options: &Options, registry: &Arc<Registry>) -> Option<(&'static str, Arc<dyn Reload>)> {
+    let (path, lines) = (options.tenants_file.clone()?, options.tenant_lines.clone());
+    Some(("tenants", Arc::new(TenantFile::new(path, options.argument_names(), lines, registry.clone()))))
 }
 
 /// Opens the folder and its database, if there is a folder.
@@ -236,14 +228,13 @@ pub(crate) async fn start(options: &Options, files: Files, address: SocketAddr) 
         max_blob: options.max_blob,
         hashes_once: options.data.is_some() && !options.sha512,
         limits: options.limits(),
-        bounds: options.bounds(),
+        bounds: bounds(options, &manifests),
         asked_removal: options.asked_removal(),
         immutable_tags,
         signed_tags,
         pulls_since: pulls_since.filter(|_| retention.is_some()),
         retention,
         keeps_untagged: options.keep_untagged,
-        bounds_by_tenant: bounds_by_tenant(options, &manifests),
         events: receivers.zip(queue.as_ref()).map(recorder),
         manifests,
         debug: options.debug_scope(),

@@ -10,5 +10,4 @@ pub(crate) mod options;
 pub(crate) mod provenance;
 pub(crate) mod recovery;
 pub(crate) mod start_replies;
-mod tenants;
 pub(crate) mod upstreams;

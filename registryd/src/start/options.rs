@@ -9,8 +9,8 @@ use crate::metadata::open_uploads::UploadTimeouts;
 use crate::metadata::repository::Removal;
 use crate::mirror::address::{mirror_of, Address, MirrorOf};
 use crate::operation::log::DebugScope;
-use crate::start::tenants;
-use crate::start::tenants::{tenant_word, Tenant};
+use crate::tenants::file::{self, TenantLine};
+use crate::tenants::words::{self, tenant_word, Tenant};
 use clap::{Parser, ValueEnum};
 use std::ffi::OsString;
 use std::net::SocketAddr;
@@ -81,6 +81,9 @@ pub(crate) struct Options {
     /// Listen on this address
     #[arg(long, value_name = "ADDR:PORT", default_value = "127.0.0.1:5000")]
     pub(super) listen: SocketAddr,
+    /// Serve the tenants of this file too
+    #[arg(long = "tenants", value_name = "FILE")]
+    pub(super) tenants_file: Option<PathBuf>,
     /// Set the maximum number of different blobs
     #[arg(long, value_name = "N", default_value_t = 1 << 20, value_parser = clap::value_parser!(u32).range(1..=1 << 24))]
     pub(super) slots: u32,
@@ -256,8 +259,11 @@ pub(crate) struct Options {
     #[arg(long, value_name = "PATH", default_value = "blobd")]
     pub(super) blobd: PathBuf,
     /// Serve this tenant with a quota in bytes and a number of blobs
-    #[arg(value_name = "TENANT=QUOTA[,BLOBS]", required = true, value_parser = tenant_word)]
+    #[arg(value_name = "TENANT=QUOTA[,BLOBS]", required_unless_present = "tenants_file", value_parser = tenant_word)]
     pub(super) tenants: Vec<String>,
+    /// The lines of the file of tenants, when it was read.
+    #[arg(skip)]
+    pub(super) tenant_lines: Vec<TenantLine>,
 }
 
 /// Returns the time that an argument in hours means.
@@ -291,7 +297,29 @@ impl Options {
     pub(crate) fn conflict(&self) -> Option<String> {
         let open = !self.has_users() && !self.listen.ip().is_loopback() && !self.let_anybody_in;
         let text = format!("cannot listen: {}: give --htpasswd, --oidc, --token-key or --let-anybody-in", self.listen);
-        open.then_some(text).or_else(|| tenants::conflict(&self.tenants)).or_else(|| self.mirrors().err())
+        open.then_some(text)
+            .or_else(|| words::conflict(&self.tenants))
+            .or_else(|| self.without_tenants())
+            .or_else(|| self.mirrors().err())
+    }
+
+    /// Returns what to give if there is no tenant.
+    fn without_tenants(&self) -> Option<String> {
+        let path = self.tenants_file.as_ref().filter(|_| self.tenants.is_empty() && self.tenant_lines.is_empty())?;
+        Some(format!("no tenant: {}: write a line TENANT=QUOTA[,BLOBS], or give an argument", path.display()))
+    }
+
+    /// Reads the file of tenants, if there is one.
+    ///
+    /// # Errors
+    ///
+    /// - The file cannot be read.
+    /// - A line is wrong, or its tenant is an argument too. The message has the number of the first such line.
+    pub(crate) fn read_tenants(&mut self) -> Result<(), String> {
+        if let Some(path) = &self.tenants_file {
+            self.tenant_lines = file::read(path, &self.argument_names())?;
+        }
+        Ok(())
     }
 
     /// Returns the number of mirrors.
@@ -423,9 +451,20 @@ impl Options {
         }
     }
 
+    /// Returns the tenants of the command line, each without bounds of its own, and then those of the file.
+    pub(super) fn tenants_with_bounds(&self) -> Vec<(Tenant, Bounds)> {
+        let arguments = self.tenants.iter().filter_map(|word| Some((Tenant::of(word)?, Bounds::default())));
+        arguments.chain(self.tenant_lines.iter().map(|line| (line.tenant.clone(), line.bounds))).collect()
+    }
+
     /// Returns the tenants.
     pub(super) fn tenants(&self) -> Vec<Tenant> {
-        self.tenants.iter().filter_map(|word| Tenant::of(word)).collect()
+        self.tenants_with_bounds().into_iter().map(|(tenant, _)| tenant).collect()
+    }
+
+    /// Returns the names of the tenants of the command line.
+    pub(super) fn argument_names(&self) -> Vec<String> {
+        self.tenants.iter().filter_map(|word| Some(Tenant::of(word)?.name)).collect()
     }
 
     /// Returns the names of the tenants.
@@ -549,6 +588,28 @@ mod tests {
             assert!(Options::try_parse_from(["registryd", word]).is_err(), "{word}");
         }
         assert!(Options::try_parse_from(["registryd"]).is_err());
+    }
+
+    #[test]
+    fn tenants_come_from_a_file_too() {
+        let path = std::env::temp_dir().join(format!("registryd-tenants-{}", std::process::id()));
+        let words = ["--tenants", path.to_str().unwrap()];
+        let read = |text: &str, arguments: &[&str]| {
+            std::fs::write(&path, text).unwrap();
+            let mut options = parsed(&[&words, arguments].concat());
+            options.read_tenants().map(|()| options)
+        };
+        let options = read("b=2,3 tags=4\nc=5\n", &["--tags", "6", "z=1", "a=1"]).unwrap();
+        assert_eq!((options.tenant_names(), options.conflict()), (["z", "a", "b", "c"].map(str::to_string).into(), None));
+        let with_bounds = options.tenants_with_bounds();
+        assert_eq!(with_bounds[2], (Tenant::of("b=2,3").unwrap(), Bounds { tags: Some(4), ..Bounds::default() }));
+        assert_eq!((with_bounds[0].1, with_bounds[3].1), (Bounds::default(), Bounds::default()));
+        assert!(read("a=2\n", &["z=1", "a=1"]).unwrap_err().ends_with(": line 1: duplicate tenant: a: it is an argument too"));
+        assert!(read("# none\n", &[]).unwrap().conflict().unwrap().starts_with("no tenant: "));
+        assert!(read("# none\n", &["a=1"]).unwrap().conflict().is_none());
+        std::fs::remove_file(&path).unwrap();
+        let why = parsed(&words).read_tenants().unwrap_err();
+        assert!(why.starts_with(&format!("cannot read the tenants: {}: ", path.display())), "{why}");
     }
 
     #[test]

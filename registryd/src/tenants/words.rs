@@ -1,9 +1,10 @@
-//! The arguments `TENANT=QUOTA` and `TENANT=QUOTA,BLOBS` of the command line, by the rules of the store.
+//! The words `TENANT=QUOTA` and `TENANT=QUOTA,BLOBS` of the command line and of the file of tenants, by the rules of the store.
+use crate::http::exchange::shortened;
 use crate::metadata::names::is_component;
 use std::collections::HashSet;
 
 /// The maximum number of tenants.
-const MAX_TENANTS: usize = 4096;
+pub(super) const MAX_TENANTS: usize = 4096;
 
 /// The maximum quota, in bytes.
 const MAX_QUOTA: u64 = 1 << 50;
@@ -11,19 +12,22 @@ const MAX_QUOTA: u64 = 1 << 50;
 /// The maximum share, in distinct blobs.
 const MAX_SHARE: u64 = u32::MAX as u64;
 
-/// A tenant of the command line.
+/// The maximum number of bytes of a word in a message.
+const SHOWN: usize = 512;
+
+/// A tenant with what the store grants it.
 #[derive(Clone, Debug, PartialEq, Eq)]
-pub(super) struct Tenant {
-    pub(super) name: String,
+pub(crate) struct Tenant {
+    pub(crate) name: String,
     /// The maximum number of bytes.
-    pub(super) quota: u64,
+    pub(crate) quota: u64,
     /// The maximum number of distinct blobs, if it is given.
-    pub(super) share: Option<u64>,
+    pub(crate) share: Option<u64>,
 }
 
 impl Tenant {
-    /// Reads an argument that `tenant_word` accepts.
-    pub(super) fn of(word: &str) -> Option<Tenant> {
+    /// Reads a word that `tenant_word` accepts.
+    pub(crate) fn of(word: &str) -> Option<Tenant> {
         let (name, limits) = word.split_once('=')?;
         let (quota, share) = limits.split_once(',').map_or((limits, None), |(quota, share)| (quota, Some(share)));
         let share = share.map(str::parse).transpose().ok()?;
@@ -31,37 +35,44 @@ impl Tenant {
     }
 }
 
-/// Checks an argument of the form `TENANT=QUOTA` or `TENANT=QUOTA,BLOBS`, and returns it.
+/// Returns a word as a message quotes it: on one line of visible characters, and only the beginning of a long one.
+pub(super) fn shown(word: &str) -> String {
+    let visible = |letter| if char::is_control(letter) { char::REPLACEMENT_CHARACTER } else { letter };
+    shortened(word, SHOWN).chars().map(visible).collect()
+}
+
+/// Checks a word of the form `TENANT=QUOTA` or `TENANT=QUOTA,BLOBS`, and returns it.
 ///
 /// # Errors
 ///
-/// Fails with a message that quotes the argument.
-pub(super) fn tenant_word(word: &str) -> Result<String, String> {
-    let (name, limits) = word.split_once('=').ok_or_else(|| format!("`{word}` is not TENANT=QUOTA[,BLOBS]"))?;
+/// Fails with a message that quotes the word.
+pub(crate) fn tenant_word(word: &str) -> Result<String, String> {
+    let quoted = shown(word);
+    let (name, limits) = word.split_once('=').ok_or_else(|| format!("`{quoted}` is not TENANT=QUOTA[,BLOBS]"))?;
     if !is_component(name) {
-        return Err(format!("invalid tenant `{name}` in `{word}`: write a name such as acme or acme-2"));
+        return Err(format!("invalid tenant `{}` in `{quoted}`: write a name such as acme or acme-2", shown(name)));
     }
     let (quota, share) = limits.split_once(',').map_or((limits, None), |(quota, share)| (quota, Some(share)));
     if !is_number_within(quota, MAX_QUOTA) {
-        return Err(format!("invalid quota `{quota}` in `{word}`: write a number of bytes from 0 to {MAX_QUOTA}"));
+        return Err(format!("invalid quota `{}` in `{quoted}`: write a number of bytes from 0 to {MAX_QUOTA}", shown(quota)));
     }
     match share {
         Some(share) if !is_number_within(share, MAX_SHARE) => {
-            Err(format!("invalid share `{share}` in `{word}`: write a number of blobs from 0 to {MAX_SHARE}"))
+            Err(format!("invalid share `{}` in `{quoted}`: write a number of blobs from 0 to {MAX_SHARE}", shown(share)))
         }
         _ => Ok(word.to_string()),
     }
 }
 
 /// Returns whether a text is a number in decimal digits that is at most `most`.
-fn is_number_within(text: &str, most: u64) -> bool {
+pub(super) fn is_number_within(text: &str, most: u64) -> bool {
     !text.is_empty()
         && text.bytes().all(|byte| byte.is_ascii_digit())
         && text.parse::<u64>().map_or(false, |number| number <= most)
 }
 
 /// Returns why a store cannot have these tenants, if it cannot.
-pub(super) fn conflict(words: &[String]) -> Option<String> {
+pub(crate) fn conflict(words: &[String]) -> Option<String> {
     if words.len() > MAX_TENANTS {
         return Some(format!("too many tenants: {}: the maximum is {MAX_TENANTS}", words.len()));
     }
