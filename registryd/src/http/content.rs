@@ -236,7 +236,7 @@ mod tests {
 
     #[tokio::test]
     async fn long_content_is_cut_into_long_pieces_while_few_requests_have_some() {
-        let (memory, without_files) = (Memory::new(1 << 30, 1, true), Memory::new(1 << 30, 1, false));
+        let (memory, without_files) = (Memory::new(1 << 30, true), Memory::new(1 << 30, false));
         let holder = Holder { sharer: 0, connection: None };
         let begun_in = |memory: &Arc<Memory>, len: u64| {
             let (memory, holder) = (memory.clone(), holder.clone());

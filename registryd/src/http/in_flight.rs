@@ -6,7 +6,8 @@ use crate::http::connections::Connection;
 use crate::http::fault::Fault;
 use crate::operation::locks::guard_of;
 use crate::operation::memory_reserve::is_short;
-use std::collections::{HashMap, VecDeque};
+use std::collections::{BTreeMap, HashMap, VecDeque};
+use std::ops::Bound::{Excluded, Unbounded};
 use std::sync::{Arc, Mutex, MutexGuard};
 use std::time::{Duration, Instant};
 use tokio::sync::{oneshot, OwnedSemaphorePermit, Semaphore};
@@ -63,7 +64,8 @@ struct Sharer {
 struct State {
     total: u64,
     used: u64,
-    sharers: Vec<Sharer>,
+    /// Those that hold bytes or wait for some, by their numbers.
+    sharers: BTreeMap<usize, Sharer>,
     /// The sharer that got bytes last after it had waited.
     last: usize,
     by_number: HashMap<u64, Held>,
@@ -92,14 +94,24 @@ pub(crate) struct Reserved {
 }
 
 impl State {
+    /// Returns the number of bytes that a sharer holds.
+    fn held(&self, sharer: usize) -> u64 {
+        self.sharers.get(&sharer).map_or(0, |sharer| sharer.held)
+    }
+
+    /// Returns whether a request of a sharer waits.
+    fn waits(&self, sharer: usize) -> bool {
+        self.sharers.get(&sharer).map_or(false, |sharer| !sharer.waiting.is_empty())
+    }
+
     /// Returns whether a sharer may get more bytes. It may hold at most the number of bytes that it leaves for the others.
     fn has_room(&self, sharer: usize, bytes: u64) -> bool {
-        self.sharers[sharer].held + bytes <= self.total - self.used
+        self.held(sharer) + bytes <= self.total - self.used
     }
 
     /// Returns whether a sharer has, after it gets more bytes, at most half of what it may hold.
     fn has_plenty(&self, sharer: usize, bytes: u64) -> bool {
-        let held = self.sharers[sharer].held;
+        let held = self.held(sharer);
         held + bytes <= (self.total - (self.used - held)) / 4
     }
 
@@ -108,7 +120,7 @@ impl State {
         let number = self.next_number;
         self.next_number += 1;
         self.used += bytes;
-        self.sharers[holder.sharer].held += bytes;
+        self.sharers.entry(holder.sharer).or_default().held += bytes;
         self.by_number.insert(number, Held { holder, bytes, is_ending: false });
         number
     }
@@ -119,32 +131,42 @@ impl State {
             let surplus = held.bytes.saturating_sub(bytes);
             held.bytes -= surplus;
             self.used -= surplus;
-            self.sharers[held.holder.sharer].held -= surplus;
+            let sharer = held.holder.sharer;
+            if let Some(shares) = self.sharers.get_mut(&sharer) {
+                shares.held -= surplus;
+            }
+            self.forget_idle(sharer);
+        }
+    }
+
+    /// Forgets a sharer that holds nothing and waits for nothing.
+    fn forget_idle(&mut self, sharer: usize) {
+        if self.held(sharer) == 0 && !self.waits(sharer) {
+            self.sharers.remove(&sharer);
         }
     }
 
     /// Returns the waiting sharer whose first request may get its bytes and that holds the fewest. Sharers with equally many
     /// take turns.
     fn next(&self) -> Option<usize> {
-        let count = self.sharers.len();
-        let turns = (1..=count).map(|turn| (self.last + turn) % count);
-        let may_get = |sharer: &usize| {
-            let first = self.sharers[*sharer].waiting.front();
-            first.map_or(false, |first| self.has_room(*sharer, first.bytes))
+        let turns = self.sharers.range((Excluded(self.last), Unbounded)).chain(self.sharers.range(..=self.last));
+        let may_get = |(number, sharer): &(&usize, &Sharer)| {
+            sharer.waiting.front().map_or(false, |first| self.has_room(**number, first.bytes))
         };
-        turns.filter(may_get).min_by_key(|&sharer| self.sharers[sharer].held)
+        turns.filter(may_get).min_by_key(|(_, sharer)| sharer.held).map(|(number, _)| *number)
     }
 
     /// Gives bytes to the waiting requests that may get them. Returns the requests, each with its number.
     fn grant(&mut self) -> Vec<(Waiting, u64)> {
-        for sharer in &mut self.sharers {
+        for sharer in self.sharers.values_mut() {
             while sharer.waiting.front().map_or(false, |first| first.sender.is_closed()) {
                 sharer.waiting.pop_front();
             }
         }
+        self.sharers.retain(|_, sharer| sharer.held > 0 || !sharer.waiting.is_empty());
         let mut granted = Vec::new();
         while let Some(sharer) = self.next() {
-            if let Some(waiting) = self.sharers[sharer].waiting.pop_front() {
+            if let Some(waiting) = self.sharers.get_mut(&sharer).and_then(|sharer| sharer.waiting.pop_front()) {
                 let number = self.take(waiting.holder.clone(), waiting.bytes);
                 self.last = sharer;
                 granted.push((waiting, number));
@@ -156,17 +178,20 @@ impl State {
     /// Disconnects clients below `SLOW_PACE` whose sharers hold at least as much as a waiting sharer, the slowest first, until
     /// the bytes that they return suffice for its requests.
     fn disconnect_slow(&mut self, sharer: usize, now: Instant) {
-        let looked = self.sharers[sharer].looked.replace(now);
-        if looked.map_or(false, |looked| now.saturating_duration_since(looked) < LOOK_REST) {
-            self.sharers[sharer].looked = looked;
+        let asking = match self.sharers.get_mut(&sharer) {
+            Some(asking) => asking,
+            None => return,
+        };
+        if asking.looked.map_or(false, |looked| now.saturating_duration_since(looked) < LOOK_REST) {
             return;
         }
-        let own = self.sharers[sharer].held;
-        let waiting = self.sharers[sharer].waiting.iter().filter(|waiting| !waiting.sender.is_closed());
+        asking.looked = Some(now);
+        let own = asking.held;
+        let waiting = asking.waiting.iter().filter(|waiting| !waiting.sender.is_closed());
         let wanted: u64 = waiting.map(|waiting| waiting.bytes).sum();
         let mut ending: u64 = self.by_number.values().filter(|held| held.is_ending).map(|held| held.bytes).sum();
         let slow_one = |(number, held): (&u64, &Held)| {
-            let may_end = !held.is_ending && self.sharers[held.holder.sharer].held >= own;
+            let may_end = !held.is_ending && self.held(held.holder.sharer) >= own;
             let pace = held.holder.connection.as_ref().filter(|_| may_end)?.pace(now)?;
             (pace < SLOW_PACE && held.bytes > 0).then(|| (pace, *number))
         };
@@ -189,9 +214,9 @@ impl State {
 }
 
 impl Memory {
-    /// Makes a limit of `total` bytes for a number of sharers. Only if contents lie in files, some requests hold long pieces.
-    pub(crate) fn new(total: u64, sharers: usize, is_on_disk: bool) -> Arc<Memory> {
-        let sharers = (0..sharers).map(|_| Sharer::default()).collect();
+    /// Makes a limit of `total` bytes. Only if contents lie in files, some requests hold long pieces.
+    pub(crate) fn new(total: u64, is_on_disk: bool) -> Arc<Memory> {
+        let sharers = BTreeMap::new();
         let state = State { total, used: 0, sharers, last: 0, by_number: HashMap::new(), next_number: 0 };
         let long = Semaphore::new(if is_on_disk { LONG_AT_ONCE } else { 0 });
         Arc::new(Memory { state: Mutex::new(state), long: Arc::new(long) })
@@ -204,7 +229,7 @@ impl Memory {
     /// Reserves bytes of which a request can do with fewer, if its sharer holds little and none of its requests waits.
     pub(crate) fn try_reserve(self: &Arc<Self>, holder: &Holder, bytes: u64) -> Option<Reserved> {
         let mut state = self.state();
-        let is_free = state.sharers[holder.sharer].waiting.is_empty() && state.has_plenty(holder.sharer, bytes);
+        let is_free = !state.waits(holder.sharer) && state.has_plenty(holder.sharer, bytes);
         (is_free && !is_short()).then(|| {
             let number = state.take(holder.clone(), bytes);
             Reserved { bytes, number, memory: self.clone(), _long: None }
@@ -264,11 +289,11 @@ impl Memory {
         if is_short() {
             return None;
         }
-        if state.sharers[holder.sharer].waiting.is_empty() && state.has_room(holder.sharer, bytes) {
+        if !state.waits(holder.sharer) && state.has_room(holder.sharer, bytes) {
             let number = state.take(holder.clone(), bytes);
             return Some(Entered::Reserved(Reserved { bytes, number, memory: self.clone(), _long: None }));
         }
-        let waiting = &mut state.sharers[holder.sharer].waiting;
+        let waiting = &mut state.sharers.entry(holder.sharer).or_default().waiting;
         if waiting.len() >= MOST_WAITING {
             waiting.retain(|waiting| !waiting.sender.is_closed());
         }
@@ -331,7 +356,7 @@ mod tests {
 
     #[tokio::test]
     async fn a_sharer_leaves_bytes_for_the_others() {
-        let memory = Memory::new(100, 3, true);
+        let memory = Memory::new(100, true);
         let mine = now(&memory, 0, 50).await;
         assert!(mine.is_some() && now(&memory, 0, 1).await.is_none());
         let other = now(&memory, 1, 25).await;
@@ -341,21 +366,24 @@ mod tests {
         drop(mine);
         assert_eq!(memory.state().used, 0);
         assert!(memory.state().by_number.is_empty());
+        // The requests that waited have left the queues.
+        memory.hand_out();
+        assert!(memory.state().sharers.is_empty());
     }
 
     #[tokio::test]
     async fn a_reservation_shrinks() {
-        let memory = Memory::new(100, 1, true);
+        let memory = Memory::new(100, true);
         let mut reserved = now(&memory, 0, 50).await.unwrap();
         reserved.shrink(10);
-        assert_eq!((reserved.bytes(), memory.state().sharers[0].held), (10, 10));
+        assert_eq!((reserved.bytes(), memory.state().held(0)), (10, 10));
         reserved.shrink(20);
         assert_eq!((reserved.bytes(), memory.state().used), (10, 10));
     }
 
     #[tokio::test]
     async fn requests_wait_in_turn_and_the_sharer_with_fewest_bytes_is_first() {
-        let memory = Memory::new(90, 2, true);
+        let memory = Memory::new(90, true);
         let (mine, second) = (now(&memory, 0, 30).await.unwrap(), now(&memory, 1, 30).await.unwrap());
         let (holder, other) = (of(0), of(1));
         let mut greedy = Box::pin(memory.reserve(&holder, 20));
@@ -374,7 +402,7 @@ mod tests {
 
     #[tokio::test]
     async fn a_request_that_leaves_the_queue_leaves_nothing() {
-        let memory = Memory::new(100, 1, true);
+        let memory = Memory::new(100, true);
         let mine = now(&memory, 0, 50).await.unwrap();
         assert!(now(&memory, 0, 50).await.is_none());
         let holder = of(0);
@@ -387,7 +415,7 @@ mod tests {
 
     #[tokio::test]
     async fn bytes_ahead_are_for_sharers_that_hold_little() {
-        let memory = Memory::new(800, 2, true);
+        let memory = Memory::new(800, true);
         let first = memory.reserve_between(&of(0), 10, 150).await.unwrap();
         let second = memory.reserve_between(&of(0), 10, 150).await.unwrap();
         assert_eq!((first.bytes(), second.bytes()), (150, 10));
@@ -400,7 +428,7 @@ mod tests {
         let later = |seconds| begun + Duration::from_secs(seconds);
         let connection = || Arc::new(Connection::new(([127, 0, 0, 1], 1).into(), Duration::from_secs(60)));
         let (slow, slower, quick, other) = (connection(), connection(), connection(), connection());
-        let memory = Memory::new(700, 2, true);
+        let memory = Memory::new(700, true);
         let mut reserved = Vec::new();
         for (sharer, connection) in [(0, &slow), (0, &slower), (0, &quick), (1, &other)] {
             connection.begin_request();

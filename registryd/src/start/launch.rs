@@ -203,7 +203,7 @@ pub(crate) async fn start(options: &Options, files: Files, address: SocketAddr) 
     let recorder =
         |(file, queue): (Arc<ReceiversFile>, &Arc<Queue>)| Recorder::new(file, queue.clone(), address, is_tls, writer.clone());
     let registry = Arc::new(Registry {
-        memory: Memory::new(options.memory_in_flight, store.sharers(), options.data.is_some()),
+        memory: Memory::new(options.memory_in_flight, options.data.is_some()),
         store,
         access: Access { robots, ..access },
         uploads,

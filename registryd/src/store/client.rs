@@ -20,6 +20,11 @@ use tokio::process::Child;
 use tokio::sync::Notify;
 use tokio::time::{timeout_at, Instant};
 
+/// The numbers of the sharers that are no tenants: the program itself, and all unknown tenants together. The tenants have the next ones.
+const OWN: usize = 0;
+const UNKNOWN: usize = 1;
+const FIRST_TENANT: usize = 2;
+
 /// The time limit of a health probe.
 const PROBE_TIME: Duration = Duration::from_secs(5);
 
@@ -45,8 +50,7 @@ pub(crate) struct Setup<'a> {
 /// The store. A call uses one connection, and waits until its sharer may get one.
 pub(crate) struct Store {
     pool: Arc<ConnectionPool>,
-    /// The number of each tenant among the sharers of the connections. All unknown tenants share the next number, and the
-    /// program itself has the last.
+    /// The number of each tenant among the sharers of the connections.
     sharers: HashMap<String, usize>,
     /// The time limit of a call.
     pub(crate) limit: Duration,
@@ -118,8 +122,8 @@ impl Store {
         }
         // From here on only the other side has its ends, so that this side sees when they are closed.
         drop(peer_ends);
-        let sharers: HashMap<String, usize> = setup.names.into_iter().enumerate().map(|(at, name)| (name, at)).collect();
-        let pool = ConnectionPool::new(connections, sharers.len() + 2);
+        let sharers = setup.names.into_iter().zip(FIRST_TENANT..).collect();
+        let pool = ConnectionPool::new(connections);
         let (end_notice, has_ended) = (Notify::new(), AtomicBool::new(false));
         Ok((Store { pool, sharers, limit: setup.call, writer: setup.writer, end_notice, has_ended }, child))
     }
@@ -134,14 +138,9 @@ impl Store {
         self.has_ended.load(Ordering::Relaxed)
     }
 
-    /// Returns the number of sharers of the connections.
-    pub(crate) fn sharers(&self) -> usize {
-        self.sharers.len() + 2
-    }
-
     /// Returns the sharer number of a repository's tenant.
     pub(crate) fn sharer(&self, repo: &str) -> usize {
-        self.sharers.get(tenant_of(repo)).copied().unwrap_or(self.sharers.len())
+        self.sharers.get(tenant_of(repo)).copied().unwrap_or(UNKNOWN)
     }
 
     /// Returns whether a repository's tenant exists.
@@ -151,7 +150,7 @@ impl Store {
 
     /// Returns the sharer number of the program itself.
     pub(crate) fn own(&self) -> usize {
-        self.sharers.len() + 1
+        OWN
     }
 
     /// Handles a failed connection: the store has ended.

@@ -2,8 +2,9 @@
 //! connections.
 use crate::operation::locks::guard_of;
 use crate::store::connection::{Frame, ReplyResult, StoreConnection};
-use std::collections::VecDeque;
+use std::collections::{BTreeMap, VecDeque};
 use std::io;
+use std::ops::Bound::{Excluded, Unbounded};
 use std::sync::{Arc, Mutex, MutexGuard};
 use tokio::sync::oneshot;
 
@@ -37,7 +38,8 @@ struct State {
     idle: Vec<StoreConnection>,
     /// The number of connections that are idle or in use.
     count: usize,
-    sharers: Vec<Sharer>,
+    /// Those that have connections or wait for one, by their numbers.
+    sharers: BTreeMap<usize, Sharer>,
     /// The sharer that got a connection last.
     last: usize,
     is_closed: bool,
@@ -47,7 +49,14 @@ impl State {
     /// Returns whether a sharer may get one more connection: it has fewer than are idle. So one sharer alone gets at most
     /// half of them, `n` sharers leave one share as large as theirs, and the last connection goes to a sharer that has none.
     fn may_take(&self, sharer: usize) -> bool {
-        self.sharers[sharer].held < self.idle.len()
+        self.sharers.get(&sharer).map_or(0, |sharer| sharer.held) < self.idle.len()
+    }
+
+    /// Forgets a sharer that has no connection and waits for none.
+    fn forget_idle(&mut self, sharer: usize) {
+        if self.sharers.get(&sharer).map_or(false, |sharer| sharer.held == 0 && sharer.waiting.is_empty()) {
+            self.sharers.remove(&sharer);
+        }
     }
 
     /// Takes an idle connection. One that has carried a long body serves the next long one if it can, so that few become wide.
@@ -59,11 +68,10 @@ impl State {
     }
 
     /// Returns the waiting sharer that may get a connection and has the fewest. Sharers with equally many take turns.
-    fn next(&mut self) -> Option<usize> {
-        let count = self.sharers.len();
-        let turns = (1..=count).map(|turn| (self.last + turn) % count);
-        let waiting = turns.filter(|&sharer| !self.sharers[sharer].waiting.is_empty() && self.may_take(sharer));
-        waiting.min_by_key(|&sharer| self.sharers[sharer].held)
+    fn next(&self) -> Option<usize> {
+        let turns = self.sharers.range((Excluded(self.last), Unbounded)).chain(self.sharers.range(..=self.last));
+        let waiting = turns.filter(|(&sharer, calls)| !calls.waiting.is_empty() && self.may_take(sharer));
+        waiting.min_by_key(|(_, sharer)| sharer.held).map(|(sharer, _)| *sharer)
     }
 }
 
@@ -79,10 +87,9 @@ pub(super) struct PooledConnection {
 }
 
 impl ConnectionPool {
-    /// Makes a pool for a number of sharers.
-    pub(super) fn new(connections: Vec<StoreConnection>, sharers: usize) -> Arc<ConnectionPool> {
-        let count = connections.len();
-        let sharers = (0..sharers).map(|_| Sharer::default()).collect();
+    /// Makes a pool. Its sharers have numbers, of which it knows those that use it.
+    pub(super) fn new(connections: Vec<StoreConnection>) -> Arc<ConnectionPool> {
+        let (count, sharers) = (connections.len(), BTreeMap::new());
         Arc::new(ConnectionPool(Mutex::new(State { idle: connections, count, sharers, last: 0, is_closed: false })))
     }
 
@@ -99,13 +106,13 @@ impl ConnectionPool {
                 return Err(PoolError::Closed);
             }
             // A sharer that waits and may get a connection got one when the last was returned, so this call overtakes none.
-            if state.sharers[sharer].waiting.is_empty() && state.may_take(sharer) {
+            if state.sharers.get(&sharer).map_or(true, |sharer| sharer.waiting.is_empty()) && state.may_take(sharer) {
                 if let Some(connection) = state.pop(is_long) {
-                    state.sharers[sharer].held += 1;
+                    state.sharers.entry(sharer).or_default().held += 1;
                     return Ok(PooledConnection { connection: Some(connection), is_clean: true, sharer, pool: self.clone() });
                 }
             }
-            let waiting = &mut state.sharers[sharer].waiting;
+            let waiting = &mut state.sharers.entry(sharer).or_default().waiting;
             if waiting.len() >= MOST_WAITING {
                 waiting.retain(|call| !call.sender.is_closed());
             }
@@ -122,7 +129,8 @@ impl ConnectionPool {
     /// Gives idle connections to waiting sharers that may get one.
     fn hand_out(self: &Arc<Self>, state: &mut State) {
         while let Some(sharer) = state.next() {
-            let WaitingCall { is_long, sender: call } = match state.sharers[sharer].waiting.pop_front() {
+            let first = state.sharers.get_mut(&sharer).and_then(|sharer| sharer.waiting.pop_front());
+            let WaitingCall { is_long, sender: call } = match first {
                 Some(call) => call,
                 None => return,
             };
@@ -133,11 +141,14 @@ impl ConnectionPool {
             let pooled = PooledConnection { connection: Some(connection), is_clean: true, sharer, pool: self.clone() };
             match call.send(pooled) {
                 Ok(()) => {
-                    state.sharers[sharer].held += 1;
+                    state.sharers.entry(sharer).or_default().held += 1;
                     state.last = sharer;
                 }
                 // The call no longer waits.
-                Err(mut pooled) => state.idle.extend(pooled.connection.take()),
+                Err(mut pooled) => {
+                    state.idle.extend(pooled.connection.take());
+                    state.forget_idle(sharer);
+                }
             }
         }
     }
@@ -147,7 +158,7 @@ impl ConnectionPool {
         let mut state = self.state();
         state.is_closed = true;
         state.idle.clear();
-        for sharer in &mut state.sharers {
+        for sharer in state.sharers.values_mut() {
             sharer.waiting.clear();
         }
     }
@@ -180,7 +191,10 @@ impl Drop for PooledConnection {
             None => return,
         };
         let mut state = self.pool.state();
-        state.sharers[self.sharer].held -= 1;
+        if let Some(sharer) = state.sharers.get_mut(&self.sharer) {
+            sharer.held -= 1;
+        }
+        state.forget_idle(self.sharer);
         if self.is_clean && !state.is_closed {
             state.idle.push(connection);
             self.pool.hand_out(&mut state);
@@ -199,8 +213,8 @@ mod tests {
     use super::*;
     use std::time::Duration;
 
-    fn pool_of(connections: usize, sharers: usize) -> Arc<ConnectionPool> {
-        ConnectionPool::new((0..connections).map(|_| StoreConnection::new().unwrap().0).collect(), sharers)
+    fn pool_of(connections: usize) -> Arc<ConnectionPool> {
+        ConnectionPool::new((0..connections).map(|_| StoreConnection::new().unwrap().0).collect())
     }
 
     async fn soon(pool: &Arc<ConnectionPool>, sharer: usize) -> Option<PooledConnection> {
@@ -209,7 +223,7 @@ mod tests {
 
     #[tokio::test]
     async fn one_sharer_leaves_lines_for_the_others() {
-        let pool = pool_of(4, 3);
+        let pool = pool_of(4);
         let mine = [soon(&pool, 0).await.unwrap(), soon(&pool, 0).await.unwrap()];
         assert!(soon(&pool, 0).await.is_none());
         let other = soon(&pool, 1).await.unwrap();
@@ -220,8 +234,30 @@ mod tests {
     }
 
     #[tokio::test]
+    async fn sharers_take_turns_and_those_without_calls_are_forgotten() {
+        let (pool, served) = (pool_of(1), Arc::new(Mutex::new(Vec::new())));
+        let held = soon(&pool, 7).await.unwrap();
+        let waiting = [9, 1, usize::MAX, 1].map(|sharer| {
+            let (pool, served) = (pool.clone(), served.clone());
+            tokio::spawn(async move {
+                let _pooled = pool.take(sharer, false).await.unwrap();
+                served.lock().unwrap().push(sharer);
+            })
+        });
+        assert!(soon(&pool, 8).await.is_none());
+        let known: Vec<usize> = pool.state().sharers.keys().copied().collect();
+        assert_eq!(known, [1, 7, 8, 9, usize::MAX]);
+        drop(held);
+        for task in waiting {
+            task.await.unwrap();
+        }
+        assert_eq!(*served.lock().unwrap(), [1, 9, usize::MAX, 1]);
+        assert!(pool.state().sharers.is_empty());
+    }
+
+    #[tokio::test]
     async fn a_line_that_comes_back_goes_to_who_holds_the_fewest() {
-        let pool = pool_of(3, 2);
+        let pool = pool_of(3);
         let (mine, second) = (soon(&pool, 0).await.unwrap(), soon(&pool, 1).await.unwrap());
         let last = soon(&pool, 0).await;
         assert!(last.is_none());
@@ -237,7 +273,7 @@ mod tests {
 
     #[tokio::test]
     async fn long_bodies_have_lines_of_their_own_while_there_are_others() {
-        let pool = pool_of(5, 1);
+        let pool = pool_of(5);
         let is_wide = |pooled: &PooledConnection| pooled.connection.as_ref().unwrap().is_wide;
         let (long, short) = (pool.take(0, true).await.unwrap(), pool.take(0, false).await.unwrap());
         assert_eq!((is_wide(&long), is_wide(&short)), (true, false));
@@ -254,7 +290,7 @@ mod tests {
 
     #[tokio::test]
     async fn a_line_whose_exchange_is_broken_off_does_not_come_back() {
-        let pool = pool_of(1, 1);
+        let pool = pool_of(1);
         let mut pooled = soon(&pool, 0).await.unwrap();
         pooled.begin().unwrap();
         pooled.done();
