@@ -33,7 +33,7 @@ fn beginning(tenant: &str, prefix: &str) -> String {
 ///
 /// Fails if there is no such tenant, or the sender may read nothing of it.
 pub(super) fn page(visit: &Visit, tenant: &str) -> Result<Document, Fault> {
-    if !visit.registry.tenants.iter().any(|name| name == tenant) || !visit.caller.may_read_some_of(tenant) {
+    if !visit.registry.tenants.has(tenant) || !visit.caller.may_read_some_of(tenant) {
         return Err(unseen());
     }
     let (prefix, last) = (visit.query("prefix"), visit.query("last"));

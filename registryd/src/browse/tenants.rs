@@ -23,7 +23,7 @@ async fn usage(visit: &Visit, tenant: &str) -> Html {
 
 /// Makes the list of the tenants of which the sender may read something.
 pub(super) async fn page(visit: &Visit) -> Document {
-    let (last, mut names) = (visit.query("last"), visit.registry.tenants.clone());
+    let (last, mut names) = (visit.query("last"), visit.registry.tenants.names().to_vec());
     names.sort_unstable();
     let seen = names.into_iter().filter(|name| *name > last && visit.caller.may_read_some_of(name));
     let Page { items, more } = Page::of(seen, MOST);

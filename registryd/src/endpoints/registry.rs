@@ -31,6 +31,7 @@ use crate::start::provenance::Provenance;
 use crate::store::client::Store;
 use crate::store::frames::{Reason, Refusal};
 use crate::tenants::bounds::TenantBounds;
+use crate::tenants::served::ServedTenants;
 use hyper::StatusCode;
 use std::collections::BTreeMap;
 use std::sync::Arc;
@@ -71,7 +72,7 @@ pub(crate) struct Registry {
     pub(crate) metrics_access: MetricsAccess,
     /// The pages on which people browse the registry, if they are served.
     pub(crate) pages: Option<Arc<Pages>>,
-    pub(crate) tenants: Vec<String>,
+    pub(crate) tenants: Arc<ServedTenants>,
     pub(crate) slots: u32,
     /// The maximum length of a blob, in bytes.
     pub(crate) max_blob: u64,

@@ -2,6 +2,7 @@
 use crate::database::sqlite::FILE_NAME;
 use crate::folder::disk_room::DiskRoom;
 use crate::folder::log_end::is_of_log;
+use crate::tenants::served::ServedTenants;
 use std::io;
 use std::path::{Path, PathBuf};
 use std::sync::Arc;
@@ -9,8 +10,7 @@ use std::sync::Arc;
 /// The folder.
 pub(crate) struct Folder {
     path: PathBuf,
-    /// The tenants' names in the order of their bytes, by which the store numbers them.
-    tenants: Vec<String>,
+    tenants: Arc<ServedTenants>,
     /// The room on its disk.
     pub(crate) room: Arc<DiskRoom>,
 }
@@ -59,8 +59,7 @@ pub(crate) fn log_length(path: &Path) -> Option<u64> {
 
 impl Folder {
     /// Returns a folder with contents of these tenants.
-    pub(crate) fn new(path: PathBuf, room: Arc<DiskRoom>, mut tenants: Vec<String>) -> Folder {
-        tenants.sort_unstable();
+    pub(crate) fn new(path: PathBuf, room: Arc<DiskRoom>, tenants: Arc<ServedTenants>) -> Folder {
         Folder { path, tenants, room }
     }
 
@@ -70,7 +69,7 @@ impl Folder {
 
     /// Returns the path of the file of the content that the session of this number received, of the tenant with this number.
     pub(crate) fn content_file(&self, tenant: usize, number: u32) -> Option<PathBuf> {
-        Some(self.path.join(content_path(self.tenants.get(tenant)?, u64::from(number))))
+        Some(self.path.join(content_path(&self.tenants.at(tenant)?, u64::from(number))))
     }
 
     /// Returns the length of the log, in bytes.
@@ -106,7 +105,7 @@ mod tests {
 
     fn folder_at(path: PathBuf) -> Folder {
         let tenants = ["zeta", "acme", "acme-2"].map(str::to_string);
-        Folder::new(path.clone(), Arc::new(DiskRoom::new(path, 0, 0)), tenants.into())
+        Folder::new(path.clone(), Arc::new(DiskRoom::new(path, 0, 0)), ServedTenants::of(tenants))
     }
 
     #[test]

@@ -8,8 +8,9 @@ use crate::http::fault::Fault;
 use crate::metadata::names::tenant_of;
 use crate::moving::stage::{MoveRow, Stage};
 use crate::operation::locks::guard_of;
+use crate::tenants::served::ServedTenants;
 use std::collections::{HashMap, HashSet};
-use std::sync::{Arc, Mutex, MutexGuard};
+use std::sync::{Arc, Mutex};
 use std::time::{Duration, Instant};
 
 /// The time for which an attempt to close a tenant lets no new change begin. The command makes the next attempt sooner.
@@ -44,7 +45,9 @@ struct State {
 /// The moves of the tenants of a registry.
 #[derive(Default)]
 pub(crate) struct Moves {
-    by_tenant: HashMap<String, Arc<Mutex<State>>>,
+    tenants: Arc<ServedTenants>,
+    /// The states of tenants that a request changed, or that a command or the database named.
+    by_tenant: Mutex<HashMap<String, Arc<Mutex<State>>>>,
     writer: Option<Arc<Writer>>,
     /// Held while a stage changes.
     changing: tokio::sync::Mutex<()>,
@@ -116,24 +119,37 @@ impl Drop for Changing {
 
 impl Moves {
     /// Makes the table for these tenants, with the stages of a database.
-    pub(crate) fn new(tenants: &[String], writer: Option<Arc<Writer>>, rows: Vec<MoveRow>) -> Moves {
-        let mut by_tenant: HashMap<_, _> = tenants.iter().map(|tenant| (tenant.clone(), Arc::default())).collect();
+    pub(crate) fn new(tenants: Arc<ServedTenants>, writer: Option<Arc<Writer>>, rows: Vec<MoveRow>) -> Moves {
+        let mut by_tenant = HashMap::new();
         for MoveRow { tenant, stage, other, .. } in rows {
             tracing::warn!(%tenant, stage = stage.word(), %other, "the tenant is being moved, or was: clients do not write");
             by_tenant.insert(tenant, Arc::new(Mutex::new(State { stage: Some(stage), other, ..State::default() })));
         }
-        Moves { by_tenant, writer, changing: Default::default() }
+        Moves { tenants, by_tenant: Mutex::new(by_tenant), writer, changing: Default::default() }
     }
 
-    fn state(&self, tenant: &str) -> Result<MutexGuard<'_, State>, MoveFault> {
-        let found = self.by_tenant.get(tenant).ok_or_else(|| MoveFault::NoTenant(tenant.to_string()))?;
-        Ok(guard_of(found.lock()))
+    /// Returns the state of a tenant, if it is served or was moved.
+    fn find(&self, tenant: &str) -> Option<Arc<Mutex<State>>> {
+        let mut by_tenant = guard_of(self.by_tenant.lock());
+        match by_tenant.get(tenant) {
+            Some(found) => Some(found.clone()),
+            // Clients choose names.
+            None if !self.tenants.has(tenant) => None,
+            None => Some(by_tenant.entry(tenant.to_string()).or_default().clone()),
+        }
+    }
+
+    /// Calls `change` with the state of a tenant.
+    fn with_state<T>(&self, tenant: &str, change: impl FnOnce(&mut State) -> T) -> Result<T, MoveFault> {
+        let found = self.find(tenant).ok_or_else(|| MoveFault::NoTenant(tenant.to_string()))?;
+        let mut state = guard_of(found.lock());
+        Ok(change(&mut state))
     }
 
     /// Begins a change of a repository by a request. `is_mover` is whether the command sends it that moves the tenant. The store
     /// refuses a tenant that is unknown.
     pub(crate) fn begin(&self, repo: &str, kind: Kind, is_mover: bool) -> Result<Option<Changing>, Fault> {
-        let found = match self.by_tenant.get(tenant_of(repo)) {
+        let found = match self.find(tenant_of(repo)) {
             Some(found) => found,
             None => return Ok(None),
         };
@@ -145,7 +161,8 @@ impl Moves {
             Kind::Upload => state.uploads += 1,
             Kind::Other => state.others += 1,
         }
-        Ok(Some(Changing { state: found.clone(), kind }))
+        drop(state);
+        Ok(Some(Changing { state: found, kind }))
     }
 
     /// Begins a change of a repository by the registry itself. It may not begin if clients may not write.
@@ -155,21 +172,20 @@ impl Moves {
 
     /// Notes that a reply named a blob of a repository.
     pub(crate) fn note_blob(&self, repo: &str, digest: &str) {
-        if let Ok(mut state) = self.state(tenant_of(repo)) {
+        let _ = self.with_state(tenant_of(repo), |state| {
             if state.stage == Some(Stage::Copying) && state.named.len() < MOST_NAMED {
                 state.named.insert((repo.to_string(), digest.to_string()));
             }
-        }
+        });
     }
 
     /// Returns the blobs that replies named since the copy began.
     pub(crate) fn named(&self, tenant: &str) -> Vec<(String, String)> {
-        self.state(tenant).map_or(Vec::new(), |state| state.named.iter().cloned().collect())
+        self.with_state(tenant, |state| state.named.iter().cloned().collect()).unwrap_or_default()
     }
 
     pub(crate) fn show(&self, tenant: &str) -> Result<Shown, MoveFault> {
-        let state = self.state(tenant)?;
-        Ok(Shown {
+        self.with_state(tenant, |state| Shown {
             stage: state.stage,
             other: state.other.clone(),
             requests: state.uploads + state.others,
@@ -212,11 +228,12 @@ impl Moves {
         self.record(tenant, stage, other, arrival.as_ref()).await?;
         // A robot is accepted before a client writes.
         let arrived = arrival.map_or_else(Vec::new, Arrival::end);
-        let mut state = self.state(tenant)?;
-        (state.stage, state.other, state.closing_until) = (stage, other.to_string(), None);
-        if stage.is_none() {
-            state.named.clear();
-        }
+        self.with_state(tenant, |state| {
+            (state.stage, state.other, state.closing_until) = (stage, other.to_string(), None);
+            if stage.is_none() {
+                state.named.clear();
+            }
+        })?;
         Ok(arrived)
     }
 
@@ -283,11 +300,10 @@ impl Moves {
         open_uploads: impl Fn() -> usize,
     ) -> Result<(), MoveFault> {
         let _changing = self.changing.lock().await;
-        let other = {
-            let mut state = self.state(tenant)?;
+        let closed = self.with_state(tenant, |state| {
             match state.stage {
                 Some(Stage::Copying) => {}
-                Some(Stage::Closed | Stage::Left) => return Ok(()),
+                Some(Stage::Closed | Stage::Left) => return Ok(None),
                 None | Some(Stage::Arriving) => return Err(MoveFault::Stage(format!("no move of {tenant} has begun here"))),
             }
             state.closing_until = Some(Instant::now() + CLOSING);
@@ -296,19 +312,22 @@ impl Moves {
                 return Err(MoveFault::Busy { requests: state.others + state.uploads, uploads });
             }
             state.stage = Some(Stage::Closed);
-            state.other.clone()
+            Ok(Some(state.other.clone()))
+        });
+        let other = match closed?? {
+            Some(other) => other,
+            None => return Ok(()),
         };
         let recorded = self.record(tenant, Some(Stage::Closed), &other, None).await;
         if let Err(MoveFault::Write(WriteFailure::NoRoom)) = recorded {
-            self.state(tenant)?.stage = Some(Stage::Copying);
+            self.with_state(tenant, |state| state.stage = Some(Stage::Copying))?;
         }
         recorded
     }
 
     /// Lets changes begin again after attempts to close a tenant.
     pub(crate) fn resume(&self, tenant: &str) -> Result<(), MoveFault> {
-        self.state(tenant)?.closing_until = None;
-        Ok(())
+        self.with_state(tenant, |state| state.closing_until = None)
     }
 
     /// Notes that the target is about to get the tenant for good.
@@ -344,7 +363,7 @@ mod tests {
     use super::*;
 
     fn moves() -> (Moves, Robots) {
-        (Moves::new(&["acme".to_string(), "other".to_string()], None, Vec::new()), Robots::default())
+        (Moves::new(ServedTenants::of(["acme", "other"].map(str::to_string)), None, Vec::new()), Robots::default())
     }
 
     /// Returns whether a client and the command may change the tenant.
@@ -436,7 +455,8 @@ mod tests {
         let row = |stage| MoveRow { tenant: "acme".to_string(), stage, other: "x".to_string(), robots: Vec::new() };
         for (stage, expected) in [(Stage::Closed, (false, false)), (Stage::Left, (false, true)), (Stage::Arriving, (false, true))]
         {
-            assert_eq!(admits(&Moves::new(&["acme".to_string()], None, vec![row(stage)])), expected, "{stage:?}");
+            let served = ServedTenants::of(["acme".to_string()]);
+            assert_eq!(admits(&Moves::new(served, None, vec![row(stage)])), expected, "{stage:?}");
         }
     }
 }

@@ -37,8 +37,7 @@ impl Registry {
             tokio::time::sleep(CLOSE_REST).await;
         }
         tokio::time::sleep(CLOSE_REST).await;
-        let mut tenants = self.tenants.iter();
-        let repo = tenants.find_map(|tenant| self.repositories.page(tenant, "", 1).0.pop());
+        let repo = self.tenants.names().iter().find_map(|tenant| self.repositories.page(tenant, "", 1).0.pop());
         if let Some(repo) = repo {
             if let Ok(Ok(session)) = self.store.start_upload(&repo).await {
                 let name = self.uploads.add(&repo, session);

@@ -127,8 +127,9 @@ impl Registry {
 
     /// Returns the state of the store and of each tenant.
     async fn status(&self) -> Result<Value, StoreUnavailable> {
-        let mut tenants = Vec::with_capacity(self.tenants.len());
-        for tenant in &self.tenants {
+        let names = self.tenants.names();
+        let mut tenants = Vec::with_capacity(names.len());
+        for tenant in names.iter() {
             let (used, quota) = self.store.usage(tenant).await?.unwrap_or_default();
             let held = self.store.slot_use(tenant).await?.ok();
             let (totals, bounds) = (self.manifests.totals(tenant), self.bounds_of(tenant));
@@ -203,7 +204,7 @@ impl Registry {
     /// Returns the first repositories of a tenant after `last` in order, each with its first tags. Returns `None` if there
     /// is no such tenant.
     fn repositories_json(&self, tenant: &str, last: &str, most: usize) -> Option<Value> {
-        if !self.tenants.iter().any(|name| name == tenant) {
+        if !self.tenants.has(tenant) {
             return None;
         }
         let (names, more) = self.repositories.page(tenant, last, most);
@@ -236,7 +237,7 @@ impl Registry {
             events.queue.set_metrics();
         }
         self.note_syncs().await?;
-        self.metrics.text(&self.store, &self.tenants, self.slots, self.uploads.len()).await
+        self.metrics.text(&self.store, &self.tenants.names(), self.slots, self.uploads.len()).await
     }
 }
 

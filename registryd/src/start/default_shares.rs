@@ -6,6 +6,7 @@ use crate::operation::exit::{Failure, OTHER_SETTINGS};
 use crate::start::options::Options;
 use crate::store::calls::UNLIMITED;
 use crate::store::client::{Setup, Store};
+use crate::tenants::served::ServedTenants;
 use crate::tenants::words::Tenant;
 use std::collections::HashSet;
 use std::sync::Arc;
@@ -30,7 +31,12 @@ fn arguments(tenants: &[Tenant], default: Option<u64>, exempt: &HashSet<String>,
 }
 
 /// Starts the store with these arguments for its tenants.
-async fn start_with(options: &Options, writer: &Option<Arc<Writer>>, tenants: &[String]) -> Result<(Store, Child), Failure> {
+async fn start_with(
+    options: &Options,
+    served: &Arc<ServedTenants>,
+    writer: &Option<Arc<Writer>>,
+    tenants: &[String],
+) -> Result<(Store, Child), Failure> {
     let setup = Setup {
         blobd: &options.blobd,
         words: options.store_options(),
@@ -38,7 +44,7 @@ async fn start_with(options: &Options, writer: &Option<Arc<Writer>>, tenants: &[
         slots: options.slots,
         max_blob: options.max_blob,
         tenants,
-        names: options.tenant_names(),
+        served: served.clone(),
         connections: options.lines.into(),
         call: Duration::from_secs(options.call_s),
     };
@@ -51,24 +57,28 @@ async fn start_with(options: &Options, writer: &Option<Arc<Writer>>, tenants: &[
 /// Starts the store with a share for each tenant. If a tenant of the folder has more blobs than the default share, it has no
 /// share, so that a folder of an earlier version needs no other settings and takes pushes as before. To find these tenants,
 /// the store is started without default shares first.
-pub(super) async fn start_store(options: &Options, writer: Option<Arc<Writer>>) -> Result<(Store, Child), Failure> {
+pub(super) async fn start_store(
+    options: &Options,
+    served: &Arc<ServedTenants>,
+    writer: Option<Arc<Writer>>,
+) -> Result<(Store, Child), Failure> {
     let tenants = options.tenants();
     let default = default_share(options.slots, tenants.len());
     let with_exempt = |exempt: &HashSet<String>| arguments(&tenants, default, exempt, options.limits());
-    let failure = match start_with(options, &writer, &with_exempt(&HashSet::new())).await {
+    let failure = match start_with(options, served, &writer, &with_exempt(&HashSet::new())).await {
         Err(failure) if failure.status == OTHER_SETTINGS && has_defaults(&tenants, default) => failure,
         started => return started,
     };
     tracing::warn!("looking for tenants that have more blobs than the default share: the start takes longer");
     let all = tenants.iter().map(|tenant| tenant.name.clone()).collect();
-    let (store, child) = start_with(options, &writer, &with_exempt(&all)).await?;
+    let (store, child) = start_with(options, served, &writer, &with_exempt(&all)).await?;
     let exempt = larger_tenants(&store, &tenants, default).await;
     store.end(child).await?;
     let exempt = exempt.ok_or_else(|| Failure::new("the store did not reply while the registry started"))?;
     if exempt.is_empty() {
         return Err(failure);
     }
-    start_with(options, &writer, &with_exempt(&exempt)).await
+    start_with(options, served, &writer, &with_exempt(&exempt)).await
 }
 
 /// Returns whether a tenant has the default share.

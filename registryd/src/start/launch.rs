@@ -41,6 +41,7 @@ use crate::store::client::Store;
 use crate::store::process;
 use crate::tenants::bounds::TenantBounds;
 use crate::tenants::reload::TenantFile;
+use crate::tenants::served::ServedTenants;
 use std::net::SocketAddr;
 use std::path::PathBuf;
 use std::sync::Arc;
@@ -194,7 +195,8 @@ pub(crate) async fn start(options: &Options, files: Files, address: SocketAddr) 
     // It may lie in the folder.
     let control = options.control.as_deref().map(ControlSocket::bind).transpose()?;
     capacity::warn_of_sums(&options.tenants(), options.slots, options.data.as_deref());
-    let (store, child) = default_shares::start_store(options, writer.clone()).await?;
+    let served = ServedTenants::of(options.tenant_names());
+    let (store, child) = default_shares::start_store(options, &served, writer.clone()).await?;
     let (child, recovered) = recover(&store, child, opened).await?;
     let Tables { uploads, repositories, manifests, loose_blobs, robots, pulls_since, cached, moves, database } =
         Tables::new(recovered, &writer, &queue, options.limits())?;
@@ -211,8 +213,8 @@ pub(crate) async fn start(options: &Options, files: Files, address: SocketAddr) 
         loose: options.keep_untagged.map_or_else(LooseBlobs::default, |_| LooseBlobs::new(writer.clone(), loose_blobs)),
         mirrors: upstreams.map_or_else(Mirrors::default, |upstreams| upstreams.mirrors(options, &metrics)),
         cached,
-        moves: Moves::new(&options.tenant_names(), writer.clone(), moves),
-        folder: options.data.clone().zip(room).map(|(path, room)| Folder::new(path, room, options.tenant_names())),
+        moves: Moves::new(served.clone(), writer.clone(), moves),
+        folder: options.data.clone().zip(room).map(|(path, room)| Folder::new(path, room, served.clone())),
         disk_probe: options.data.as_deref().map(|path| Arc::new(DiskProbe::new(path))),
         scrub: options.data.clone().and_then(|path| Some(Scrub::new(path, options.scrub_pace()?, damaged.clone(), &metrics))),
         damaged,
@@ -223,7 +225,7 @@ pub(crate) async fn start(options: &Options, files: Files, address: SocketAddr) 
         provenance,
         metrics_access: options.metrics_access(),
         pages: options.browse.then(|| Pages::new(is_tls).map(Arc::new)).transpose()?,
-        tenants: options.tenant_names(),
+        tenants: served,
         slots: options.slots,
         max_blob: options.max_blob,
         hashes_once: options.data.is_some() && !options.sha512,

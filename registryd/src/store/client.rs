@@ -8,7 +8,7 @@ use crate::store::frames::{Command, Refusal, Reply, Request};
 use crate::store::pool::{ConnectionPool, PoolError, PooledConnection};
 use crate::store::undo::{undo_on, Undo};
 use crate::store::{connection, process};
-use std::collections::HashMap;
+use crate::tenants::served::{ServedTenants, OWN_SHARER};
 use std::ffi::OsString;
 use std::io;
 use std::os::unix::io::AsRawFd;
@@ -19,11 +19,6 @@ use std::time::Duration;
 use tokio::process::Child;
 use tokio::sync::Notify;
 use tokio::time::{timeout_at, Instant};
-
-/// The numbers of the sharers that are no tenants: the program itself, and all unknown tenants together. The tenants have the next ones.
-const OWN: usize = 0;
-const UNKNOWN: usize = 1;
-const FIRST_TENANT: usize = 2;
 
 /// The time limit of a health probe.
 const PROBE_TIME: Duration = Duration::from_secs(5);
@@ -39,8 +34,7 @@ pub(crate) struct Setup<'a> {
     pub(crate) max_blob: u64,
     /// Arguments of the form `TENANT=QUOTA` or `TENANT=QUOTA,BLOBS`.
     pub(crate) tenants: &'a [String],
-    /// The tenants' names.
-    pub(crate) names: Vec<String>,
+    pub(crate) served: Arc<ServedTenants>,
     /// The number of connections, which is the maximum number of calls at once.
     pub(crate) connections: usize,
     /// The time limit of a call.
@@ -50,8 +44,8 @@ pub(crate) struct Setup<'a> {
 /// The store. A call uses one connection, and waits until its sharer may get one.
 pub(crate) struct Store {
     pool: Arc<ConnectionPool>,
-    /// The number of each tenant among the sharers of the connections.
-    sharers: HashMap<String, usize>,
+    /// The tenants, which share the connections.
+    served: Arc<ServedTenants>,
     /// The time limit of a call.
     pub(crate) limit: Duration,
     writer: Option<Arc<Writer>>,
@@ -122,10 +116,9 @@ impl Store {
         }
         // From here on only the other side has its ends, so that this side sees when they are closed.
         drop(peer_ends);
-        let sharers = setup.names.into_iter().zip(FIRST_TENANT..).collect();
         let pool = ConnectionPool::new(connections);
         let (end_notice, has_ended) = (Notify::new(), AtomicBool::new(false));
-        Ok((Store { pool, sharers, limit: setup.call, writer: setup.writer, end_notice, has_ended }, child))
+        Ok((Store { pool, served: setup.served, limit: setup.call, writer: setup.writer, end_notice, has_ended }, child))
     }
 
     /// Waits until the store has ended.
@@ -140,17 +133,17 @@ impl Store {
 
     /// Returns the sharer number of a repository's tenant.
     pub(crate) fn sharer(&self, repo: &str) -> usize {
-        self.sharers.get(tenant_of(repo)).copied().unwrap_or(UNKNOWN)
+        self.served.sharer(tenant_of(repo))
     }
 
     /// Returns whether a repository's tenant exists.
     pub(crate) fn has_tenant(&self, repo: &str) -> bool {
-        self.sharers.contains_key(tenant_of(repo))
+        self.served.has(tenant_of(repo))
     }
 
     /// Returns the sharer number of the program itself.
     pub(crate) fn own(&self) -> usize {
-        OWN
+        OWN_SHARER
     }
 
     /// Handles a failed connection: the store has ended.
@@ -239,7 +232,8 @@ impl Store {
 
     /// Returns whether the store replies in a short time.
     pub(crate) async fn replies(&self) -> bool {
-        let tenant = self.sharers.keys().next().map_or("", String::as_str);
+        let names = self.served.names();
+        let tenant = names.first().map_or("", String::as_str);
         let request = Request { repo: tenant, ..Request::new(Command::Usage) };
         self.ask_own(self.limit.min(PROBE_TIME), request).await.is_ok()
     }

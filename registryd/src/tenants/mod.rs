@@ -3,4 +3,5 @@ pub(crate) mod bounds;
 mod changes;
 pub(crate) mod file;
 pub(crate) mod reload;
+pub(crate) mod served;
 pub(crate) mod words;
