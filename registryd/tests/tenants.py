@@ -56,8 +56,15 @@ def link_to_nothing(path):
     os.symlink(f"{path}.none", path)
 
 
+def terabyte(path):
+    """Makes a file of one terabyte that takes no room."""
+    with open(path, "wb") as file:
+        file.truncate(1 << 40)
+
+
 # What may be in the place of the file, and what is said of it.
-NO_FILES = ((None, "No such file or directory"), (os.mkdir, "not a regular file"), (fifo, "not a regular file"), (link_to_nothing, "No such file or directory"))
+NO_FILES = ((None, "No such file or directory"), (os.mkdir, "not a regular file"), (fifo, "not a regular file"), (link_to_nothing, "No such file or directory"),
+            (terabyte, "longer than 67108864 bytes"))
 
 
 def as_nobody():
@@ -252,7 +259,7 @@ def changes_that_take_a_restart(serve):
                 verb = "read" if "duplicate" in why else "change"
                 server.reload(f"cannot {verb} the tenants: {file}: {why}{KEPT}")
                 assert limits_of(client) == before, others
-        assert putting(client, "new/a", "v1", index_of(50)).status == 404
+        assert serve is STUB or putting(client, "new/a", "v1", index_of(50)).status == 404
         # Lines may change their order.
         write(file, "x=3", "# tenants", "other=2000000 tags=7", "acme=1000000,5")
         server.reload(AGAIN)

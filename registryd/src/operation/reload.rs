@@ -29,20 +29,27 @@ impl<T> FromFile<T> {
     }
 }
 
+/// The maximum length of a file, in bytes. Its content is in memory while it is read.
+const MOST_BYTES: u64 = 64 << 20;
+
 /// Reads a regular file. The open of a pipe would wait for a writer, and its content could not be read again.
 ///
 /// # Errors
 ///
 /// - The file cannot be opened or read.
 /// - It is not a regular file.
+/// - It is longer than 64 MiB.
 pub(crate) fn read_file(path: &Path) -> io::Result<Vec<u8>> {
-    let mut file = OpenOptions::new().read(true).custom_flags(libc::O_NONBLOCK).open(path)?;
+    let file = OpenOptions::new().read(true).custom_flags(libc::O_NONBLOCK).open(path)?;
     if !file.metadata()?.is_file() {
         return Err(io::Error::new(io::ErrorKind::InvalidInput, "not a regular file"));
     }
     let mut bytes = Vec::new();
-    file.read_to_end(&mut bytes)?;
-    Ok(bytes)
+    file.take(MOST_BYTES + 1).read_to_end(&mut bytes)?;
+    match bytes.len() as u64 > MOST_BYTES {
+        true => Err(io::Error::new(io::ErrorKind::InvalidInput, format!("longer than {MOST_BYTES} bytes"))),
+        false => Ok(bytes),
+    }
 }
 
 /// Reads a regular file whose content is UTF-8.
@@ -135,6 +142,17 @@ fn reload_each(values: &[(&'static str, Arc<dyn Reload>)]) {
 mod tests {
     use super::*;
     use std::sync::Mutex;
+
+    #[test]
+    fn a_file_has_a_greatest_length() {
+        let path = std::env::temp_dir().join(format!("registryd-long-{}", std::process::id()));
+        let file = std::fs::File::create(&path).unwrap();
+        file.set_len(MOST_BYTES).unwrap();
+        assert_eq!(read_file(&path).unwrap().len() as u64, MOST_BYTES);
+        file.set_len(1 << 40).unwrap();
+        assert_eq!(read_file(&path).unwrap_err().to_string(), "longer than 67108864 bytes");
+        std::fs::remove_file(path).unwrap();
+    }
 
     #[test]
     fn a_value_that_cannot_be_read_stays() {
