@@ -1,5 +1,5 @@
 #!/usr/bin/env python3
-"""Measures how long small commands of blobd take beside a sweep that frees many blobs.
+"""Measures how long small commands of blobd take during a sweep that frees many blobs.
 
 A store has as many slots as blobs are uploaded, and twice. All blobs lose their links, so that half of the slots are condemned by one
 sweep. Two connections are used: one sends the sweep, and the other opens and abandons an upload again and again, each request after
