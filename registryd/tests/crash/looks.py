@@ -16,9 +16,11 @@ READERS = 4
 class Look(Asker):
     """Reads everything after a start. What it finds is what the clients know from then on."""
 
-    def __init__(self, server, facts, seed):
+    def __init__(self, server, facts, seed, finds_no_room=False):
+        """`finds_no_room`: one write of the database may find no room meanwhile, after which the registry goes on."""
         super().__init__("look", facts, seed)
         self.server, self.wrong, self.comparisons, self.in_flight = server, [], 0, 0
+        self.finds_no_room = finds_no_room
         self.own = threading.local()
 
     @property
@@ -66,8 +68,12 @@ class Look(Asker):
         self.compares(f"the referrers of {repository} that were answered are listed", not missing, missing)
         for digest in self.facts.keys("manifest", repository):
             self.manifest(repository, digest)
-        # Each manifest that is there was asked for by its digest, so it is listed.
+        # Each manifest that is there was asked for by its digest, so it is listed. If there was no room to list it, it is asked for again.
         referrers = self.referrers(repository)
+        if self.finds_no_room and referrers != self.facts.referrers(repository):
+            for digest in self.facts.referrers(repository) - referrers:
+                self.manifest(repository, digest)
+            referrers = self.referrers(repository)
         self.compares(f"the referrers of {repository} are those that are there", referrers == self.facts.referrers(repository), referrers)
         for digest in self.facts.keys("blob", repository):
             self.blob(repository, digest)

@@ -138,9 +138,9 @@ class Lane:
         self.servers[-1].may_end = failing is not None
         return self.servers[-1]
 
-    def looks(self, server):
+    def looks(self, server, finds_no_room=False):
         """Compares everything. Returns what is wrong."""
-        look = Look(server, self.folder.facts, self.rng.random())
+        look = Look(server, self.folder.facts, self.rng.random(), finds_no_room)
         try:
             return look.everything()
         except WRONG:
@@ -210,7 +210,7 @@ class Lane:
         server, kind = self.starts("--sync", policy, failing=setting), self.rng.choice(["failure", "loss"])
         try:
             server.is_ready()
-            self.reports(self.looks(server))
+            self.reports(self.looks(server, "CRASH_FAIL_DATABASE_WRITE" in setting))
             self.works(server, policy, LONGEST, "instant")
         except (Fault, Interrupted):
             # the message of a fault is that of a start, or of clients that find no other fault
