@@ -161,7 +161,6 @@ async fn begin(
     let robots = before.robots.filter(|_| room.robots.is_some());
     target.begin(&Step::Receive { other: from.clone(), replace: *replace, robots: robots.clone() }).await?;
     let state = source.begin(&Step::Copy { other: to.clone() }).await?;
-    warn_of_robots(options, source, target, robots.as_deref().unwrap_or_default()).await?;
     Ok((state.stage, robots))
 }
 
@@ -181,13 +180,7 @@ impl Move {
         }
         Ok(())
     }
-    for robot in target.robots(false).await?.iter().filter(|name| !at_source.contains(name)) {
-        print(&format!("warning: {robot} has rights in {tenant} at {to}, and does not exist at {from}"));
-    }
-    Ok(())
-}
 
-impl Move {
     /// Copies everything. If it fails, clients write at the source again.
     async fn copy_or_undo(&mut self) -> Result<(), String> {
         let copied = tokio::select! {
@@ -208,6 +201,7 @@ impl Move {
 
     /// Copies everything, the rest of it while writes wait.
     async fn copy(&mut self) -> Result<(), String> {
+        self.warn_of_robots().await?;
         let begun = Instant::now();
         let tally = self.copy_most(begun).await?;
         print(&format!("copied {} in {:.1} s", text(&tally), begun.elapsed().as_secs_f64()));
