@@ -126,10 +126,14 @@ class Skopeo(Pushing):
 
 
 def tags(client, repo):
-    """Returns the tags of a repository."""
-    answer = client.ask("GET", f"/v2/{repo}/tags/list?n=1000")
-    assert answer.status == 200 and not answer["Link"], (repo, answer.status)
-    return json.loads(answer.body)["tags"]
+    """Returns the tags of a repository, of all pages of the list."""
+    found, path = [], f"/v2/{repo}/tags/list?n=1000"
+    while path:
+        answer = client.ask("GET", path)
+        assert answer.status == 200, (repo, answer.status)
+        found += json.loads(answer.body)["tags"]
+        path = answer["Link"] and answer["Link"].removeprefix("<").partition(">")[0]
+    return found
 
 
 def check_listed(client, repo):
