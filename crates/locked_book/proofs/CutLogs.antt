@@ -16,7 +16,7 @@ use Rattle.log_records.proofs.Cuts.{cuts, one_way, read_back}
 use Rattle.noted_logs.specs.Noted.{kept_change}
 use Rattle.noted_logs.proofs.Noting.{notes_determine}
 use Rattle.store_model.specs.Catalog.{Catalog, Tenant}
-use Rattle.store_model.specs.Durable.{Agrees, BlobLinked, BlobStored, BlobUnlinked, Change, ChunkReceived, ManifestDeleted, ManifestPut, NumberSet, RepoAdded, RepoRemoved, SessionDropped, SessionOpened, SessionSealed, TakenChunks, after_changes, change_of, changes_of, initial_durable, taken_after_steps}
+use Rattle.store_model.specs.Durable.{Agrees, BlobLinked, BlobStored, BlobUnlinked, Change, ChunkReceived, ManifestDeleted, ManifestPut, NumberSet, RepoAdded, RepoRemoved, SessionDropped, SessionOpened, SessionSealed, TakenSessions, after_changes, change_of, changes_of, initial_durable, taken_after_steps}
 use Rattle.store_model.specs.Histories.{Step}
 use Rattle.store_model.proofs.Durable.Crashes.{stores_survive_crashes}
 use Rattle.locked_book.specs.CutLogs.{AgreesByNotes, CutLogsRestore, SameLogsRestart, changes_in, logged_in}
@@ -146,7 +146,7 @@ kept_same names steps history kept lost bytes rest is fit fit_all split read =
     ∙ ap (map (kept_change files)) front
 
 -- changes that are kept alike leave a new store in states of which one agrees with what the other agrees with, up to notes
-agrees_by_notes : (files : Bool) (tenants : List Tenant) (mine kept : List Change) (taken : TakenChunks) (C : Catalog) → map (kept_change files) mine ≡ map (kept_change files) kept →
+agrees_by_notes : (files : Bool) (tenants : List Tenant) (mine kept : List Change) (taken : TakenSessions) (C : Catalog) → map (kept_change files) mine ≡ map (kept_change files) kept →
     Agrees taken (after_changes (initial_durable tenants) mine) C → AgreesByNotes files taken (after_changes (initial_durable tenants) kept) C
 agrees_by_notes false tenants mine kept taken C same agrees =
     subst (λ (cs : List Change). Agrees taken (after_changes (initial_durable tenants) cs) C) (sym (kept_whole mine) ∙ same ∙ kept_whole kept) agrees

@@ -40,7 +40,7 @@ use Rattle.spec_lib.proofs.Outcomes.{bound_ok, not_refused, some_of_ok}
 use Rattle.store_model.specs.Catalog.{Catalog, CheckedOutWith, Chunks, HandRecord, Session, SessionNumber, Tenant, charged_length, holds, next_number_of, open_sessions, tenant_of, limits_of, ContentRules}
 use Rattle.store_model.specs.Commands as commands
 use Rattle.store_model.specs.Commands.{Outcome}
-use Rattle.store_model.specs.Durable.{Agrees, AreReturnedAsTaken, BlobLinked, BlobStored, BlobUnlinked, Change, ChunkReceived, DurableState, ManifestDeleted, ManifestPut, NumberSet, RepoAdded, RepoRemoved, SessionDropped, SessionOpened, SessionSealed, TakenChunks, change_of, changes_of, chunk_change, command_change, filled_chunk, mount_change, session_key, taken_after_step}
+use Rattle.store_model.specs.Durable.{Agrees, AreReturnedAsTaken, BlobLinked, BlobStored, BlobUnlinked, Change, ChunkReceived, DurableState, ManifestDeleted, ManifestPut, NumberSet, RepoAdded, RepoRemoved, SessionDropped, SessionOpened, SessionSealed, TakenSessions, change_of, changes_of, chunk_change, command_change, filled_chunk, mount_change, session_key, taken_after_step}
 use Rattle.store_model.specs.Histories.{AreSteps, CommandCall, FinishCall, MayLeadTo, PutBackCall, State, Step, SweepCall, SweepPartCall, TakeCall, initial_state}
 use Rattle.store_model.specs.Invariant.{Sound, WellFormed}
 use Rattle.store_model.specs.Recovery.{FillsReserve, IsWellFormedStep}
@@ -385,7 +385,7 @@ cons_fits : (tenants : List Tenant) (o : Option Change) (cs : List Change) → I
 cons_fits tenants None cs one rest = rest
 cons_fits tenants (Some c) cs one rest = (one, rest)
 
-steps_fit : (tenants : List Tenant) (steps : List Step) (taken : TakenChunks) (D : DurableState) (s s' : State) → Agrees taken D s.catalog → D.tenants ≡ tenants → Sound s.catalog → AreSteps s steps s' → AreReturnedAsTaken taken steps →
+steps_fit : (tenants : List Tenant) (steps : List Step) (taken : TakenSessions) (D : DurableState) (s s' : State) → Agrees taken D s.catalog → D.tenants ≡ tenants → Sound s.catalog → AreSteps s steps s' → AreReturnedAsTaken taken steps →
     AllByRecursion IsWellFormedStep steps → AllByRecursion (Describes tenants) (changes_of tenants steps)
 steps_fit tenants [] taken D s s' a same sound run returned right = tt
 steps_fit tenants (step ∷ steps) taken D s s' a same sound run returned right =

@@ -7,7 +7,7 @@ use Rattle.log_records.specs.Changes as logged
 use Rattle.log_records.specs.Laws.{AreChangesIn}
 use Rattle.noted_logs.specs.Noted.{HaveSameNotes}
 use Rattle.store_model.specs.Catalog.{Catalog}
-use Rattle.store_model.specs.Durable.{Agrees, Change, DurableState, TakenChunks, after_changes, changes_of, taken_after_steps}
+use Rattle.store_model.specs.Durable.{Agrees, Change, DurableState, TakenSessions, after_changes, changes_of, taken_after_steps}
 use Rattle.store_model.specs.Histories.{State, Step}
 use Rattle.store_model.specs.Recovery.{SurvivesCrash}
 use Rattle.locked_book.specs.History.{steps_of}
@@ -21,7 +21,7 @@ changes_in names entries = changes_of names.setting.tenants (steps_of entries)
 
 -- the changes of these entries, as the log describes them
 abbrev pub logged_in : StoreNames → List (Entry Step) → List logged.Change
-logged_in names entries = logged_changes names.longest names.setting.tenants (steps_of entries)
+logged_in names entries = logged_changes names.longest (steps_of entries)
 
 -- The bytes are read as the first changes of a history, with a rest that no record begins. A store that starts with
 -- these changes has its state after some first steps of the history. If the bytes have all records of some first
@@ -43,13 +43,13 @@ CutLogsRestore = (names : StoreNames) (history : List (Entry Step)) (s : State) 
     RestoresFirstSteps names history bytes
 
 -- a catalog agrees with a durable state or, if contents may lie in files, with one that has the same notes
-abbrev pub AgreesByNotes : Bool → TakenChunks → DurableState → Catalog → Type 0
+abbrev pub AgreesByNotes : Bool → TakenSessions → DurableState → Catalog → Type 0
 AgreesByNotes false taken D C = Agrees taken D C
 AgreesByNotes true taken D C = (E : DurableState) × HaveSameNotes E D × Agrees taken E C
 
 -- The bytes restore first steps of a history, and a state agrees with the durable state after their changes: up to the
 -- notes of contents, if these may lie in files.
-pub record IsRestartOf (names : StoreNames) (history : List (Entry Step)) (bytes : List ℕ) (taken : TakenChunks) (s : State) : Type 0 where
+pub record IsRestartOf (names : StoreNames) (history : List (Entry Step)) (bytes : List ℕ) (taken : TakenSessions) (s : State) : Type 0 where
   pub restores : RestoresFirstSteps names history bytes
   pub agrees : AgreesByNotes (is_some names.longest) taken (after_changes (opening_state names) restores.kept) s.catalog
 

@@ -1,33 +1,24 @@
 -- What the log records of a step, and which steps it promises to be durable.
-use Rattle.std.specs.Prelude.{◌≡◌, ℕ, ◌+◌, ◌||◌, ◌&&◌, nat_lt, Bool, true, false, List, [], ◌∷◌, Option, None, Some, Result, Ok, Err, is_some, get_or, length, sum_by}
-use Rattle.std.specs.Option.{option_map, option_map_or}
+use Rattle.std.specs.Prelude.{◌≡◌, ℕ, ◌+◌, ◌||◌, ◌&&◌, nat_lt, Bool, true, false, List, [], ◌∷◌, Option, None, Some, Result, Ok, Err, is_some, length, sum_by}
+use Rattle.std.specs.Option.{option_map_or}
 use Rattle.content_files.specs.Chunks.{chunk_notes}
 use Rattle.blob_digest.specs.Names.{tenant_name}
 use Rattle.blob_digest.specs.declared.refusal.Refusal.{Refusal}
 use Rattle.log_records.specs.Changes as logged
 use Rattle.log_records.specs.Records.{record_bytes}
 use Rattle.spec_lib.specs.Texts.{Text}
-use Rattle.store_model.specs.Catalog.{HandRecord, Tenant}
-use Rattle.store_model.specs.Durable.{BlobLinked, BlobStored, BlobUnlinked, Change, ChunkReceived, ManifestDeleted, ManifestPut, NumberSet, RepoAdded, RepoRemoved, SessionDropped, SessionOpened, SessionSealed, change_of, filled_chunk, session_key}
+use Rattle.store_model.specs.Catalog.{HandRecord}
+use Rattle.store_model.specs.Durable.{filled_chunk}
 use Rattle.store_model.specs.Histories.{CommandCall, FinishCall, PutBackCall, Step}
-use Rattle.store_model.specs.Runs.{Abandon, Append, Close, Command, Delete, DeleteManifest, Mount as MountCommand, PutManifest, RemoveRepo, Start}
+use Rattle.store_model.specs.Runs.{Abandon, Answer, Append, Close, Command, Delete, DeleteManifest, Mount as MountCommand, Mounting, Number, PutManifest, RemoveRepo, Start}
 use Rattle.store_model.specs.declared.mount.Mount.{Mount}
 use Rattle.store_model.specs.declared.mount.Mount.TheVariants as mount
 use Rattle.locked_book.specs.declared.call.Call.{Call}
 use Rattle.locked_book.specs.declared.call.Call.TheVariants as call
 use Rattle.locked_book.specs.declared.policy.LogPolicy.{LogPolicy}
 use Rattle.locked_book.specs.declared.policy.LogPolicy.TheVariants as policy
-use Rattle.blob_digest.specs.Tenants.{no_tenant}
 
 -- ---- the records of changes
-
--- the tenant at a position, or one without a name
-abbrev pub tenant_at : List Tenant → ℕ → Tenant
-tenant_at tenants t = get_or tenants t (no_tenant)
-
--- the name of the tenant at a position
-abbrev pub name_at : List Tenant → ℕ → Text
-name_at tenants t = (tenant_at tenants t).name
 
 -- a chunk as the log describes it: with its bytes or, if it is noted, with the notes of its pieces
 abbrev pub logged_chunk : Bool → Text → ℕ → Text → logged.Change
@@ -39,20 +30,28 @@ abbrev pub logged_seal : Bool → Text → ℕ → Text → Text → logged.Chan
 logged_seal false tenant number digest last = logged.SessionSealed tenant number digest last
 logged_seal true tenant number digest last = logged.SealNoted tenant number digest (chunk_notes last)
 
--- a change as the log describes it: with the tenant's name in place of its position, and with bytes or notes
-abbrev pub logged_change : List Tenant → Bool → Change → logged.Change
-logged_change tenants noted (SessionOpened repo key) = logged.SessionOpened repo key.1
-logged_change tenants noted (ChunkReceived key bytes) = logged_chunk noted (name_at tenants key.0) key.1 bytes
-logged_change tenants noted (SessionSealed key digest last) = logged_seal noted (name_at tenants key.0) key.1 digest last
-logged_change tenants noted (SessionDropped key) = logged.SessionDropped (name_at tenants key.0) key.1
-logged_change tenants noted (BlobLinked repo digest) = logged.BlobLinked repo digest
-logged_change tenants noted (BlobUnlinked repo digest) = logged.BlobUnlinked repo digest
-logged_change tenants noted (ManifestPut repo bytes) = logged.ManifestPut repo bytes
-logged_change tenants noted (ManifestDeleted repo digest) = logged.ManifestDeleted repo digest
-logged_change tenants noted (RepoRemoved repo) = logged.RepoRemoved repo
-logged_change tenants noted (RepoAdded repo) = logged.RepoAdded repo
-logged_change tenants noted (NumberSet t n) = logged.NumberSet (name_at tenants t) n
-logged_change tenants noted (BlobStored digest bytes) = logged.BlobStored digest bytes
+-- a chunk as the log describes it, or none if it is empty
+abbrev pub logged_if_any : Bool → Text → ℕ → Text → Option logged.Change
+logged_if_any noted tenant number [] = None
+logged_if_any noted tenant number (b ∷ bytes) = Some (logged_chunk noted tenant number (b ∷ bytes))
+
+-- a mount as the log describes it: the link, or the session that it opened
+abbrev pub logged_mount : Text → Text → Mount → logged.Change
+logged_mount repo digest mount.Mounted = logged.BlobLinked repo digest
+logged_mount repo digest (mount.Session number) = logged.SessionOpened repo number
+
+-- an accepted command as the log describes it, or none if it changes nothing durable
+abbrev pub logged_command : Command → Answer → Option logged.Change
+logged_command (Start r) (Number n) = Some (logged.SessionOpened r n)
+logged_command (Append r n g b) a = logged_if_any false (tenant_name r) n b
+logged_command (Close r n d g b) a = Some (logged_seal false (tenant_name r) n d b)
+logged_command (Abandon r n) a = Some (logged.SessionDropped (tenant_name r) n)
+logged_command (MountCommand r d from) (Mounting m) = Some (logged_mount r d m)
+logged_command (Delete r d) a = Some (logged.BlobUnlinked r d)
+logged_command (PutManifest r b) a = Some (logged.ManifestPut r b)
+logged_command (DeleteManifest r m) a = Some (logged.ManifestDeleted r m)
+logged_command (RemoveRepo r) a = Some (logged.RepoRemoved r)
+logged_command command a = None
 
 -- the length of a hand's session with its new chunk
 abbrev pub hand_length : HandRecord → ℕ
@@ -73,17 +72,20 @@ is_beyond (Some longest) len = nat_lt longest len
 abbrev pub is_noted : Option ℕ → Step → Bool
 is_noted longest step = is_beyond longest (length_after step)
 
--- a step's change as the log describes it, or none if the step changes nothing durable
-abbrev pub logged_step : Option ℕ → List Tenant → Step → Option logged.Change
-logged_step longest tenants step = option_map (logged_change tenants (is_noted longest step)) (change_of tenants step)
+-- a step as the log describes it, or none if it changes nothing durable; a session is named by its tenant's name and its number
+abbrev pub logged_step : Option ℕ → Step → Option logged.Change
+logged_step longest (CommandCall command (Ok a)) = logged_command command a
+logged_step longest (PutBackCall h (Ok n)) = logged_if_any (is_noted longest (PutBackCall h (Ok n))) (tenant_name h.repo) h.key.1 (filled_chunk h)
+logged_step longest (FinishCall h d (Ok n)) = Some (logged_seal (is_noted longest (FinishCall h d (Ok n))) (tenant_name h.repo) h.key.1 d (filled_chunk h))
+logged_step longest step = None
 
--- the record of a change, or nothing if there is no change
-abbrev pub change_bytes : List Tenant → Bool → Option Change → List ℕ
-change_bytes tenants noted change = option_map_or (λ c. record_bytes (logged_change tenants noted c)) change []
+-- the record of what the log describes, or nothing
+abbrev pub change_bytes : Option logged.Change → List ℕ
+change_bytes change = option_map_or record_bytes change []
 
--- the record of a step's change, or nothing if the step changes nothing durable
-abbrev pub step_bytes : Option ℕ → List Tenant → Step → List ℕ
-step_bytes longest tenants step = change_bytes tenants (is_noted longest step) (change_of tenants step)
+-- the record of a step, or nothing if the step changes nothing durable
+abbrev pub step_bytes : Option ℕ → Step → List ℕ
+step_bytes longest step = change_bytes (logged_step longest step)
 
 -- what the log of a store with this policy gets of these bytes: a store without a log has no records
 abbrev pub logged_by : LogPolicy → List ℕ → List ℕ
@@ -91,8 +93,8 @@ logged_by policy.NoLog bytes = []
 logged_by p bytes = bytes
 
 -- what the log of a store with this policy records of a step
-abbrev pub recorded_bytes : LogPolicy → Option ℕ → List Tenant → Step → List ℕ
-recorded_bytes p longest tenants step = logged_by p (step_bytes longest tenants step)
+abbrev pub recorded_bytes : LogPolicy → Option ℕ → Step → List ℕ
+recorded_bytes p longest step = logged_by p (step_bytes longest step)
 
 -- ---- promises
 
@@ -144,8 +146,7 @@ promises p step = (promises_changes p && is_change step) || (promises_chunks p &
 
 -- the record of a chunk, or nothing if the chunk is empty
 abbrev pub chunk_record_bytes : Bool → Text → ℕ → Text → List ℕ
-chunk_record_bytes noted tenant number [] = []
-chunk_record_bytes noted tenant number (b ∷ bytes) = record_bytes (logged_chunk noted tenant number (b ∷ bytes))
+chunk_record_bytes noted tenant number bytes = change_bytes (logged_if_any noted tenant number bytes)
 
 -- what the log records of a chunk of a tenant's session
 abbrev pub chunk_bytes : LogPolicy → Bool → Text → ℕ → Text → List ℕ
@@ -157,20 +158,19 @@ seal_bytes p noted tenant number digest last = logged_by p (record_bytes (logged
 
 -- the record of a mount: of the link, or of the session that it opened
 abbrev pub mount_bytes : Text → Text → Mount → List ℕ
-mount_bytes repo digest mount.Mounted = record_bytes (logged.BlobLinked repo digest)
-mount_bytes repo digest (mount.Session number) = record_bytes (logged.SessionOpened repo number)
+mount_bytes repo digest m = record_bytes (logged_mount repo digest m)
 
 -- what the log records of a put of a manifest
 abbrev pub manifest_bytes : LogPolicy → Text → Text → List ℕ
 manifest_bytes p repo bytes = logged_by p (record_bytes (logged.ManifestPut repo bytes))
 
 -- what the log records of a check-in that succeeds
-abbrev pub check_in_bytes : LogPolicy → Option ℕ → List Tenant → HandRecord → List ℕ
-check_in_bytes p longest tenants hand = recorded_bytes p longest tenants (PutBackCall hand (Ok 0))
+abbrev pub check_in_bytes : LogPolicy → Option ℕ → HandRecord → List ℕ
+check_in_bytes p longest hand = recorded_bytes p longest (PutBackCall hand (Ok 0))
 
 -- what the log records of a finish that succeeds
-abbrev pub finish_bytes : LogPolicy → Option ℕ → List Tenant → HandRecord → Text → List ℕ
-finish_bytes p longest tenants hand digest = recorded_bytes p longest tenants (FinishCall hand digest (Ok 0))
+abbrev pub finish_bytes : LogPolicy → Option ℕ → HandRecord → Text → List ℕ
+finish_bytes p longest hand digest = recorded_bytes p longest (FinishCall hand digest (Ok 0))
 
 -- these bytes if a call succeeded, or none
 abbrev pub bytes_if_ok : {A : Type 0} → Result A Refusal → List ℕ → List ℕ
@@ -179,14 +179,9 @@ bytes_if_ok (Err e) bytes = []
 
 -- ---- names
 
--- the hand is of the session with this number of the repository's tenant
-abbrev pub IsHandOf : List Tenant → Text → ℕ → HandRecord → Type 0
-IsHandOf tenants repo number hand = (name_at tenants hand.key.0 ≡ tenant_name repo) × (hand.key.1 ≡ number)
-
--- if the step abandons a session, the key of its session names the repository's tenant
-abbrev pub NamesTenant : List Tenant → Step → Type 0
-NamesTenant tenants (CommandCall (Abandon r n) (Ok a)) = name_at tenants (session_key tenants r n).0 ≡ tenant_name r
-NamesTenant tenants step = Unit {0}
+-- the hand is of the session with this number in the repository
+abbrev pub IsHandOf : Text → ℕ → HandRecord → Type 0
+IsHandOf repo number hand = (hand.repo ≡ repo) × (hand.key.1 ≡ number)
 
 -- ---- calls by what is recorded of them
 

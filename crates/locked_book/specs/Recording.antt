@@ -10,7 +10,7 @@ use Rattle.locked_book.specs.declared.policy.LogPolicy.{LogPolicy}
 
 -- these bytes are what the log of a store records of a step
 abbrev pub IsRecord : StoreNames → List ℕ → Step → Type 0
-IsRecord names bytes step = bytes ≡ recorded_bytes names.policy names.longest names.setting.tenants step
+IsRecord names bytes step = bytes ≡ recorded_bytes names.policy names.longest step
 
 -- if the log records, these bytes are what it records of a step
 abbrev pub IsRecordOf : StoreNames → BacklogView Step → List ℕ → Step → Type 0

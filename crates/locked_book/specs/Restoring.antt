@@ -7,7 +7,6 @@ use Rattle.durable_log.specs.Encoding.{encode}
 use Rattle.durable_log.specs.Views.{DeviceView}
 use Rattle.log_records.specs.Changes as logged
 use Rattle.log_records.specs.Records.{records_bytes}
-use Rattle.store_model.specs.Catalog.{Tenant}
 use Rattle.store_model.specs.Durable.{Agrees, AgreesAfter, AreReturnedAsTaken, DurableState, initial_durable}
 use Rattle.store_model.specs.Histories.{IsLegal, State, Step}
 use Rattle.locked_book.specs.History.{DeskView, LogLeadsTo, SeesAll, steps_of}
@@ -17,11 +16,11 @@ use Rattle.locked_book.specs.Returns.{AreWellFormed}
 
 -- the records of a history, in order
 abbrev pub records_of : StoreNames → List (Entry Step) → List ℕ
-records_of names history = encode (recorded_bytes names.policy names.longest names.setting.tenants) history
+records_of names history = encode (recorded_bytes names.policy names.longest) history
 
--- the changes of steps, as the log describes them
-abbrev pub logged_changes : Option ℕ → List Tenant → List Step → List logged.Change
-logged_changes longest tenants steps = filter_map (logged_step longest tenants) steps
+-- steps as the log describes them
+abbrev pub logged_changes : Option ℕ → List Step → List logged.Change
+logged_changes longest steps = filter_map (logged_step longest) steps
 
 -- the durable state of a store before its first step
 abbrev pub opening_state : StoreNames → DurableState
@@ -32,7 +31,7 @@ opening_state names = initial_durable names.setting.tenants
 -- store survives crashes (`StoresSurviveCrashes`).
 pub record IsRestorable (names : StoreNames) (history : List (Entry Step)) (s : State) : Type 0 where
   pub leads : LogLeadsTo names.opening history s
-  pub records : has_log names.policy ≡ true → records_of names history ≡ records_bytes (logged_changes names.longest names.setting.tenants (steps_of history))
+  pub records : has_log names.policy ≡ true → records_of names history ≡ records_bytes (logged_changes names.longest (steps_of history))
   pub agrees : AgreesAfter fmap.empty (opening_state names) (steps_of history) s.catalog
   pub opens : OpensNew names
   pub opening : Agrees fmap.empty (opening_state names) names.opening

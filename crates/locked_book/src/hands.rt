@@ -39,7 +39,7 @@ impl<S: Naming> Kept<S> {
     ) -> Result<Hand, Refusal>
         ensures does { ChecksOut repo.now number range len result self.old self.new }
         ensures ends { IfOk result (λ h. EndsWithRange h len range) }
-        ensures names { IfOk result (λ h. IsHandOf S.names.setting.tenants repo.now number h) }
+        ensures names { IfOk result (λ h. IsHandOf repo.now number h) }
         ensures makes { MakesCheckOut S.names repo.now number range len result desk.old desk.new }
     {
         let result = check_out(
@@ -65,8 +65,7 @@ impl<S: Naming> Kept<S> {
         hand: Hand,
         bytes: Vec<u8>,
     ) -> Result<u64, Refusal>
-        requires bytes { bytes.items ≡ check_in_bytes S.names.policy S.names.longest
-            S.names.setting.tenants hand }
+        requires bytes { bytes.items ≡ check_in_bytes S.names.policy S.names.longest hand }
         requires filled { hand.last ≢ None }
         requires held { IsHeld hand desk.old.trace.own }
         ensures does { ChecksIn hand result self.old self.new }
@@ -124,8 +123,7 @@ impl<S: Naming> Kept<S> {
         sealing: Sealing,
         bytes: Vec<u8>,
     ) -> Result<u64, Refusal>
-        requires bytes { bytes.items ≡ finish_bytes S.names.policy S.names.longest
-            S.names.setting.tenants hand digest.now }
+        requires bytes { bytes.items ≡ finish_bytes S.names.policy S.names.longest hand digest.now }
         requires table { pins.now ≡ S.names.table }
         requires full { HasNoOpenReserve hand }
         requires held { IsHeld hand desk.old.trace.own }

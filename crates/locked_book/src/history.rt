@@ -203,7 +203,6 @@ impl<S: Naming> History<S> {
     /// The record is made from the call. If there is no memory for it, the log is closed.
     pub fn add(&mut self, writer: &mut HistoryWriter<S>, call: Call<'_>)
         requires small { IsSmall call }
-        requires tenant { NamesTenant S.names.setting.tenants (step_of call) }
         requires allows { Allows S.names.opening self.old (step_of call) }
         ensures adds { Adds S.names.opening writer.old (step_of call.entry) writer.new }
         ensures all { writer.new.seen ≡ self.new }
@@ -364,8 +363,8 @@ impl<S: Naming> History<S> {
         writer: &mut HistoryWriter<S>,
     )
         requires legal { IsLegal S.names.opening (steps_of self.old) }
-        requires synced { IsSynced (recorded_bytes S.names.policy S.names.longest
-            S.names.setting.tenants) S.names.log.base device.old }
+        requires synced { IsSynced (recorded_bytes S.names.policy S.names.longest)
+            S.names.log.base device.old }
         requires seen { writer.old.seen ≡ device.old.taken }
         ensures same { self.new ≡ self.old }
         ensures device { device.new ≡ device.old }

@@ -82,8 +82,8 @@ impl<S: Naming> Kept<S> {
         device: &mut LogDevice<Step, StoreLog<S>, D>,
         desk: &mut Desk<S>,
     )
-        requires synced { IsSynced (recorded_bytes S.names.policy S.names.longest
-            S.names.setting.tenants) S.names.log.base device.old }
+        requires synced { IsSynced (recorded_bytes S.names.policy S.names.longest)
+            S.names.log.base device.old }
         requires seen { desk.old.trace.seen ≡ device.old.taken }
         ensures same { self.new ≡ self.old }
         ensures device { device.new ≡ device.old }

@@ -37,7 +37,7 @@ impl<S: Naming> durable_log::Naming<Step> for StoreLog<S> {
 
     ghost names = { S.names.log };
 
-    ghost bytes = { recorded_bytes S.names.policy S.names.longest S.names.setting.tenants };
+    ghost bytes = { recorded_bytes S.names.policy S.names.longest };
 
     ghost promises = { promises S.names.policy };
 }

@@ -167,9 +167,8 @@ pub fn append_call<S: Naming>(
     call: &Call<'_>,
 ) -> Result<(), Refusal>
     requires small { IsSmall call.now }
-    requires tenant { NamesTenant S.names.setting.tenants (step_of call.now) }
     ensures ok { OnOk result (out.new.items ≡ out.old.items
-        ++ step_bytes S.names.longest S.names.setting.tenants (step_of call.now)) }
+        ++ step_bytes S.names.longest (step_of call.now)) }
 {
     match call {
         Call::Start(repo, Ok(number)) => append_opened(out, repo, *number),
@@ -192,7 +191,6 @@ pub fn record_call<S: Naming>(
 )
     requires policy { policy ≡ S.names.policy }
     requires small { IsSmall call.now }
-    requires tenant { NamesTenant S.names.setting.tenants (step_of call.now) }
     ensures same { (backlog.new.history ≡ backlog.old.history) ×
         (backlog.new.writers ≡ backlog.old.writers) }
     ensures bytes { IsRecordOf S.names backlog.new bytes.new.items (step_of call.now) }

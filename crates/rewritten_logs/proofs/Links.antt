@@ -11,7 +11,7 @@ use Rattle.spec_lib.specs.Texts.{Text}
 use Rattle.spec_lib.proofs.Outcomes.{bound_ok}
 use Rattle.store_model.specs.Catalog.{Catalog, Tenant}
 use Rattle.store_model.specs.Commands as commands
-use Rattle.store_model.specs.Durable.{Agrees, AreReturnedAsTaken, BlobLinked, Change, DurableState, TakenChunks, after_change, change_of, changes_of, chunk_change, command_change, filled_chunk, mount_change, session_key, taken_after_step}
+use Rattle.store_model.specs.Durable.{Agrees, AreReturnedAsTaken, BlobLinked, Change, DurableState, TakenSessions, after_change, change_of, changes_of, chunk_change, command_change, filled_chunk, mount_change, session_key, taken_after_step}
 use Rattle.store_model.specs.Histories.{AreSteps, CommandCall, FinishCall, MayLeadTo, PutBackCall, State, Step, SweepCall, SweepPartCall, TakeCall, initial_state}
 use Rattle.store_model.specs.Runs as runs
 use Rattle.store_model.specs.Runs.{Answer, Command, outcome}
@@ -41,7 +41,7 @@ LinksKept D (c ∷ cs) = IsLinkKept D c × LinksKept (after_change D c) cs
 
 -- ---- steps
 
-module _ (taken : TakenChunks) (D : DurableState) (C : Catalog) (a : Agrees taken D C) where
+module _ (taken : TakenSessions) (D : DurableState) (C : Catalog) (a : Agrees taken D C) where
   abbrev Kept : Change → Type 0
   Kept c = IsLinkKept D c
 
@@ -83,7 +83,7 @@ module _ (taken : TakenChunks) (D : DurableState) (C : Catalog) (a : Agrees take
   command_kept (runs.RemoveRepo r) x X is = tt
   command_kept (runs.Lease r d) x X is = tt
 
-step_kept : (taken : TakenChunks) (D : DurableState) (s : State) (step : Step) (X : Catalog) → Agrees taken D s.catalog → MayLeadTo s step X → IfSome (change_of s.catalog.tenants step) (IsLinkKept D)
+step_kept : (taken : TakenSessions) (D : DurableState) (s : State) (step : Step) (X : Catalog) → Agrees taken D s.catalog → MayLeadTo s step X → IfSome (change_of s.catalog.tenants step) (IsLinkKept D)
 step_kept taken D s (CommandCall command (Ok x)) X a leaves = command_kept taken D s.catalog a command x X leaves
 step_kept taken D s (CommandCall command (Err e)) X a leaves = tt
 step_kept taken D s (SweepCall swept) X a leaves = tt
@@ -100,7 +100,7 @@ cons_kept : (D : DurableState) (o : Option Change) (cs : List Change) → IfSome
 cons_kept D None cs one rest = rest
 cons_kept D (Some c) cs one rest = (one, rest)
 
-steps_kept : (tenants : List Tenant) (steps : List Step) (taken : TakenChunks) (D : DurableState) (s s' : State) → Agrees taken D s.catalog → D.tenants ≡ tenants → AreSteps s steps s' → AreReturnedAsTaken taken steps →
+steps_kept : (tenants : List Tenant) (steps : List Step) (taken : TakenSessions) (D : DurableState) (s s' : State) → Agrees taken D s.catalog → D.tenants ≡ tenants → AreSteps s steps s' → AreReturnedAsTaken taken steps →
     LinksKept D (changes_of tenants steps)
 steps_kept tenants [] taken D s s' a same run returned = tt
 steps_kept tenants (step ∷ steps) taken D s s' a same run returned =

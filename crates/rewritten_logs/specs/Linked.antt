@@ -5,7 +5,7 @@ use Rattle.std.specs.Option.{option_map}
 use Rattle.noted_logs.specs.Noted.{AreNotedContents, noted_session}
 use Rattle.spec_lib.specs.Sets as set
 use Rattle.store_model.specs.Catalog.{Catalog, Link, SessionNumber}
-use Rattle.store_model.specs.Durable.{Agrees, DurableState, TakenChunks}
+use Rattle.store_model.specs.Durable.{Agrees, DurableState, TakenSessions}
 
 -- a link of the state
 abbrev pub IsLinkOf : DurableState → Link → Type 0
@@ -26,5 +26,5 @@ abbrev pub HaveSameLinkedNotes : DurableState → DurableState → Type 0
 HaveSameLinkedNotes D E = (N : DurableState) × IsNotedWhereLinked D N × IsNotedWhereLinked E N
 
 -- a catalog agrees with a durable state that has the same notes as this one, but for contents without a link
-abbrev pub AgreesByLinkedNotes : TakenChunks → DurableState → Catalog → Type 0
+abbrev pub AgreesByLinkedNotes : TakenSessions → DurableState → Catalog → Type 0
 AgreesByLinkedNotes taken D C = (E : DurableState) × HaveSameLinkedNotes E D × Agrees taken E C

@@ -14,7 +14,7 @@ use Rattle.log_state.specs.Reading.{LeaveSameState}
 use Rattle.rewritten_logs.specs.Linked.{AgreesByLinkedNotes}
 use Rattle.spec_lib.specs.Texts.{Text}
 use Rattle.store_model.specs.Catalog.{Tenant}
-use Rattle.store_model.specs.Durable.{TakenChunks, after_changes, taken_after_steps}
+use Rattle.store_model.specs.Durable.{TakenSessions, after_changes, taken_after_steps}
 use Rattle.store_model.specs.Histories.{State, Step}
 
 -- the names of tenants
@@ -29,7 +29,7 @@ pub data IsReplacedBy (names : List Text) : List ℕ → List ℕ → Type 0 whe
       IsReplacedBy names (written ++ more) base
 
 -- A store restores first steps of a history, as its log was rewritten: the bytes are first bytes of what the store of the history wrote.
-pub record IsRewrittenRestart (names : StoreNames) (history : List (Entry Step)) (bytes : List ℕ) (taken : TakenChunks) (s : State) : Type 0 where
+pub record IsRewrittenRestart (names : StoreNames) (history : List (Entry Step)) (bytes : List ℕ) (taken : TakenSessions) (s : State) : Type 0 where
   pub restores : RestoresFirstSteps names history bytes
   pub agrees : AgreesByLinkedNotes taken (after_changes (opening_state names) restores.kept) s.catalog
 

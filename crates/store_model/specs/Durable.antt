@@ -167,45 +167,45 @@ changes_of tenants steps = filter_map (change_of tenants) steps
 
 -- ---- hands that are returned as they were taken
 
--- the chunks that each session had when it was checked out last
-abbrev pub TakenChunks : Type 0
-TakenChunks = fmap.FinMap session_number_cmp (List Text)
+-- the repository and the chunks that each session had when it was checked out last
+abbrev pub TakenSessions : Type 0
+TakenSessions = fmap.FinMap session_number_cmp (Text × List Text)
 
--- the taken chunks after a step
-abbrev pub taken_after_step : TakenChunks → Step → TakenChunks
-taken_after_step taken (TakeCall r n g len (Ok h)) = fmap.insert taken h.key h.chunks
+-- the taken sessions after a step
+abbrev pub taken_after_step : TakenSessions → Step → TakenSessions
+taken_after_step taken (TakeCall r n g len (Ok h)) = fmap.insert taken h.key (h.repo, h.chunks)
 taken_after_step taken step = taken
 
--- the taken chunks after a list of steps
-abbrev pub taken_after_steps : TakenChunks → List Step → TakenChunks
+-- the taken sessions after a list of steps
+abbrev pub taken_after_steps : TakenSessions → List Step → TakenSessions
 taken_after_steps taken steps = fold taken_after_step taken steps
 
--- a hand that is checked in or finished has the chunks with which its session was checked out
-abbrev pub IsReturnedAsTaken : TakenChunks → Step → Type 0
-IsReturnedAsTaken taken (PutBackCall h reply) = fmap.get taken h.key ≡ Some h.chunks
-IsReturnedAsTaken taken (FinishCall h d reply) = fmap.get taken h.key ≡ Some h.chunks
+-- a hand that is checked in or finished has the repository and the chunks with which its session was checked out
+abbrev pub IsReturnedAsTaken : TakenSessions → Step → Type 0
+IsReturnedAsTaken taken (PutBackCall h reply) = fmap.get taken h.key ≡ Some (h.repo, h.chunks)
+IsReturnedAsTaken taken (FinishCall h d reply) = fmap.get taken h.key ≡ Some (h.repo, h.chunks)
 IsReturnedAsTaken taken step = Unit {0}
 
 -- every hand of a list of steps is returned as it was taken
-abbrev pub AreReturnedAsTaken : TakenChunks → List Step → Type 0
+abbrev pub AreReturnedAsTaken : TakenSessions → List Step → Type 0
 AreReturnedAsTaken taken [] = Unit {0}
 AreReturnedAsTaken taken (step ∷ steps) =
     IsReturnedAsTaken taken step × AreReturnedAsTaken (taken_after_step taken step) steps
 
 -- ---- agreement of a durable state and a catalog
 
--- the durable chunks are those of the checked-in session, or those with which the session was checked out
-abbrev pub AgreesOnChunks : Option (List Text) → Chunks → List Text → Type 0
-AgreesOnChunks taken (CheckedIn chunks) durable = chunks ≡ durable
-AgreesOnChunks taken (CheckedOutWith received reserved) durable =
-    (received ≡ sum_by length durable) × (taken ≡ Some durable)
+-- the durable chunks are those of the checked-in session of a repository, or those with which it was checked out
+abbrev pub AgreesOnChunks : Option (Text × List Text) → Text → Chunks → List Text → Type 0
+AgreesOnChunks taken repo (CheckedIn chunks) durable = chunks ≡ durable
+AgreesOnChunks taken repo (CheckedOutWith received reserved) durable =
+    (received ≡ sum_by length durable) × (taken ≡ Some (repo, durable))
 
 -- the durable session is the catalog's, with no empty chunk, or neither exists
-abbrev pub AgreesOnSession : Option (List Text) → Option Session → Option Session → Type 0
+abbrev pub AgreesOnSession : Option (Text × List Text) → Option Session → Option Session → Type 0
 AgreesOnSession taken durable None = durable ≡ None
 AgreesOnSession taken durable (Some s) =
     (chunks : List Text) × (durable ≡ Some (checked_in_session s.repo chunks))
-    × AllByRecursion (λ c. c ≢ []) chunks × AgreesOnChunks taken s.chunks chunks
+    × AllByRecursion (λ c. c ≢ []) chunks × AgreesOnChunks taken s.repo s.chunks chunks
 
 -- a digest has a stored blob, whose bytes are the durable content
 abbrev pub AgreesOnContent : fmap.FinMap text_cmp Text → fmap.FinMap text_cmp Resident → Text → Type 0
@@ -213,7 +213,7 @@ AgreesOnContent contents residents digest =
     (b : Resident) × (fmap.get residents digest ≡ Some b) × (fmap.get contents digest ≡ Some b.bytes)
 
 -- the durable state and the catalog have the same session under a key, or none
-abbrev pub AgreesOnKey : TakenChunks → DurableState → Catalog → SessionNumber → Type 0
+abbrev pub AgreesOnKey : TakenSessions → DurableState → Catalog → SessionNumber → Type 0
 AgreesOnKey taken D C key = AgreesOnSession (fmap.get taken key) (fmap.get D.sessions key) (fmap.get C.sessions key)
 
 -- a repository of the catalog
@@ -224,8 +224,8 @@ IsRepo C repo = set.contains C.repos repo ≡ true
 abbrev pub IsLink : Catalog → Link → Type 0
 IsLink C l = set.contains C.links l ≡ true
 
--- A durable state agrees with a catalog whose checked-out sessions were taken with these chunks.
-pub record Agrees (taken : TakenChunks) (D : DurableState) (C : Catalog) : Type 0 where
+-- A durable state agrees with a catalog whose checked-out sessions were taken so.
+pub record Agrees (taken : TakenSessions) (D : DurableState) (C : Catalog) : Type 0 where
   pub tenants : D.tenants ≡ C.tenants
   pub repos : D.repos ≡ C.repos
   pub links : D.links ≡ C.links
@@ -242,12 +242,12 @@ pub record Agrees (taken : TakenChunks) (D : DurableState) (C : Catalog) : Type 
 -- ---- the theorems
 
 -- the durable state after the changes of the steps agrees with a catalog
-abbrev pub AgreesAfter : TakenChunks → DurableState → List Step → Catalog → Type 0
+abbrev pub AgreesAfter : TakenSessions → DurableState → List Step → Catalog → Type 0
 AgreesAfter taken D steps C = Agrees (taken_after_steps taken steps) (after_changes D (changes_of D.tenants steps)) C
 
 -- A durable state that agrees with a state also agrees with it after further steps, if their changes are applied to it.
 abbrev pub LogsExtend : Type 0
-LogsExtend = (taken : TakenChunks) (D : DurableState) (s : State) (steps : List Step) (s' : State) →
+LogsExtend = (taken : TakenSessions) (D : DurableState) (s : State) (steps : List Step) (s' : State) →
     Agrees taken D s.catalog → AreSteps s steps s' → AreReturnedAsTaken taken steps → AgreesAfter taken D steps s'.catalog
 
 -- The changes of a legal history of a new store, applied to the initial durable state, agree with the catalog at the end.

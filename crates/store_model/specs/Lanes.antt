@@ -37,10 +37,10 @@ hand_after held step = held
 abbrev pub held_hand : List Step → Option HandRecord
 held_hand steps = fold hand_after None steps
 
--- the hand has the key and the chunks of the held one
+-- the hand has the key, the repository and the chunks of the held one
 abbrev pub IsHeldHand : Option HandRecord → HandRecord → Type 0
 IsHeldHand held hand =
-    (taken : HandRecord) × (held ≡ Some taken) × (hand.key ≡ taken.key) × (hand.chunks ≡ taken.chunks)
+    (taken : HandRecord) × (held ≡ Some taken) × (hand.key ≡ taken.key) × (hand.repo ≡ taken.repo) × (hand.chunks ≡ taken.chunks)
 
 -- a lane with these steps holds the hand
 abbrev pub IsHeld : HandRecord → List Step → Type 0

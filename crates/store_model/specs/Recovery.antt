@@ -6,7 +6,7 @@ use Rattle.blob_digest.specs.Slots.{greatest_slots}
 use Rattle.spec_lib.specs.Sets as set
 use Rattle.spec_lib.specs.Texts.{Text, text_cmp}
 use Rattle.store_model.specs.Catalog.{Catalog, HandRecord, Resident, Session, SessionNumber, Tenant, charged_length, held_count, opening, quota_of, share_of, used_bytes, ContentRules}
-use Rattle.store_model.specs.Durable.{Agrees, AreReturnedAsTaken, BlobLinked, BlobStored, Change, ChunkReceived, DurableState, IsTornLog, ManifestPut, NumberSet, RepoAdded, SessionOpened, TakenChunks, after_changes, changes_of, initial_durable}
+use Rattle.store_model.specs.Durable.{Agrees, AreReturnedAsTaken, BlobLinked, BlobStored, Change, ChunkReceived, DurableState, IsTornLog, ManifestPut, NumberSet, RepoAdded, SessionOpened, TakenSessions, after_changes, changes_of, initial_durable}
 use Rattle.store_model.specs.Histories.{CommandCall, FinishCall, LeadsTo, PutBackCall, State, Step}
 use Rattle.store_model.specs.Invariant.{Sound, WellFormed}
 use Rattle.store_model.specs.Runs.{repo_of}
@@ -56,7 +56,7 @@ pub record IsRestored (D : DurableState) (C : Catalog) (slots : ℕ) (contents :
 -- A store restarts with a durable state that agrees with a sound catalog, if neither the slots nor the limit on blobs are lowered, and contents lie
 -- where they did.
 abbrev pub StoresRestart : Type 0
-StoresRestart = (taken : TakenChunks) (D : DurableState) (C : Catalog) → Agrees taken D C → Sound C →
+StoresRestart = (taken : TakenSessions) (D : DurableState) (C : Catalog) → Agrees taken D C → Sound C →
     (slots : ℕ) (contents : ContentRules) → C.slots ≤ slots → slots ≤ greatest_slots → C.contents.max_blob ≤ contents.max_blob → contents.max_blob ≤ 2 ^ 40 → contents.on_disk ≡ C.contents.on_disk →
     IsRestored D C slots contents
 
@@ -101,7 +101,7 @@ IsSoundRestart D slots contents =
 
 -- A store restarts with other settings that its durable state fits, if contents lie where they did.
 abbrev pub StoresRestartWithOtherSettings : Type 0
-StoresRestartWithOtherSettings = (taken : TakenChunks) (D : DurableState) (C : Catalog) →
+StoresRestartWithOtherSettings = (taken : TakenSessions) (D : DurableState) (C : Catalog) →
     Agrees taken D C → WellFormed C → (tenants : List Tenant) (slots : ℕ) (contents : ContentRules) →
     CanRestore D tenants slots contents → contents.on_disk ≡ C.contents.on_disk → IsSoundRestart (with_tenants D tenants) slots contents
 
@@ -156,11 +156,11 @@ abbrev pub rewritten_state : DurableState → DurableState
 rewritten_state D = after_changes (initial_durable D.tenants) (rewritten_log D)
 
 -- the rewritten log rebuilds the durable state except for contents without a link, and agrees with the catalog C
-pub record IsRewritten (taken : TakenChunks) (D : DurableState) (C : Catalog) : Type 0 where
+pub record IsRewritten (taken : TakenSessions) (D : DurableState) (C : Catalog) : Type 0 where
   pub same : rewritten_state D ≡ record D { contents = linked_contents D }
   pub agrees : Agrees taken (rewritten_state D) C
 
 -- If a durable state agrees with a well-formed catalog, so does its rewritten log.
 abbrev pub RewrittenLogsAgree : Type 0
-RewrittenLogsAgree = (taken : TakenChunks) (D : DurableState) (C : Catalog) →
+RewrittenLogsAgree = (taken : TakenSessions) (D : DurableState) (C : Catalog) →
     Agrees taken D C → WellFormed C → IsRewritten taken D C

@@ -5,7 +5,7 @@ use Rattle.std.specs.FinMap as fmap
 use Rattle.std.specs.List.{AllByRecursion, cons_option}
 use Rattle.store_model.specs.Catalog.{Catalog, Tenant, opening, ContentRules}
 use Rattle.store_model.specs.Commands.{fits_stored, has_slot}
-use Rattle.store_model.specs.Durable.{Agrees, AreReturnedAsTaken, BlobLinked, BlobUnlinked, Change, ChunkReceived, DurableState, IsReturnedAsTaken, ManifestDeleted, ManifestPut, RepoRemoved, SessionDropped, SessionOpened, SessionSealed, TakenChunks, after_change, after_changes, change_of, changes_of, command_change, initial_durable}
+use Rattle.store_model.specs.Durable.{Agrees, AreReturnedAsTaken, BlobLinked, BlobUnlinked, Change, ChunkReceived, DurableState, IsReturnedAsTaken, ManifestDeleted, ManifestPut, RepoRemoved, SessionDropped, SessionOpened, SessionSealed, TakenSessions, after_change, after_changes, change_of, changes_of, command_change, initial_durable}
 use Rattle.store_model.specs.Histories.{LeadsTo, MayLeadTo, State, Step}
 use Rattle.store_model.specs.Invariant.{Sound}
 use Rattle.store_model.specs.Noninterference.{commands_of, replies}
@@ -48,7 +48,7 @@ pub record HasReplay (D : DurableState) (C : Catalog) (change : Change) : Type 0
   pub sound : Sound catalog
 
 -- A step that recorded the change may lead from the state s to the catalog X, and the durable state agrees with s before it.
-pub record IsRecordedStep (taken : TakenChunks) (D : DurableState) (s : State) (step : Step) (X : Catalog) (change : Change) : Type 0 where
+pub record IsRecordedStep (taken : TakenSessions) (D : DurableState) (s : State) (step : Step) (X : Catalog) (change : Change) : Type 0 where
   pub agrees : Agrees taken D s.catalog
   pub sound : Sound s.catalog
   pub leaves : MayLeadTo s step X
@@ -58,7 +58,7 @@ pub record IsRecordedStep (taken : TakenChunks) (D : DurableState) (s : State) (
 
 -- The change of a step has a replay in every store that agrees with the durable state before the step and has room.
 abbrev pub ChangesHaveReplays : Type 0
-ChangesHaveReplays = (taken : TakenChunks) (D : DurableState) (s : State) (step : Step) (X : Catalog)
+ChangesHaveReplays = (taken : TakenSessions) (D : DurableState) (s : State) (step : Step) (X : Catalog)
     (change : Change) → IsRecordedStep taken D s step X change →
     (C : Catalog) → Agrees fmap.empty D C → Sound C → C.contents ≡ s.catalog.contents →
     HasRoomFor D C change → HasReplay D C change

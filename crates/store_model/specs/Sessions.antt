@@ -173,8 +173,9 @@ content_in sessions key last = concat (chunks_in sessions key) ++ last
 
 -- ---- checked-out sessions
 
--- a hand: the key and chunks of a checked-out session, the length reserved for one more chunk, and that chunk once it is filled in
+-- a hand: the repository, the key and the chunks of a checked-out session, the length reserved for one more chunk, and that chunk once it is filled in
 pub record HandRecord : Type 0 where
+  pub repo : Text
   pub key : SessionNumber
   pub chunks : List Text
   pub reserved : ℕ
@@ -182,7 +183,7 @@ pub record HandRecord : Type 0 where
 
 -- the encoding of hands
 abbrev pub coded_taken : Coded HandRecord
-coded_taken = code_by ((SessionNumber × List Text) × (ℕ × Option Text)) (coded× (coded× (coded× coded_ℕ coded_ℕ) (coded_list coded_text)) (coded× coded_ℕ (coded_option coded_text))) (λ h. ((h.key, h.chunks), (h.reserved, h.last))) (λ p. record { key = p.0.0; chunks = p.0.1; reserved = p.1.0; last = p.1.1 }) (λ _. refl)
+coded_taken = code_by ((Text × (SessionNumber × List Text)) × (ℕ × Option Text)) (coded× (coded× coded_text (coded× (coded× coded_ℕ coded_ℕ) (coded_list coded_text))) (coded× coded_ℕ (coded_option coded_text))) (λ h. ((h.repo, (h.key, h.chunks)), (h.reserved, h.last))) (λ p. record { repo = p.0.0; key = p.0.1.0; chunks = p.0.1.1; reserved = p.1.0; last = p.1.1 }) (λ _. refl)
 
 -- whether the chunks are those of a checked-in session
 abbrev pub are_checked_in : Chunks → Bool
@@ -194,9 +195,13 @@ abbrev pub is_checked_in : Option Session → Bool
 is_checked_in None = false
 is_checked_in (Some s) = are_checked_in s.chunks
 
+-- the repository of the session under a key, or no name
+abbrev pub repo_in : Sessions → SessionNumber → Text
+repo_in sessions key = option_map_or (λ s. s.repo) (fmap.get sessions key) []
+
 -- the hand of the session under a key, with n bytes reserved
 abbrev pub hand_in : Sessions → SessionNumber → ℕ → HandRecord
-hand_in sessions key n = record { key = key; chunks = chunks_in sessions key; reserved = n; last = None }
+hand_in sessions key n = record { repo = repo_in sessions key; key = key; chunks = chunks_in sessions key; reserved = n; last = None }
 
 -- the sessions after the session under a key was checked out, with n bytes reserved
 abbrev pub after_take_in : Sessions → SessionNumber → ℕ → Sessions

@@ -14,7 +14,7 @@ use Rattle.spec_lib.proofs.Sets.{member, now, still, was_member}
 use Rattle.spec_lib.proofs.Sums.{get-remove_same}
 use Rattle.store_model.specs.Catalog.{Catalog, CheckedIn, Link, Resident, Session, SessionNumber, link_cmp}
 use Rattle.store_model.specs.Commands.{is_in_use}
-use Rattle.store_model.specs.Durable.{Agrees, AgreesOnContent, AgreesOnSession, Change, DurableState, TakenChunks, after_change, after_seal, chunk_change}
+use Rattle.store_model.specs.Durable.{Agrees, AgreesOnContent, AgreesOnSession, Change, DurableState, TakenSessions, after_change, after_seal, chunk_change}
 use Rattle.store_model.proofs.Commands.Hands.{all_chunks}
 use Rattle.store_model.proofs.Invariant.Unused.{no_link, no_open, stays}
 use Rattle.store_model.specs.Sessions.{Sessions, at_home, content_in, with_chunk, with_chunks}
@@ -29,7 +29,7 @@ as_found {taken} {taken'} {kept} {kept'} {here} {here'} a b c is = subst (λ x. 
 more_pieces : (chunks : List Text) (bytes : Text) → AllByRecursion (λ c. c ≢ []) chunks → AllByRecursion (λ c. c ≢ []) (with_chunk chunks bytes)
 more_pieces chunks bytes pieces = all_chunks (record { key = (0, 0); chunks = chunks; reserved = length bytes; last = Some bytes }) (record { pieces = pieces; last = refl })
 
-module _ (taken : TakenChunks) (D : DurableState) (C : Catalog) (a : Agrees taken D C) where
+module _ (taken : TakenSessions) (D : DurableState) (C : Catalog) (a : Agrees taken D C) where
   -- ---- repositories and numbers
 
   pub Agrees-add_repo : (repo : Text) → Agrees taken (record D { repos = set.insert D.repos repo }) (record C { repos = set.insert C.repos repo })
@@ -73,7 +73,7 @@ module _ (taken : TakenChunks) (D : DurableState) (C : Catalog) (a : Agrees take
 
   -- ---- sessions
 
-  with_sessions : (taken' : TakenChunks) (kept m : Sessions) → ((k : SessionNumber) → AgreesOnSession (get taken' k) (get kept k) (get m k)) → ((k : SessionNumber) (s : Session) → get m k ≡ Some s → set.contains C.repos s.repo ≡ true) →
+  with_sessions : (taken' : TakenSessions) (kept m : Sessions) → ((k : SessionNumber) → AgreesOnSession (get taken' k) (get kept k) (get m k)) → ((k : SessionNumber) (s : Session) → get m k ≡ Some s → set.contains C.repos s.repo ≡ true) →
       Agrees taken' (record D { sessions = kept }) (record C { sessions = m })
   with_sessions taken' kept m each there = record {
     tenants = a.tenants;
@@ -87,7 +87,7 @@ module _ (taken : TakenChunks) (D : DurableState) (C : Catalog) (a : Agrees take
     uploaded_to = there;
   }
 
-  at_key : (key : SessionNumber) (taken' : TakenChunks) (kept m : Sessions) → ((q : SessionNumber) → q ≢ key → (get taken' q ≡ get taken q) × (get kept q ≡ get D.sessions q) × (get m q ≡ get C.sessions q)) →
+  at_key : (key : SessionNumber) (taken' : TakenSessions) (kept m : Sessions) → ((q : SessionNumber) → q ≢ key → (get taken' q ≡ get taken q) × (get kept q ≡ get D.sessions q) × (get m q ≡ get C.sessions q)) →
       AgreesOnSession (get taken' key) (get kept key) (get m key) → (q : SessionNumber) → AgreesOnSession (get taken' q) (get kept q) (get m q)
   at_key key taken' kept m elsewhere here q = elim (cases_key number_cmp_total exact_number q key) [
     | inl e ↦ subst (λ (x : SessionNumber). AgreesOnSession (get taken' x) (get kept x) (get m x)) (sym e) here
@@ -95,7 +95,7 @@ module _ (taken : TakenChunks) (D : DurableState) (C : Catalog) (a : Agrees take
   ]
 
   -- a session of an existing repository is inserted
-  put_session : (key : SessionNumber) (kept now : Session) (taken' : TakenChunks) → ((q : SessionNumber) → q ≢ key → get taken' q ≡ get taken q) → set.contains C.repos now.repo ≡ true → AgreesOnSession (get taken' key) (Some kept) (Some now) →
+  put_session : (key : SessionNumber) (kept now : Session) (taken' : TakenSessions) → ((q : SessionNumber) → q ≢ key → get taken' q ≡ get taken q) → set.contains C.repos now.repo ≡ true → AgreesOnSession (get taken' key) (Some kept) (Some now) →
       Agrees taken' (record D { sessions = insert D.sessions key kept }) (record C { sessions = insert C.sessions key now })
   put_session key kept now taken' others there is = with_sessions taken' (insert D.sessions key kept) (insert C.sessions key now)
       (at_key key taken' (insert D.sessions key kept) (insert C.sessions key now)
@@ -104,7 +104,7 @@ module _ (taken : TakenChunks) (D : DurableState) (C : Catalog) (a : Agrees take
       (λ k s h. ⊎_elim (λ e. subst (λ (x : Session). set.contains C.repos x.repo ≡ true) e.1 there) (a.uploaded_to k s) (got-insert number_cmp_total exact_number C.sessions key now k s h))
 
   -- only the chunks of a session change, and the durable session is as before
-  pub Agrees-same_session : (key : SessionNumber) (now : Session) (taken' : TakenChunks) → ((q : SessionNumber) → q ≢ key → get taken' q ≡ get taken q) → set.contains C.repos now.repo ≡ true → AgreesOnSession (get taken' key) (get D.sessions key) (Some now) →
+  pub Agrees-same_session : (key : SessionNumber) (now : Session) (taken' : TakenSessions) → ((q : SessionNumber) → q ≢ key → get taken' q ≡ get taken q) → set.contains C.repos now.repo ≡ true → AgreesOnSession (get taken' key) (get D.sessions key) (Some now) →
       Agrees taken' D (record C { sessions = insert C.sessions key now })
   Agrees-same_session key now taken' others there is = with_sessions taken' D.sessions (insert C.sessions key now)
       (at_key key taken' D.sessions (insert C.sessions key now)
@@ -203,7 +203,7 @@ module _ (taken : TakenChunks) (D : DurableState) (C : Catalog) (a : Agrees take
   }
 
 -- a session with these durable chunks becomes a blob
-pub Agrees-seal : (taken : TakenChunks) (D : DurableState) (C : Catalog) → Agrees taken D C → (key : SessionNumber) (s : Session) (chunks : List Text) (digest last : Text) (b : Resident) → get C.sessions key ≡ Some s →
+pub Agrees-seal : (taken : TakenSessions) (D : DurableState) (C : Catalog) → Agrees taken D C → (key : SessionNumber) (s : Session) (chunks : List Text) (digest last : Text) (b : Resident) → get C.sessions key ≡ Some s →
     get D.sessions key ≡ Some (record { repo = s.repo; chunks = CheckedIn chunks }) → b.bytes ≡ concat chunks ++ last →
     Agrees taken (option_map_or (after_seal D key digest last) (get D.sessions key) D)
     (record C { links = set.insert C.links (s.repo, digest); sessions = remove C.sessions key; residents = insert C.residents digest b })

@@ -19,7 +19,7 @@ use Rattle.spec_lib.proofs.Sets.{now}
 use Rattle.store_model.specs.Catalog.{Catalog, CheckedIn, Chunks, Resident, SessionNumber, holds, next_number_of, tenant_of}
 use Rattle.store_model.specs.Commands
 use Rattle.store_model.specs.Commands.{Outcome, add_manifest, cannot_open, check_all_links, check_quota, chunk_length_check, has_manifest, has_slot, has_source, is_full_of_manifests, lacks_room_for, mounted_outcome, start, started_outcome, tenant, was_leased, with_link, with_manifest, with_new_session, with_stored_blob}
-use Rattle.store_model.specs.Durable.{Agrees, AgreesOnChunks, BlobLinked, BlobUnlinked, DurableState, ManifestDeleted, ManifestPut, RepoRemoved, SessionOpened, SessionSealed, TakenChunks, after_change, chunk_change, command_change, mount_change, session_key}
+use Rattle.store_model.specs.Durable.{Agrees, AgreesOnChunks, BlobLinked, BlobUnlinked, DurableState, ManifestDeleted, ManifestPut, RepoRemoved, SessionOpened, SessionSealed, TakenSessions, after_change, chunk_change, command_change, mount_change, session_key}
 use Rattle.store_model.specs.Runs as runs
 use Rattle.store_model.specs.Runs.{Answer, Command, map_outcome, outcome, reading_outcome}
 use Rattle.store_model.specs.Sessions.{Sessions, after_append_in, at_home, content_in, with_chunk, with_chunks}
@@ -47,7 +47,7 @@ reading_ok f C (Err e) b X is = absurd cc
 key_is : (C : Catalog) (r : Text) (t n : ℕ) → tenant_of C.tenants r ≡ Some t → session_key C.tenants r n ≡ (t, n)
 key_is C r t n known = ap (λ o. (option_map_or (λ t. t) o 0, n)) known
 
-module _ (taken : TakenChunks) (D : DurableState) (C : Catalog) (a : Agrees taken D C) where
+module _ (taken : TakenSessions) (D : DurableState) (C : Catalog) (a : Agrees taken D C) where
   -- ---- repositories and sessions
 
   opens : (t : ℕ) (r : Text) → Agrees taken (after_change D (SessionOpened r (t, next_number_of C t))) (with_new_session C t r)

@@ -9,7 +9,7 @@ use Rattle.spec_lib.proofs.Outcomes.{bound_ok}
 use Rattle.store_model.specs.Catalog.{Catalog, HandRecord, Session, ContentRules}
 use Rattle.store_model.specs.Commands
 use Rattle.store_model.specs.Commands.{Outcome, after_cancel, finish, has_slot, put_back, put_back_outcome_in, session_of_hand, take}
-use Rattle.store_model.specs.Durable.{Agrees, AreReturnedAsTaken, DurableState, IsReturnedAsTaken, TakenChunks, after_changes, change_of, changes_of, taken_after_step, taken_after_steps}
+use Rattle.store_model.specs.Durable.{Agrees, AreReturnedAsTaken, DurableState, IsReturnedAsTaken, TakenSessions, after_changes, change_of, changes_of, taken_after_step, taken_after_steps}
 use Rattle.store_model.specs.Histories.{AreSteps, CommandCall, FinishCall, MayLeadTo, PutBackCall, State, Step, SweepCall, SweepPartCall, TakeCall, initial_state}
 use Rattle.store_model.specs.Invariant.{Sound}
 use Rattle.store_model.specs.Recovery.{IsWellFormedStep, StoresSurviveCrashes}
@@ -66,7 +66,7 @@ step_setting s (FinishCall h d (Err e)) X leaves =
 
 -- ---- sound catalogs
 
-module _ (taken : TakenChunks) (D : DurableState) (C : Catalog) (a : Agrees taken D C) (sound : Sound C) (h : HandRecord) (returned : get taken h.key ≡ Some h.chunks) (fills : IfSome h.last (λ b. length b ≡ h.reserved)) where
+module _ (taken : TakenSessions) (D : DurableState) (C : Catalog) (a : Agrees taken D C) (sound : Sound C) (h : HandRecord) (returned : get taken h.key ≡ Some h.chunks) (fills : IfSome h.last (λ b. length b ≡ h.reserved)) where
   proper : (s : Session) → session_of_hand (get C.sessions h.key) h ≡ Ok s → IsProper h
   proper s here = record { pieces = (durable_hand taken D C a h returned s here).2; last = fills }
 
@@ -88,7 +88,7 @@ module _ (taken : TakenChunks) (D : DurableState) (C : Catalog) (a : Agrees take
       by (Ok s) here = let p = proper s here in Sound-home C h p s here h.chunks p.pieces (omega arith) sound
       by (Err e) here = sound
 
-pub step_sound : (taken : TakenChunks) (D : DurableState) (s : State) (step : Step) (X : Catalog) → Agrees taken D s.catalog → MayLeadTo s step X → IsReturnedAsTaken taken step → IsWellFormedStep step → Sound s.catalog → Sound X
+pub step_sound : (taken : TakenSessions) (D : DurableState) (s : State) (step : Step) (X : Catalog) → Agrees taken D s.catalog → MayLeadTo s step X → IsReturnedAsTaken taken step → IsWellFormedStep step → Sound s.catalog → Sound X
 step_sound taken D s (CommandCall command (Ok x)) X a leaves returned right sound = Sound-case s.catalog X command (Ok x) right leaves sound
 step_sound taken D s (CommandCall command (Err e)) X a leaves returned right sound = subst (λ (Y : Catalog). Sound Y) (sym (⊎_elim (λ y. y.1) (λ y. y.1) leaves)) sound
 step_sound taken D s (SweepCall swept) X a leaves returned right sound = Sound-sweep (λ _. true) s.catalog X swept leaves sound.lawful sound.quotas sound.shares sound.slots
@@ -102,7 +102,7 @@ step_sound taken D s (FinishCall h d (Err e)) X a leaves returned right sound = 
 
 -- ---- a history
 
-steps_sound : (steps : List Step) (taken : TakenChunks) (D : DurableState) (s s' : State) → Agrees taken D s.catalog → Sound s.catalog → AreSteps s steps s' → AreReturnedAsTaken taken steps → AllByRecursion IsWellFormedStep steps →
+steps_sound : (steps : List Step) (taken : TakenSessions) (D : DurableState) (s s' : State) → Agrees taken D s.catalog → Sound s.catalog → AreSteps s steps s' → AreReturnedAsTaken taken steps → AllByRecursion IsWellFormedStep steps →
     Sound s'.catalog × SameSetting s.catalog s'.catalog
 steps_sound [] taken D s s' a sound run returned right = subst (λ (x : State). Sound x.catalog × SameSetting s.catalog x.catalog) (sym run) (sound, (refl, refl))
 steps_sound (step ∷ steps) taken D s s' a sound run returned right =

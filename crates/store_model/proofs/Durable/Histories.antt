@@ -18,7 +18,7 @@ use Rattle.spec_lib.proofs.Options.{no_member}
 use Rattle.spec_lib.proofs.Outcomes.{bound_ok, ok_pair}
 use Rattle.store_model.specs.Catalog.{Catalog, CheckedIn, CheckedOutWith, Chunks, HandRecord, Resident, Session, SessionNumber, Tenant, link_cmp, opening, received_length, session_number_cmp, ContentRules}
 use Rattle.store_model.specs.Commands.{check_share, after_cancel, finish, has_slot, is_digest_accepted, put_back, take, was_leased, with_stored_blob}
-use Rattle.store_model.specs.Durable.{Agrees, AgreesOnChunks, AgreesOnSession, AreReturnedAsTaken, Change, DurableState, IsReturnedAsTaken, LogsAgree, LogsExtend, ManifestPut, SessionSealed, TakenChunks, after_change, after_changes, after_seal, change_of, changes_of, chunk_change, filled_chunk, initial_durable, taken_after_step, taken_after_steps}
+use Rattle.store_model.specs.Durable.{Agrees, AgreesOnChunks, AgreesOnSession, AreReturnedAsTaken, Change, DurableState, IsReturnedAsTaken, LogsAgree, LogsExtend, ManifestPut, SessionSealed, TakenSessions, after_change, after_changes, after_seal, change_of, changes_of, chunk_change, filled_chunk, initial_durable, taken_after_step, taken_after_steps}
 use Rattle.store_model.specs.Histories.{AreSteps, CommandCall, FinishCall, MayLeadTo, PutBackCall, State, Step, SweepCall, SweepPartCall, TakeCall, initial_state}
 use Rattle.store_model.specs.Sessions.{chunks_of, hand_content, put_back_outcome_in, session_of_hand, with_chunk, with_chunks, with_old_chunks}
 use Rattle.store_model.specs.Sweep.{IsAfterSweep, IsSweepOf, is_orphan}
@@ -32,7 +32,7 @@ use Rattle.store_model.proofs.Noninterference.Consistency.{no_orphan}
 
 -- ---- hands
 
-module _ (taken : TakenChunks) (D : DurableState) (C X : Catalog) (a : Agrees taken D C) where
+module _ (taken : TakenSessions) (D : DurableState) (C X : Catalog) (a : Agrees taken D C) where
   -- a session that is checked out keeps its durable chunks
   takes : (r : Text) (n len : ℕ) (g : Option ByteRange) (h : HandRecord) → take C r n g len ≡ Ok (h, X) → Agrees (insert taken h.key h.chunks) D X
   takes r n len g h is =
@@ -54,7 +54,7 @@ module _ (taken : TakenChunks) (D : DurableState) (C X : Catalog) (a : Agrees ta
       same : p.checked.chunks ≡ has.0
       same = subst (λ (y : Chunks). AgreesOnChunks (get taken key) y has.0) p.checked.home has.3
 
-module _ (taken : TakenChunks) (D : DurableState) (C : Catalog) (a : Agrees taken D C) (h : HandRecord) (returned : get taken h.key ≡ Some h.chunks) where
+module _ (taken : TakenSessions) (D : DurableState) (C : Catalog) (a : Agrees taken D C) (h : HandRecord) (returned : get taken h.key ≡ Some h.chunks) where
   -- the durable chunks are the hand's
   pub durable_hand : (s : Session) → session_of_hand (get C.sessions h.key) h ≡ Ok s →
       (get C.sessions h.key ≡ Some s) × (get D.sessions h.key ≡ Some (record { repo = s.repo; chunks = CheckedIn h.chunks })) × AllByRecursion (λ c. c ≢ []) h.chunks
@@ -103,7 +103,7 @@ module _ (taken : TakenChunks) (D : DurableState) (C : Catalog) (a : Agrees take
 
 -- ---- sweeps
 
-pub sweeps : (reached : Text → Bool) (taken : TakenChunks) (D : DurableState) (C X : Catalog) (swept : Swept) → Agrees taken D C → IsSweepOf reached C swept X → Agrees taken D X
+pub sweeps : (reached : Text → Bool) (taken : TakenSessions) (D : DurableState) (C X : Catalog) (swept : Swept) → Agrees taken D C → IsSweepOf reached C swept X → Agrees taken D X
 sweeps reached taken D C X swept a sweep = subst (λ (Y : Catalog). Agrees taken D Y) (sym sweep.rest) (record {
   tenants = a.tenants;
   repos = a.repos;
@@ -119,7 +119,7 @@ sweeps reached taken D C X swept a sweep = subst (λ (Y : Catalog). Agrees taken
 
 -- ---- steps
 
-pub step_agrees : (taken : TakenChunks) (D : DurableState) (s : State) (step : Step) (X : Catalog) → Agrees taken D s.catalog → MayLeadTo s step X → IsReturnedAsTaken taken step →
+pub step_agrees : (taken : TakenSessions) (D : DurableState) (s : State) (step : Step) (X : Catalog) → Agrees taken D s.catalog → MayLeadTo s step X → IsReturnedAsTaken taken step →
     Agrees (taken_after_step taken step) (after_record D (change_of s.catalog.tenants step)) X
 step_agrees taken D s (CommandCall command (Ok x)) X a leaves returned = command_agrees taken D s.catalog a command x X leaves
 step_agrees taken D s (CommandCall command (Err e)) X a leaves returned = subst (λ (Y : Catalog). Agrees taken D Y) (sym (⊎_elim (λ y. y.1) (λ y. y.1) leaves)) a
@@ -160,7 +160,7 @@ after_changes_first D step steps tenants = by (change_of tenants step)
     by None = refl
     by (Some c) = refl
 
-steps_agree : (tenants : List Tenant) (steps : List Step) (taken : TakenChunks) (D : DurableState) (s s' : State) → Agrees taken D s.catalog → D.tenants ≡ tenants → AreSteps s steps s' → AreReturnedAsTaken taken steps →
+steps_agree : (tenants : List Tenant) (steps : List Step) (taken : TakenSessions) (D : DurableState) (s s' : State) → Agrees taken D s.catalog → D.tenants ≡ tenants → AreSteps s steps s' → AreReturnedAsTaken taken steps →
     Agrees (taken_after_steps taken steps) (after_changes D (changes_of tenants steps)) s'.catalog
 steps_agree tenants [] taken D s s' a known run returned = subst (λ (x : State). Agrees taken D x.catalog) (sym run) a
 steps_agree tenants (step ∷ steps) taken D s s' a known run returned =

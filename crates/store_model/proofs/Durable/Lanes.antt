@@ -13,7 +13,7 @@ use Rattle.spec_lib.proofs.Options.{nothing, some_none, some_same}
 use Rattle.store_model.specs.Catalog.{Catalog, CheckedIn, CheckedOutWith, HandRecord, Session, SessionNumber, next_number_of, received_length}
 use Rattle.store_model.specs.Commands
 use Rattle.store_model.specs.Commands.{Outcome, after_append_in, after_cancel, check_quota, chunk_length_check, finish, has_slot, not_busy, put_back, session, take}
-use Rattle.store_model.specs.Durable.{Agrees, AreReturnedAsTaken, DurableState, IsReturnedAsTaken, TakenChunks, change_of, taken_after_step}
+use Rattle.store_model.specs.Durable.{Agrees, AreReturnedAsTaken, DurableState, IsReturnedAsTaken, TakenSessions, change_of, taken_after_step}
 use Rattle.store_model.specs.Histories.{AreSteps, CommandCall, FinishCall, MayLeadTo, PutBackCall, State, Step, SweepCall, SweepPartCall, TakeCall, initial_state}
 use Rattle.store_model.specs.Invariant.{Sound, WellFormed}
 use Rattle.store_model.specs.Lanes.{IsHeldHand, IsPaired, LaneSteps, LanesReturnHands, all_steps, steps_by}
@@ -117,7 +117,7 @@ stays_out s (FinishCall h d (Err e)) X lawful leaves k out other = subst (λ (Y 
 -- ---- the hands of all lanes
 
 -- each lane's hand has the chunks with which its session was taken, its session is checked out, and no two lanes hold hands of one session
-record Known (taken : TakenChunks) (C : Catalog) (hands : ℕ → Option HandRecord) : Type 0 where
+record Known (taken : TakenSessions) (C : Catalog) (hands : ℕ → Option HandRecord) : Type 0 where
   held : (w : ℕ) (h : HandRecord) → hands w ≡ Some h → (get taken h.key ≡ Some h.chunks) × IsOut C h.key
   apart : (w v : ℕ) (h g : HandRecord) → hands w ≡ Some h → hands v ≡ Some g → h.key ≡ g.key → w ≡ v
 
@@ -157,13 +157,13 @@ module _ (w : ℕ) (hands : ℕ → Option HandRecord) where
   -- ---- a step of a lane
 
   -- a step returns a hand as it was taken, and the lane's further steps are paired with the hand that it then holds
-  record Next (taken : TakenChunks) (step : Step) (X : Catalog) (own : List Step) : Type 0 where
+  record Next (taken : TakenSessions) (step : Step) (X : Catalog) (own : List Step) : Type 0 where
     out : Option HandRecord
     returned : IsReturnedAsTaken taken step
     known : Known (taken_after_step taken step) X (put_at out)
     paired : IsPaired out own
 
-  module _ (taken : TakenChunks) (s : State) (known : Known taken s.catalog hands) (lawful : WellFormed s.catalog) (X : Catalog) where
+  module _ (taken : TakenSessions) (s : State) (known : Known taken s.catalog hands) (lawful : WellFormed s.catalog) (X : Catalog) where
     -- the step changes no hand
     same_hands : (step : Step) → MayLeadTo s step X → ((k : SessionNumber) → IsOther k step) → Known taken X (put_at (hands w))
     same_hands step leaves other = record {
@@ -242,7 +242,7 @@ module _ (w : ℕ) (hands : ℕ → Option HandRecord) where
 
 -- ---- histories
 
-all_returned : (entries : LaneSteps) (taken : TakenChunks) (D : DurableState) (s s' : State) (hands : ℕ → Option HandRecord) → Agrees taken D s.catalog → Sound s.catalog → AreSteps s (all_steps entries) s' → AllByRecursion IsWellFormedStep (all_steps entries) →
+all_returned : (entries : LaneSteps) (taken : TakenSessions) (D : DurableState) (s s' : State) (hands : ℕ → Option HandRecord) → Agrees taken D s.catalog → Sound s.catalog → AreSteps s (all_steps entries) s' → AllByRecursion IsWellFormedStep (all_steps entries) →
     Known taken s.catalog hands → ((lane : ℕ) → IsPaired (hands lane) (steps_by lane entries)) → AreReturnedAsTaken taken (all_steps entries)
 all_returned [] taken D s s' hands a sound run right known paired = tt
 all_returned (e ∷ entries) taken D s s' hands a sound run right known paired =

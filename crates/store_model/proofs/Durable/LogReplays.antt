@@ -18,7 +18,7 @@ use Rattle.spec_lib.proofs.Options.{nothing, some_none, some_same}
 use Rattle.spec_lib.proofs.Outcomes.{bound_ok, not_refused, some_of_ok}
 use Rattle.store_model.specs.Catalog.{Catalog, CheckedIn, HandRecord, Resident, SessionNumber, Tenant, holds, link_count, opening, tenant_of, ContentRules}
 use Rattle.store_model.specs.Commands.{check_share, check_quota, chunk_length_check, close, finish, fits_stored, has_slot, is_digest_accepted, is_full_for, mount, session_of_hand, start, tenant, is_named}
-use Rattle.store_model.specs.Durable.{Agrees, AreReturnedAsTaken, Change, DurableState, IsReturnedAsTaken, SessionSealed, TakenChunks, after_change, change_of, changes_of, chunk_change, command_change, filled_chunk, initial_durable, mount_change, session_key, taken_after_step}
+use Rattle.store_model.specs.Durable.{Agrees, AreReturnedAsTaken, Change, DurableState, IsReturnedAsTaken, SessionSealed, TakenSessions, after_change, change_of, changes_of, chunk_change, command_change, filled_chunk, initial_durable, mount_change, session_key, taken_after_step}
 use Rattle.store_model.specs.Histories.{AreSteps, CommandCall, FinishCall, MayLeadTo, PutBackCall, State, Step, SweepCall, SweepPartCall, TakeCall, initial_state}
 use Rattle.store_model.specs.Invariant.{Sound}
 use Rattle.store_model.specs.Recovery.{IsWellFormedStep}
@@ -41,7 +41,7 @@ use Rattle.store_model.proofs.Durable.Uses.{sum_within}
 
 -- ---- the catalog after a sweep
 
-module _ (taken : TakenChunks) (D : DurableState) (C : Catalog) (a : Agrees taken D C) (sound : Sound C) (R : Catalog) (b : Agrees empty D R) where
+module _ (taken : TakenSessions) (D : DurableState) (C : Catalog) (a : Agrees taken D C) (sound : Sound C) (R : Catalog) (b : Agrees empty D R) where
   -- a blob that a sweep keeps is linked
   still_linked : (d : Text) (x : Resident) → get (kept R) d ≡ Some x → (is_orphan R d ≡ false) × (get R.residents d ≡ Some x)
   still_linked d x found = by (is_orphan R d) refl
@@ -119,7 +119,7 @@ module _ (taken : TakenChunks) (D : DurableState) (C : Catalog) (a : Agrees take
 
 -- ---- each change has room after a sweep
 
-module _ (taken : TakenChunks) (D : DurableState) (s : State) (a : Agrees taken D s.catalog) (sound : Sound s.catalog) (R : Catalog) (b : Agrees empty D R) (slots_are : R.slots ≡ s.catalog.slots) (none_retired : R.retired ≡ 0) (rules : R.contents ≡ s.catalog.contents) where
+module _ (taken : TakenSessions) (D : DurableState) (s : State) (a : Agrees taken D s.catalog) (sound : Sound s.catalog) (R : Catalog) (b : Agrees empty D R) (slots_are : R.slots ≡ s.catalog.slots) (none_retired : R.retired ≡ 0) (rules : R.contents ≡ s.catalog.contents) where
   abbrev C : Catalog
   C = s.catalog
 
@@ -220,7 +220,7 @@ first_replayed D R change changes one rest = record {
   sound = rest.sound;
 }
 
-steps_replayed : (tenants : List Tenant) (steps : List Step) (taken : TakenChunks) (D : DurableState) (s s' : State) → Agrees taken D s.catalog → D.tenants ≡ tenants → Sound s.catalog → AreSteps s steps s' → AreReturnedAsTaken taken steps → AllByRecursion IsWellFormedStep steps →
+steps_replayed : (tenants : List Tenant) (steps : List Step) (taken : TakenSessions) (D : DurableState) (s s' : State) → Agrees taken D s.catalog → D.tenants ≡ tenants → Sound s.catalog → AreSteps s steps s' → AreReturnedAsTaken taken steps → AllByRecursion IsWellFormedStep steps →
     (R : Catalog) → IsAlike D s.catalog R → HasLogReplay D R (changes_of tenants steps)
 steps_replayed tenants [] taken D s s' a known sound run returned right R alike = record { events = []; catalog = R; run = refl; asks = refl; accepts = tt; agrees = alike.agrees; sound = alike.sound }
 steps_replayed tenants (step ∷ steps) taken D s s' a known sound run returned right R alike =

@@ -10,7 +10,7 @@ use Rattle.spec_lib.specs.Sets as set
 use Rattle.spec_lib.specs.Texts.{Text, same_text, text_cmp}
 use Rattle.spec_lib.proofs.Rows.{position-map}
 use Rattle.store_model.specs.Catalog.{Catalog, Session, SessionNumber, Tenant, charged_length, is_repo_of_tenant, tenant_name, tenant_of, ContentRules}
-use Rattle.store_model.specs.Durable.{Agrees, DurableState, TakenChunks}
+use Rattle.store_model.specs.Durable.{Agrees, DurableState, TakenSessions}
 use Rattle.store_model.specs.Invariant.{AreWellFormedNumbers, AreWellFormedRepositories, AreWithinLimits, Sound, WellFormed, WellFormedSession}
 use Rattle.store_model.specs.Recovery.{CanRestore, StoresRestartWithOtherSettings, restored_blob, restored_blobs, restored_catalog, with_tenants}
 use Rattle.store_model.proofs.Durable.Restored.{agrees as agrees_there, content, kept_blob}
@@ -56,7 +56,7 @@ module _ (ts us : List Tenant) (names : map (λ t. t.name) ts ≡ map (λ t. t.n
 
 -- ---- the restored catalog
 
-module _ (taken : TakenChunks) (D : DurableState) (C : Catalog) (a : Agrees taken D C) (lawful : WellFormed C) (tenants : List Tenant) (slots : ℕ) (contents : ContentRules) (can : CanRestore D tenants slots contents) (place : contents.on_disk ≡ C.contents.on_disk) where
+module _ (taken : TakenSessions) (D : DurableState) (C : Catalog) (a : Agrees taken D C) (lawful : WellFormed C) (tenants : List Tenant) (slots : ℕ) (contents : ContentRules) (can : CanRestore D tenants slots contents) (place : contents.on_disk ≡ C.contents.on_disk) where
   abbrev R : Catalog
   R = record C { tenants = tenants; slots = slots; contents = contents; sessions = D.sessions; residents = restored_blobs D; retired = 0 }
 

@@ -20,7 +20,7 @@ use Rattle.spec_lib.proofs.Texts.{same_itself}
 use Rattle.store_model.specs.Catalog.{Catalog, CheckedIn, HandRecord, Resident, Session, SessionNumber, charged_length, next_number_of, open_sessions, quota_of, received_length, tenant_holds, tenant_of, used_bytes, limits_of, ContentRules}
 use Rattle.store_model.specs.Commands
 use Rattle.store_model.specs.Commands.{check_share, add_manifest, after_append_in, append, cannot_open, check_all_links, check_link, check_no_referrer, check_quota, check_repo, chunk_length_check, close, content_in, delete, finish, has_links, has_manifest, has_manifests, fits_stored, has_sessions, has_slot, has_source, is_digest_accepted, is_full_of_manifests, is_in_use, lacks_room_for, manifest, mounted_outcome, not_busy, put_back, put_back_outcome_in, referrer, session, session_in, session_of_hand, start, started_outcome, tenant, with_link, with_manifest, with_new_session, with_stored_blob, without_repo, without_session, is_named}
-use Rattle.store_model.specs.Durable.{Agrees, BlobLinked, BlobUnlinked, Change, DurableState, IsReturnedAsTaken, ManifestDeleted, ManifestPut, RepoRemoved, SessionDropped, SessionOpened, SessionSealed, TakenChunks, change_of, chunk_change, command_change, filled_chunk, mount_change, session_key}
+use Rattle.store_model.specs.Durable.{Agrees, BlobLinked, BlobUnlinked, Change, DurableState, IsReturnedAsTaken, ManifestDeleted, ManifestPut, RepoRemoved, SessionDropped, SessionOpened, SessionSealed, TakenSessions, change_of, chunk_change, command_change, filled_chunk, mount_change, session_key}
 use Rattle.store_model.specs.Histories.{CommandCall, FinishCall, MayLeadTo, PutBackCall, State, Step, SweepCall, SweepPartCall, TakeCall}
 use Rattle.store_model.specs.Invariant.{Sound}
 use Rattle.store_model.specs.Recovery.{IsWellFormedStep}
@@ -100,7 +100,7 @@ module _ (D : DurableState) (R : Catalog) (b : Agrees empty D R) (sound : Sound 
     chunk_names (x ∷ bytes) change is = subst (λ c. replay_command D c ≡ Some (runs.Append repo key.1 None (x ∷ bytes))) (some_same is) (ap (option_map (λ y. runs.Append y.repo key.1 None (x ∷ bytes))) found)
 
     -- a chunk with which the durable state agrees with a sound catalog is within its limit on blobs, and within the quota
-    room : (taken : TakenChunks) (X : Catalog) (bytes : Text) → AllByRecursion (λ c. c ≢ []) chunks → Agrees taken (after_record D (chunk_change key bytes)) X → Sound X →
+    room : (taken : TakenSessions) (X : Catalog) (bytes : Text) → AllByRecursion (λ c. c ≢ []) chunks → Agrees taken (after_record D (chunk_change key bytes)) X → Sound X →
         (sum_by length chunks + length bytes ≤ X.contents.max_blob) × (used_bytes R key.0 + length bytes ≤ quota_of R key.0)
     room taken X bytes pieces a sound_there =
         let small = (sound_there.lawful.sessions key was.0 was.2).small in
@@ -170,7 +170,7 @@ module _ (D : DurableState) (R : Catalog) (b : Agrees empty D R) (sound : Sound 
 
     -- ---- a chunk that is accepted in one store is accepted in the other
 
-    module _ (taken : TakenChunks) (X : Catalog) (bytes : Text) (pieces : AllByRecursion (λ c. c ≢ []) chunks) (a : Agrees taken (after_record D (chunk_change key bytes)) X) (sound_there : Sound X) (limit : X.contents ≡ R.contents) where
+    module _ (taken : TakenSessions) (X : Catalog) (bytes : Text) (pieces : AllByRecursion (λ c. c ≢ []) chunks) (a : Agrees taken (after_record D (chunk_change key bytes)) X) (sound_there : Sound X) (limit : X.contents ≡ R.contents) where
       has_room : (sum_by length chunks + length bytes ≤ R.contents.max_blob) × (used_bytes R key.0 + length bytes ≤ quota_of R key.0)
       has_room = let r = room taken X bytes pieces a sound_there in (subst (λ (k : ContentRules). sum_by length chunks + length bytes ≤ k.max_blob) limit r.0, r.1)
 
@@ -189,7 +189,7 @@ few k n m less is = by (nat_le k m) refl
     by false e = refl
     by true e = absurd (let more = leb-true k m e in let small = leb-false k n is in omega arith)
 
-module _ (taken : TakenChunks) (D : DurableState) (C : Catalog) (a : Agrees taken D C) (slots : ℕ) (contents : ContentRules) (retired : ℕ) (residents : FinMap text_cmp Resident) where
+module _ (taken : TakenSessions) (D : DurableState) (C : Catalog) (a : Agrees taken D C) (slots : ℕ) (contents : ContentRules) (retired : ℕ) (residents : FinMap text_cmp Resident) where
   -- the store in which the change is made again
   abbrev target : Catalog
   target = record C { slots = slots; contents = contents; sessions = D.sessions; residents = residents; retired = retired }
@@ -347,7 +347,7 @@ module _ (taken : TakenChunks) (D : DurableState) (C : Catalog) (a : Agrees take
 -- ---- steps
 
 -- the two stores have the same tenants and limits
-module _ (taken : TakenChunks) (D : DurableState) (s : State) (a : Agrees taken D s.catalog) (sound : Sound s.catalog) (R : Catalog) (b : Agrees empty D R) (sound_here : Sound R) (limit : R.contents ≡ s.catalog.contents) where
+module _ (taken : TakenSessions) (D : DurableState) (s : State) (a : Agrees taken D s.catalog) (sound : Sound s.catalog) (R : Catalog) (b : Agrees empty D R) (sound_here : Sound R) (limit : R.contents ≡ s.catalog.contents) where
   abbrev C : Catalog
   C = s.catalog
 
@@ -473,7 +473,7 @@ module _ (taken : TakenChunks) (D : DurableState) (s : State) (a : Agrees taken 
       subst (λ y. HasReplay D R y) (some_same records) (by_parts (RepoRemoved r) (λ b0 sound0. removes taken D C a R.slots R.contents R.retired R.residents b0 sound0 r X h.1 short_name))
   command_replayed (runs.Lease r d) x X is short_name change records free = some_none (sym records)
 
-step_replayed : (taken : TakenChunks) (D : DurableState) (s : State) (step : Step) (X : Catalog) (change : Change) (R : Catalog) → Agrees taken D s.catalog → Sound s.catalog → MayLeadTo s step X →
+step_replayed : (taken : TakenSessions) (D : DurableState) (s : State) (step : Step) (X : Catalog) (change : Change) (R : Catalog) → Agrees taken D s.catalog → Sound s.catalog → MayLeadTo s step X →
     IsReturnedAsTaken taken step → IsWellFormedStep step → change_of D.tenants step ≡ Some change → Agrees empty D R → Sound R → R.contents ≡ s.catalog.contents → HasRoomFor D R change → HasReplay D R change
 step_replayed taken D s (CommandCall command (Ok x)) X change R a sound leaves returned right records b sound_here limit free =
     command_replayed taken D s a sound R b sound_here limit command x X leaves right change records free

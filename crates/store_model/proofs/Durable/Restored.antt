@@ -19,7 +19,7 @@ use Rattle.spec_lib.proofs.Maps.{term}
 use Rattle.spec_lib.proofs.Options.{nothing, some_same}
 use Rattle.spec_lib.proofs.Texts.{tied_text}
 use Rattle.store_model.specs.Catalog.{Catalog, Link, Resident, Session, SessionNumber, charged_length, session_number_cmp, used_bytes, ContentRules}
-use Rattle.store_model.specs.Durable.{Agrees, AgreesOnSession, DurableState, TakenChunks}
+use Rattle.store_model.specs.Durable.{Agrees, AgreesOnSession, DurableState, TakenSessions}
 use Rattle.store_model.specs.Invariant.{Sound, WellFormed, WellFormedSession}
 use Rattle.store_model.proofs.Durable.Uses.{open_less, sum_within, used_within, was_open}
 use Rattle.store_model.specs.Recovery.{StoresRestart, is_linked, linked_contents, restored_blob, restored_blobs, restored_catalog}
@@ -44,7 +44,7 @@ get-blobs D d =
 
 -- ---- the restored catalog
 
-module _ (taken : TakenChunks) (D : DurableState) (C : Catalog) (a : Agrees taken D C) where
+module _ (taken : TakenSessions) (D : DurableState) (C : Catalog) (a : Agrees taken D C) where
   -- a linked blob is stored, durable and restored
   pub kept_blob : (l : Link) → set.contains C.links l ≡ true → (b : Resident) × (get C.residents l.1 ≡ Some b) × (get D.contents l.1 ≡ Some b.bytes) × (get (restored_blobs D) l.1 ≡ Some (restored_blob b.bytes))
   kept_blob l h =

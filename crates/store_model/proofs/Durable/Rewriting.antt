@@ -14,7 +14,7 @@ use Rattle.spec_lib.specs.Texts.{Text, text_cmp}
 use Rattle.spec_lib.proofs.Maps.{get-insert_at}
 use Rattle.spec_lib.proofs.Sets.{insert_there}
 use Rattle.store_model.specs.Catalog.{Catalog, CheckedIn, Link, Session, SessionNumber, Tenant}
-use Rattle.store_model.specs.Durable.{Agrees, BlobLinked, BlobStored, Change, ChunkReceived, DurableState, ManifestPut, NumberSet, RepoAdded, TakenChunks, after_change, after_changes, initial_durable}
+use Rattle.store_model.specs.Durable.{Agrees, BlobLinked, BlobStored, Change, ChunkReceived, DurableState, ManifestPut, NumberSet, RepoAdded, TakenSessions, after_change, after_changes, initial_durable}
 use Rattle.store_model.specs.Invariant.{WellFormed}
 use Rattle.store_model.specs.Recovery.{RewrittenLogsAgree, linked_contents, rewritten_log, session_changes}
 use Rattle.store_model.specs.Sessions.{Sessions, after_append_in, at_home, with_chunk, with_chunks}
@@ -123,7 +123,7 @@ length-given (e ∷ es) next = length-given es (given next e) ∙ length-set nex
 both : (D : DurableState) (xs ys : List Change) {Y Z : DurableState} → after_changes D xs ≡ Y → after_changes Y ys ≡ Z → after_changes D (xs ++ ys) ≡ Z
 both D xs ys first second = fold-append after_change D xs ys ∙ ap (λ E. after_changes E ys) first ∙ second
 
-module _ (taken : TakenChunks) (D : DurableState) (C : Catalog) (a : Agrees taken D C) (lawful : WellFormed C) where
+module _ (taken : TakenSessions) (D : DurableState) (C : Catalog) (a : Agrees taken D C) (lawful : WellFormed C) where
   repos_known : (r : Text) → set.contains C.repos r ≡ true → set.contains D.repos r ≡ true
   repos_known r there = ap (λ x. set.contains x r) a.repos ∙ there
 

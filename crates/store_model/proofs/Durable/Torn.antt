@@ -4,7 +4,7 @@ use Rattle.std.specs.List.{cons_option}
 use Rattle.std.specs.FinMap.{empty}
 use Rattle.std.proofs.lemmas.List.Elements.{filter_map-append}
 use Rattle.store_model.specs.Catalog.{Tenant}
-use Rattle.store_model.specs.Durable.{Agrees, AreReturnedAsTaken, Change, TakenChunks, TornLogsAgree, after_changes, change_of, changes_of, taken_after_step, taken_after_steps}
+use Rattle.store_model.specs.Durable.{Agrees, AreReturnedAsTaken, Change, TakenSessions, TornLogsAgree, after_changes, change_of, changes_of, taken_after_step, taken_after_steps}
 use Rattle.store_model.specs.Histories.{AreSteps, State, Step, initial_state}
 use Rattle.store_model.proofs.Durable.Histories.{logs_extend}
 
@@ -13,7 +13,7 @@ pub first_steps : (first rest : List Step) (s s' : State) → AreSteps s (first 
 first_steps [] rest s s' run = (s, refl, run)
 first_steps (step ∷ first) rest s s' run = let later = first_steps first rest run.0 s' run.2 in (later.0, (run.0, run.1, later.1), later.2)
 
-pub first_returned : (first rest : List Step) (taken : TakenChunks) → AreReturnedAsTaken taken (first ++ rest) → AreReturnedAsTaken taken first
+pub first_returned : (first rest : List Step) (taken : TakenSessions) → AreReturnedAsTaken taken (first ++ rest) → AreReturnedAsTaken taken first
 first_returned [] rest taken all = tt
 first_returned (step ∷ first) rest taken all = (all.0, first_returned first rest (taken_after_step taken step) all.1)
 

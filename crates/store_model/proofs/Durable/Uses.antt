@@ -18,7 +18,7 @@ use Rattle.spec_lib.proofs.Rows.{entries-empty}
 use Rattle.spec_lib.proofs.Sums.{sum_new}
 use Rattle.store_model.specs.Sessions.{session_charges}
 use Rattle.store_model.specs.Catalog.{Catalog, CheckedIn, CheckedOutWith, Chunks, Resident, Session, SessionNumber, blob_share, charged_length, holds, is_repo_of, open_count_in, open_sessions, session_charge, session_charges_of, session_number_cmp, tenant_holds, used_bytes}
-use Rattle.store_model.specs.Durable.{Agrees, AgreesOnChunks, AgreesOnSession, DurableState, TakenChunks}
+use Rattle.store_model.specs.Durable.{Agrees, AgreesOnChunks, AgreesOnSession, DurableState, TakenSessions}
 
 -- ---- sums
 
@@ -42,7 +42,7 @@ module _ {K : Type 0} {R : K → K → Ordering} (o : IsTotalOrder R) (same : Is
 
 -- ---- sessions and uses
 
-module _ (taken : TakenChunks) (D : DurableState) (C : Catalog) (a : Agrees taken D C) where
+module _ (taken : TakenSessions) (D : DurableState) (C : Catalog) (a : Agrees taken D C) where
   -- a durable session is open, with no fewer bytes
   pub was_open : (key : SessionNumber) (s : Session) → get D.sessions key ≡ Some s →
       (x : Session) × (chunks : List Text) × (get C.sessions key ≡ Some x) × (s ≡ record { repo = x.repo; chunks = CheckedIn chunks }) × AllByRecursion (λ c. c ≢ []) chunks × (charged_length s ≤ charged_length x)

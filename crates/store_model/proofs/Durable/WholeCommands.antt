@@ -5,17 +5,17 @@ use Rattle.blob_digest.proofs.KeyOrders.{number_cmp_total, exact_number}
 use Rattle.spec_lib.proofs.Maps.{cases_key, get-insert_at, get-insert_other, got-remove}
 use Rattle.spec_lib.proofs.Options.{nothing, some_same}
 use Rattle.store_model.specs.Catalog.{HandRecord, SessionNumber, session_number_cmp}
-use Rattle.store_model.specs.Durable.{AreReturnedAsTaken, IsReturnedAsTaken, TakenChunks, WholeCommandsReturnHands, taken_after_step}
+use Rattle.store_model.specs.Durable.{AreReturnedAsTaken, IsReturnedAsTaken, TakenSessions, WholeCommandsReturnHands, taken_after_step}
 use Rattle.store_model.specs.Histories.{CommandCall, FinishCall, PutBackCall, Step, SweepCall, SweepPartCall, TakeCall}
 use Rattle.store_model.specs.Runs.{Event}
 use Rattle.store_model.specs.WholeCommands.{AreWholeCommands, CheckedOut, CheckedOutSessions, CorrespondsTo}
 use Rattle.store_model.proofs.Durable.Torn.{first_returned}
 
 -- each checked-out hand has the chunks with which its session was taken
-abbrev Known : TakenChunks → CheckedOutSessions → Type 0
+abbrev Known : TakenSessions → CheckedOutSessions → Type 0
 Known taken hands = (k : SessionNumber) (out : CheckedOut) → get hands k ≡ Some out → get taken k ≡ Some out.hand.chunks
 
-module _ (taken : TakenChunks) (hands : CheckedOutSessions) (known : Known taken hands) where
+module _ (taken : TakenSessions) (hands : CheckedOutSessions) (known : Known taken hands) where
   same_hands : (after : CheckedOutSessions) → after ≡ hands → Known taken after
   same_hands after is = subst (λ x. Known taken x) (sym is) known
 
@@ -33,7 +33,7 @@ module _ (taken : TakenChunks) (hands : CheckedOutSessions) (known : Known taken
   hand_is : (h : HandRecord) (out : CheckedOut) → get hands h.key ≡ Some out → h.chunks ≡ out.hand.chunks → get taken h.key ≡ Some h.chunks
   hand_is h out found same = known h.key out found ∙ ap Some (sym same)
 
-step_returns : (taken : TakenChunks) (hands : CheckedOutSessions) (step : Step) (events : List Event) (after : CheckedOutSessions) → Known taken hands → CorrespondsTo hands step events after → IsReturnedAsTaken taken step × Known (taken_after_step taken step) after
+step_returns : (taken : TakenSessions) (hands : CheckedOutSessions) (step : Step) (events : List Event) (after : CheckedOutSessions) → Known taken hands → CorrespondsTo hands step events after → IsReturnedAsTaken taken step × Known (taken_after_step taken step) after
 step_returns taken hands (CommandCall command reply) events after known comes = (tt, same_hands taken hands known after comes.1)
 step_returns taken hands (SweepCall swept) events after known comes = (tt, same_hands taken hands known after comes.1)
 step_returns taken hands (SweepPartCall swept) events after known comes = (tt, same_hands taken hands known after comes.1)
@@ -49,7 +49,7 @@ step_returns taken hands (FinishCall h d reply) events after known comes =
     let same : h.chunks ≡ out.hand.chunks = ap (λ (y : HandRecord). y.chunks) comes.2.1.1 in
     (hand_is taken hands known h out comes.1 same, subst (λ x. Known taken x) (sym comes.3) (after_return taken hands known h.key))
 
-steps_return : (steps : List Step) (taken : TakenChunks) (hands : CheckedOutSessions) (events : List Event) → Known taken hands → AreWholeCommands hands steps events → AreReturnedAsTaken taken steps
+steps_return : (steps : List Step) (taken : TakenSessions) (hands : CheckedOutSessions) (events : List Event) → Known taken hands → AreWholeCommands hands steps events → AreReturnedAsTaken taken steps
 steps_return [] taken hands events known are = tt
 steps_return (step ∷ steps) taken hands events known are =
     let one = step_returns taken hands step are.0 are.2 known are.3 in
