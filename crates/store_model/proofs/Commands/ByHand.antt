@@ -11,7 +11,7 @@ use Rattle.blob_digest.specs.declared.refusal.Refusal.TheVariants.{DigestInvalid
 use Rattle.blob_digest.specs.Outcomes.{Does, DoesExactly}
 use Rattle.blob_digest.proofs.KeyOrders.{number_cmp_total, exact_number}
 use Rattle.spec_lib.proofs.Rows.{insert_same}
-use Rattle.store_model.specs.Sessions.{after_append_in, at_home, with_old_chunks, chunks_in, has_other_length, length_after, not_busy, session_in, starts_elsewhere, after_take_in, session_of_hand, content_in, hand_content, with_chunk, with_chunks}
+use Rattle.store_model.specs.Sessions.{after_append_in, at_home, with_old_chunks, chunks_in, has_other_length, length_after, not_busy, repo_in, session_in, starts_elsewhere, after_take_in, session_of_hand, content_in, hand_content, with_chunk, with_chunks}
 use Rattle.spec_lib.specs.Texts.{Text}
 use Rattle.store_model.specs.Catalog.{SessionNumber, CheckedIn, CheckedOutWith, Session, HandRecord, Catalog, session_number_cmp, received_length}
 use Rattle.spec_lib.specs.Outcomes.{◌>>=◌, refuse}
@@ -77,12 +77,19 @@ module _ (C C1 : Catalog) (repo : Text) (number len : ℕ) (range : Option ByteR
   abbrev by : TookIn C C1 repo number len range hand stepped
   by = took C C1 repo number len range hand stepped
 
-  -- the hand has its session's chunks, and nothing is filled in
-  pub taken_hand : ◌≡◌ {A = HandRecord} (record { key = (by.t, number); chunks = by.checked.chunks; reserved = len; last = None }) hand
-  taken_hand = (λ i. record { key = (by.t, number); chunks = chunks_is i; reserved = len; last = None }) ∙ by.is
+  -- the hand has its session's repository and chunks, and nothing is filled in
+  pub taken_hand : ◌≡◌ {A = HandRecord} (record { repo = by.checked.s.repo; key = (by.t, number); chunks = by.checked.chunks; reserved = len; last = None }) hand
+  taken_hand = (λ i. record { repo = repo_is i; key = (by.t, number); chunks = chunks_is i; reserved = len; last = None }) ∙ by.is
     where
+      repo_is : by.checked.s.repo ≡ repo_in C.sessions (by.t, number)
+      repo_is = sym (rw by.checked.found refl)
+
       chunks_is : by.checked.chunks ≡ chunks_in C.sessions (by.t, number)
       chunks_is = sym (rw by.checked.found (ap at_home by.checked.home))
+
+  -- the hand has the repository and the number that were asked for
+  pub taken_names : (hand.repo ≡ repo) × (hand.key.1 ≡ number)
+  taken_names = (ap (λ (x : HandRecord). x.repo) (sym taken_hand) ∙ by.checked.of_repo, ap (λ (x : HandRecord). x.key.1) (sym taken_hand))
 
   pub taken_leaves : record C { sessions = with_chunks C.sessions (by.t, number) by.checked.s (CheckedOutWith (received_length by.checked.s) len) } ≡ C1
   taken_leaves = (λ i. record C { sessions = sessions_is i }) ∙ by.left
@@ -110,7 +117,7 @@ module _ (C C1 : Catalog) (repo : Text) (number : ℕ) (range : Option ByteRange
   C2 = record C { sessions = with_chunks C.sessions key s (CheckedOutWith (received_length s) (length b)) }
 
   abbrev h : HandRecord
-  h = record { key = key; chunks = p.checked.chunks; reserved = length b; last = None }
+  h = record { repo = s.repo; key = key; chunks = p.checked.chunks; reserved = length b; last = None }
 
   hand_is : h ≡ hand
   hand_is = taken_hand C C1 repo number (length b) range hand stepped

@@ -23,11 +23,11 @@ use Rattle.store_model.specs.Sessions.{Sessions, at_home, content_in, with_chunk
 abbrev pub after_record : DurableState → Option Change → DurableState
 after_record D change = option_map_or (after_change D) change D
 
-as_found : {taken taken' : Option (List Text)} {kept kept' here here' : Option Session} → taken' ≡ taken → kept' ≡ kept → here' ≡ here → AgreesOnSession taken kept here → AgreesOnSession taken' kept' here'
+as_found : {taken taken' : Option (Text × List Text)} {kept kept' here here' : Option Session} → taken' ≡ taken → kept' ≡ kept → here' ≡ here → AgreesOnSession taken kept here → AgreesOnSession taken' kept' here'
 as_found {taken} {taken'} {kept} {kept'} {here} {here'} a b c is = subst (λ x. AgreesOnSession x kept' here') (sym a) (subst (λ x. AgreesOnSession taken x here') (sym b) (subst (λ x. AgreesOnSession taken kept x) (sym c) is))
 
 more_pieces : (chunks : List Text) (bytes : Text) → AllByRecursion (λ c. c ≢ []) chunks → AllByRecursion (λ c. c ≢ []) (with_chunk chunks bytes)
-more_pieces chunks bytes pieces = all_chunks (record { key = (0, 0); chunks = chunks; reserved = length bytes; last = Some bytes }) (record { pieces = pieces; last = refl })
+more_pieces chunks bytes pieces = all_chunks (record { repo = []; key = (0, 0); chunks = chunks; reserved = length bytes; last = Some bytes }) (record { pieces = pieces; last = refl })
 
 module _ (taken : TakenSessions) (D : DurableState) (C : Catalog) (a : Agrees taken D C) where
   -- ---- repositories and numbers

@@ -75,8 +75,8 @@ module _ (taken : TakenSessions) (D : DurableState) (C : Catalog) (a : Agrees ta
       let same : c.chunks ≡ is.0 = home_is c.s.chunks c.home is.0 is.3 in
       (is.1 ∙ ap (λ cs. Some (record { repo = c.s.repo; chunks = CheckedIn cs })) (sym same), subst (λ cs. AllByRecursion (λ x. x ≢ []) cs) (sym same) is.2)
     where
-      home_is : (x : Chunks) → x ≡ CheckedIn c.chunks → (kept : List Text) → AgreesOnChunks (get taken (t, n)) x kept → c.chunks ≡ kept
-      home_is x home kept has = subst (λ y. AgreesOnChunks (get taken (t, n)) y kept) home has
+      home_is : (x : Chunks) → x ≡ CheckedIn c.chunks → (kept : List Text) → AgreesOnChunks (get taken (t, n)) c.s.repo x kept → c.chunks ≡ kept
+      home_is x home kept has = subst (λ y. AgreesOnChunks (get taken (t, n)) c.s.repo y kept) home has
 
   appended : (r : Text) (n : ℕ) (g : Option ByteRange) (b : Text) → Leaves (λ X. Agrees taken (after_record D (chunk_change (session_key C.tenants r n) b)) X) (Commands.append C r n g b)
   appended r n g b = of_tenant P C r _ (λ t known. past P (chunk_length_check C t r n g (length b)) _ (λ after checked. past P (check_quota C t (length b)) _ (λ _ _.

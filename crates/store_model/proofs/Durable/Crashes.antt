@@ -66,7 +66,7 @@ step_setting s (FinishCall h d (Err e)) X leaves =
 
 -- ---- sound catalogs
 
-module _ (taken : TakenSessions) (D : DurableState) (C : Catalog) (a : Agrees taken D C) (sound : Sound C) (h : HandRecord) (returned : get taken h.key ≡ Some h.chunks) (fills : IfSome h.last (λ b. length b ≡ h.reserved)) where
+module _ (taken : TakenSessions) (D : DurableState) (C : Catalog) (a : Agrees taken D C) (sound : Sound C) (h : HandRecord) (returned : get taken h.key ≡ Some (h.repo, h.chunks)) (fills : IfSome h.last (λ b. length b ≡ h.reserved)) where
   proper : (s : Session) → session_of_hand (get C.sessions h.key) h ≡ Ok s → IsProper h
   proper s here = record { pieces = (durable_hand taken D C a h returned s here).2; last = fills }
 

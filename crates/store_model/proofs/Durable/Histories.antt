@@ -14,12 +14,13 @@ use Rattle.blob_digest.proofs.KeyOrders.{number_cmp_total, exact_number}
 use Rattle.spec_lib.specs.Sets as set
 use Rattle.spec_lib.specs.Texts.{Text}
 use Rattle.spec_lib.proofs.Maps.{get-insert_at, get-insert_other}
-use Rattle.spec_lib.proofs.Options.{no_member}
+use Rattle.spec_lib.proofs.Options.{no_member, some_same}
 use Rattle.spec_lib.proofs.Outcomes.{bound_ok, ok_pair}
-use Rattle.store_model.specs.Catalog.{Catalog, CheckedIn, CheckedOutWith, Chunks, HandRecord, Resident, Session, SessionNumber, Tenant, link_cmp, opening, received_length, session_number_cmp, ContentRules}
+use Rattle.store_model.specs.Catalog.{Catalog, CheckedIn, CheckedOutWith, Chunks, HandRecord, Resident, Session, SessionNumber, Tenant, link_cmp, opening, received_length, session_number_cmp, tenant_of, ContentRules}
 use Rattle.store_model.specs.Commands.{check_share, after_cancel, finish, has_slot, is_digest_accepted, put_back, take, was_leased, with_stored_blob}
 use Rattle.store_model.specs.Durable.{Agrees, AgreesOnChunks, AgreesOnSession, AreReturnedAsTaken, Change, DurableState, IsReturnedAsTaken, LogsAgree, LogsExtend, ManifestPut, SessionSealed, TakenSessions, after_change, after_changes, after_seal, change_of, changes_of, chunk_change, filled_chunk, initial_durable, taken_after_step, taken_after_steps}
 use Rattle.store_model.specs.Histories.{AreSteps, CommandCall, FinishCall, MayLeadTo, PutBackCall, State, Step, SweepCall, SweepPartCall, TakeCall, initial_state}
+use Rattle.store_model.specs.Invariant.{WellFormed}
 use Rattle.store_model.specs.Sessions.{chunks_of, hand_content, put_back_outcome_in, session_of_hand, with_chunk, with_chunks, with_old_chunks}
 use Rattle.store_model.specs.Sweep.{IsAfterSweep, IsSweepOf, is_orphan}
 use Rattle.store_model.specs.declared.swept.Swept.{Swept}
@@ -28,19 +29,20 @@ use Rattle.store_model.proofs.Commands.ByHand.{taken_hand, taken_leaves, taken_r
 use Rattle.store_model.proofs.Commands.Hands.{TookIn, taken_found, took}
 use Rattle.store_model.proofs.Durable.Agreement.{Agrees-receive as comes_home, Agrees-same_session, Agrees-seal, after_record, durable_session}
 use Rattle.store_model.proofs.Durable.Commands.{command_agrees}
+use Rattle.store_model.proofs.Invariant.SessionTenants.{session_owner}
 use Rattle.store_model.proofs.Noninterference.Consistency.{no_orphan}
 
 -- ---- hands
 
 module _ (taken : TakenSessions) (D : DurableState) (C X : Catalog) (a : Agrees taken D C) where
   -- a session that is checked out keeps its durable chunks
-  takes : (r : Text) (n len : ℕ) (g : Option ByteRange) (h : HandRecord) → take C r n g len ≡ Ok (h, X) → Agrees (insert taken h.key h.chunks) D X
+  takes : (r : Text) (n len : ℕ) (g : Option ByteRange) (h : HandRecord) → take C r n g len ≡ Ok (h, X) → Agrees (insert taken h.key (h.repo, h.chunks)) D X
   takes r n len g h is =
-      subst (λ (y : HandRecord). Agrees (insert taken y.key y.chunks) D X) (taken_hand C X r n len g h is)
-      (subst (λ (Y : Catalog). Agrees (insert taken key p.checked.chunks) D Y) (taken_leaves C X r n len g h is)
-      (Agrees-same_session taken D C a key (record p.checked.s { chunks = CheckedOutWith (received_length p.checked.s) len }) (insert taken key p.checked.chunks)
-      (λ q other. get-insert_other number_cmp_total exact_number taken key p.checked.chunks q other) (a.uploaded_to key p.checked.s p.checked.found)
-      (p.checked.chunks, has.1 ∙ ap (λ cs. Some (record { repo = p.checked.s.repo; chunks = CheckedIn cs })) (sym same), subst (λ cs. AllByRecursion (λ x. x ≢ []) cs) (sym same) has.2, (taken_received C X r n len g h is, get-insert_at number_cmp_total exact_number taken key p.checked.chunks))))
+      subst (λ (y : HandRecord). Agrees (insert taken y.key (y.repo, y.chunks)) D X) (taken_hand C X r n len g h is)
+      (subst (λ (Y : Catalog). Agrees (insert taken key was) D Y) (taken_leaves C X r n len g h is)
+      (Agrees-same_session taken D C a key (record p.checked.s { chunks = CheckedOutWith (received_length p.checked.s) len }) (insert taken key was)
+      (λ q other. get-insert_other number_cmp_total exact_number taken key was q other) (a.uploaded_to key p.checked.s p.checked.found)
+      (p.checked.chunks, has.1 ∙ ap (λ cs. Some (record { repo = p.checked.s.repo; chunks = CheckedIn cs })) (sym same), subst (λ cs. AllByRecursion (λ x. x ≢ []) cs) (sym same) has.2, (taken_received C X r n len g h is, get-insert_at number_cmp_total exact_number taken key was))))
     where
       p : TookIn C X r n len g h is
       p = took C X r n len g h is
@@ -48,22 +50,38 @@ module _ (taken : TakenSessions) (D : DurableState) (C X : Catalog) (a : Agrees 
       key : SessionNumber
       key = (p.t, n)
 
+      was : Text × List Text
+      was = (p.checked.s.repo, p.checked.chunks)
+
       has : AgreesOnSession (get taken key) (get D.sessions key) (Some p.checked.s)
       has = durable_session taken D C a key p.checked.s p.checked.found
 
       same : p.checked.chunks ≡ has.0
-      same = subst (λ (y : Chunks). AgreesOnChunks (get taken key) y has.0) p.checked.home has.3
+      same = subst (λ (y : Chunks). AgreesOnChunks (get taken key) p.checked.s.repo y has.0) p.checked.home has.3
 
-module _ (taken : TakenSessions) (D : DurableState) (C : Catalog) (a : Agrees taken D C) (h : HandRecord) (returned : get taken h.key ≡ Some h.chunks) where
+module _ (taken : TakenSessions) (D : DurableState) (C : Catalog) (a : Agrees taken D C) (h : HandRecord) (returned : get taken h.key ≡ Some (h.repo, h.chunks)) where
+  -- the session has the hand's repository, and its durable chunks are the hand's
+  as_taken : (s : Session) → session_of_hand (get C.sessions h.key) h ≡ Ok s → (has : AgreesOnSession (get taken h.key) (get D.sessions h.key) (Some s)) → (s.repo ≡ h.repo) × (has.0 ≡ h.chunks)
+  as_taken s here has =
+      let out : AgreesOnChunks (get taken h.key) s.repo (CheckedOutWith (sum_by length h.chunks) h.reserved) has.0 = subst (λ (y : Chunks). AgreesOnChunks (get taken h.key) s.repo y has.0) (taken_found (get C.sessions h.key) h s here).1 has.3 in
+      let same : (s.repo, has.0) ≡ (h.repo, h.chunks) = some_same (sym out.1 ∙ returned) in
+      (ap (λ p. p.0) same, ap (λ p. p.1) same)
+
   -- the durable chunks are the hand's
   pub durable_hand : (s : Session) → session_of_hand (get C.sessions h.key) h ≡ Ok s →
       (get C.sessions h.key ≡ Some s) × (get D.sessions h.key ≡ Some (record { repo = s.repo; chunks = CheckedIn h.chunks })) × AllByRecursion (λ c. c ≢ []) h.chunks
   durable_hand s here =
       let f = taken_found (get C.sessions h.key) h s here in
       let has = durable_session taken D C a h.key s f.0 in
-      let in_hand : AgreesOnChunks (get taken h.key) (CheckedOutWith (sum_by length h.chunks) h.reserved) has.0 = subst (λ (y : Chunks). AgreesOnChunks (get taken h.key) y has.0) f.1 has.3 in
-      let same : has.0 ≡ h.chunks = (let e : Some has.0 ≡ Some h.chunks = sym in_hand.1 ∙ returned in cc) in
+      let same : has.0 ≡ h.chunks = (as_taken s here has).1 in
       (f.0, has.1 ∙ ap (λ cs. Some (record { repo = s.repo; chunks = CheckedIn cs })) same, subst (λ cs. AllByRecursion (λ c. c ≢ []) cs) same has.2)
+
+  -- the session has the hand's repository, which belongs to the hand's tenant
+  pub returned_owner : WellFormed C → (s : Session) → session_of_hand (get C.sessions h.key) h ≡ Ok s → (s.repo ≡ h.repo) × (tenant_of C.tenants h.repo ≡ Some h.key.0)
+  returned_owner lawful s here =
+      let found = (taken_found (get C.sessions h.key) h s here).0 in
+      let same = (as_taken s here (durable_session taken D C a h.key s found)).0 in
+      (same, ap (tenant_of C.tenants) (sym same) ∙ session_owner C lawful h.key s found)
 
   pub puts_back : (n : ℕ) (X : Catalog) → put_back C h ≡ Ok (n, X) → Agrees taken (after_record D (chunk_change h.key (filled_chunk h))) X
   puts_back n X is =

@@ -116,9 +116,9 @@ stays_out s (FinishCall h d (Err e)) X lawful leaves k out other = subst (λ (Y 
 
 -- ---- the hands of all lanes
 
--- each lane's hand has the chunks with which its session was taken, its session is checked out, and no two lanes hold hands of one session
+-- each lane's hand is as it was taken, its session is checked out, and no two lanes hold hands of one session
 record Known (taken : TakenSessions) (C : Catalog) (hands : ℕ → Option HandRecord) : Type 0 where
-  held : (w : ℕ) (h : HandRecord) → hands w ≡ Some h → (get taken h.key ≡ Some h.chunks) × IsOut C h.key
+  held : (w : ℕ) (h : HandRecord) → hands w ≡ Some h → (get taken h.key ≡ Some (h.repo, h.chunks)) × IsOut C h.key
   apart : (w v : ℕ) (h g : HandRecord) → hands w ≡ Some h → hands v ≡ Some g → h.key ≡ g.key → w ≡ v
 
 module _ (w : ℕ) (hands : ℕ → Option HandRecord) where
@@ -182,12 +182,12 @@ module _ (w : ℕ) (hands : ℕ → Option HandRecord) where
     }
 
     -- the lane takes a hand of a checked-in session
-    takes : (r : Text) (n : ℕ) (g : Option ByteRange) (len : ℕ) (h : HandRecord) → take s.catalog r n g len ≡ Ok (h, X) → Known (insert taken h.key h.chunks) X (put_at (Some h))
+    takes : (r : Text) (n : ℕ) (g : Option ByteRange) (len : ℕ) (h : HandRecord) → take s.catalog r n g len ≡ Ok (h, X) → Known (insert taken h.key (h.repo, h.chunks)) X (put_at (Some h))
     takes r n g len h is = record {
       held = λ v x a. elim (new_or_old h v x a) [
-        | inl new ↦ subst (λ y. (get (insert taken h.key h.chunks) y.key ≡ Some y.chunks) × IsOut X y.key) new.1 (get-insert_at number_cmp_total exact_number taken h.key h.chunks, here)
+        | inl new ↦ subst (λ y. (get (insert taken h.key (h.repo, h.chunks)) y.key ≡ Some (y.repo, y.chunks)) × IsOut X y.key) new.1 (get-insert_at number_cmp_total exact_number taken h.key (h.repo, h.chunks), here)
         | inr old ↦ let was = known.held v x old.0 in
-            (get-insert_other number_cmp_total exact_number taken h.key h.chunks x.key (other x.key was.1) ∙ was.0, stays_out s (TakeCall r n g len (Ok h)) X lawful is x.key was.1 tt)
+            (get-insert_other number_cmp_total exact_number taken h.key (h.repo, h.chunks) x.key (other x.key was.1) ∙ was.0, stays_out s (TakeCall r n g len (Ok h)) X lawful is x.key was.1 tt)
       ];
       apart = λ v u x y a b same. elim (new_or_old h v x a) [
         | inl new ↦ elim (new_or_old h u y b) [
@@ -214,8 +214,8 @@ module _ (w : ℕ) (hands : ℕ → Option HandRecord) where
         here = subst (λ (q : SessionNumber). IsOut X q) key_is (subst (λ (Y : Catalog). IsOut Y (p.t, n)) (taken_leaves s.catalog X r n len g h is)
             (record p.checked.s { chunks = CheckedOutWith (received_length p.checked.s) len }, get-insert_at number_cmp_total exact_number s.catalog.sessions (p.t, n) _, refl))
 
-    own_hand : (h : HandRecord) → IsHeldHand (hands w) h → get taken h.key ≡ Some h.chunks
-    own_hand h hand = let held = known.held w hand.0 hand.1 in ap (get taken) hand.2 ∙ held.0 ∙ ap Some (sym hand.3)
+    own_hand : (h : HandRecord) → IsHeldHand (hands w) h → get taken h.key ≡ Some (h.repo, h.chunks)
+    own_hand h hand = let held = known.held w hand.0 hand.1 in ap (get taken) hand.2 ∙ held.0 ∙ (λ i. Some (sym hand.3 i, sym hand.4 i))
 
     next : (step : Step) (own : List Step) → MayLeadTo s step X → IsPaired (hands w) (step ∷ own) → Next taken step X own
     next (CommandCall command reply) own leaves paired = record { out = hands w; returned = tt; known = same_hands (CommandCall command reply) leaves (λ k. tt); paired = paired.1 }

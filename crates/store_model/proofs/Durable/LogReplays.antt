@@ -148,7 +148,7 @@ module _ (taken : TakenSessions) (D : DurableState) (s : State) (a : Agrees take
       named : (t : ℕ) → tenant_of C.tenants r ≡ Some t → HasRoomFor D (after R) (SessionSealed (t, n) d bytes) → HasRoomFor D (after R) (SessionSealed (session_key D.tenants r n) d bytes)
       named t known room = subst (λ key. HasRoomFor D (after R) (SessionSealed key d bytes)) (sym (ap (λ o. (option_map_or (λ x. x) o 0, n)) (ap (λ ts. tenant_of ts r) a.tenants ∙ known))) room
 
-  finish_room : (h : HandRecord) → get taken h.key ≡ Some h.chunks → (d : Text) (n : ℕ) (X : Catalog) → finish C h d ≡ Ok (n, X) → HasRoomFor D (after R) (SessionSealed h.key d (filled_chunk h))
+  finish_room : (h : HandRecord) → get taken h.key ≡ Some (h.repo, h.chunks) → (d : Text) (n : ℕ) (X : Catalog) → finish C h d ≡ Ok (n, X) → HasRoomFor D (after R) (SessionSealed h.key d (filled_chunk h))
   finish_room h returned d n X is =
       let c = bound_ok (session_of_hand (get C.sessions h.key) h) _ (n, X) is in
       let e = bound_ok (refuse (not (is_digest_accepted C d (hand_content h))) DigestInvalid) _ (n, X) c.2 in

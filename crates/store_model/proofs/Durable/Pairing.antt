@@ -38,12 +38,12 @@ held_hand-append_one steps step = fold-append hand_after None steps (step ∷ []
 
 -- a lane holds the hand that it took last
 pub IsHeld-take : (steps : List Step) (r : Text) (n : ℕ) (g : Option ByteRange) (len : ℕ) (h : HandRecord) → IsHeld h (steps ++ TakeCall r n g len (Ok h) ∷ [])
-IsHeld-take steps r n g len h = (h, held_hand-append_one steps (TakeCall r n g len (Ok h)), refl, refl)
+IsHeld-take steps r n g len h = (h, held_hand-append_one steps (TakeCall r n g len (Ok h)), refl, refl, refl)
 
 -- a step that neither takes nor returns a hand keeps the held one
 pub IsHeld-append_one : (h : HandRecord) (steps : List Step) (step : Step) → hand_after (held_hand steps) step ≡ held_hand steps → IsHeld h steps → IsHeld h (steps ++ step ∷ [])
-IsHeld-append_one h steps step same held = (held.0, held_hand-append_one steps step ∙ same ∙ held.1, held.2, held.3)
+IsHeld-append_one h steps step same held = (held.0, held_hand-append_one steps step ∙ same ∙ held.1, held.2, held.3, held.4)
 
--- a hand with the same key and chunks is held too, with or without a chunk filled in
-pub IsHeld-same : (h filled : HandRecord) (steps : List Step) → filled.key ≡ h.key → filled.chunks ≡ h.chunks → IsHeld h steps → IsHeld filled steps
-IsHeld-same h filled steps key chunks held = (held.0, held.1, key ∙ held.2, chunks ∙ held.3)
+-- a hand with the same key, repository and chunks is held too, with or without a chunk filled in
+pub IsHeld-same : (h filled : HandRecord) (steps : List Step) → filled.key ≡ h.key → filled.repo ≡ h.repo → filled.chunks ≡ h.chunks → IsHeld h steps → IsHeld filled steps
+IsHeld-same h filled steps key repo chunks held = (held.0, held.1, key ∙ held.2, repo ∙ held.3, chunks ∙ held.4)

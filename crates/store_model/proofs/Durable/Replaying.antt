@@ -413,7 +413,7 @@ module _ (taken : TakenSessions) (D : DurableState) (s : State) (a : Agrees take
 
   -- ---- hands
 
-  module _ (h : HandRecord) (returned : get taken h.key ≡ Some h.chunks) (fills : IfSome h.last (λ b. length b ≡ h.reserved)) where
+  module _ (h : HandRecord) (returned : get taken h.key ≡ Some (h.repo, h.chunks)) (fills : IfSome h.last (λ b. length b ≡ h.reserved)) where
     put_back_replayed : (n : ℕ) (X : Catalog) → put_back C h ≡ Ok (n, X) → (change : Change) → chunk_change h.key (filled_chunk h) ≡ Some change → HasReplay D R change
     put_back_replayed n X is change records =
         let p = bound_ok (put_back_outcome_in C.sessions h) _ (n, X) is in

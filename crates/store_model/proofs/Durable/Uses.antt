@@ -48,16 +48,16 @@ module _ (taken : TakenSessions) (D : DurableState) (C : Catalog) (a : Agrees ta
       (x : Session) × (chunks : List Text) × (get C.sessions key ≡ Some x) × (s ≡ record { repo = x.repo; chunks = CheckedIn chunks }) × AllByRecursion (λ c. c ≢ []) chunks × (charged_length s ≤ charged_length x)
   was_open key s found = by (get C.sessions key) refl (a.sessions key)
     where
-      no_fewer : (x : Chunks) (chunks : List Text) → AgreesOnChunks (get taken key) x chunks → charged_length (record { repo = []; chunks = CheckedIn chunks }) ≤ charged_length (record { repo = []; chunks = x })
-      no_fewer (CheckedIn cs) chunks is = subst (λ c. charged_length (record { repo = []; chunks = CheckedIn chunks }) ≤ charged_length (record { repo = []; chunks = CheckedIn c })) (sym is) (omega arith)
-      no_fewer (CheckedOutWith n m) chunks is = let len = is.0 in omega arith
+      no_fewer : (repo : Text) (x : Chunks) (chunks : List Text) → AgreesOnChunks (get taken key) repo x chunks → charged_length (record { repo = []; chunks = CheckedIn chunks }) ≤ charged_length (record { repo = []; chunks = x })
+      no_fewer repo (CheckedIn cs) chunks is = subst (λ c. charged_length (record { repo = []; chunks = CheckedIn chunks }) ≤ charged_length (record { repo = []; chunks = CheckedIn c })) (sym is) (omega arith)
+      no_fewer repo (CheckedOutWith n m) chunks is = let len = is.0 in omega arith
 
       by : (o : Option Session) → get C.sessions key ≡ o → AgreesOnSession (get taken key) (get D.sessions key) o →
           (x : Session) × (chunks : List Text) × (get C.sessions key ≡ Some x) × (s ≡ record { repo = x.repo; chunks = CheckedIn chunks }) × AllByRecursion (λ c. c ≢ []) chunks × (charged_length s ≤ charged_length x)
       by None here is = nothing is found
       by (Some x) here is =
           let same : s ≡ record { repo = x.repo; chunks = CheckedIn is.0 } = some_same (sym found ∙ is.1) in
-          (x, is.0, here, same, is.2, subst (λ y. charged_length y ≤ charged_length x) (sym same) (no_fewer x.chunks is.0 is.3))
+          (x, is.0, here, same, is.2, subst (λ y. charged_length y ≤ charged_length x) (sym same) (no_fewer x.repo x.chunks is.0 is.3))
 
   pub open_less : (t : ℕ) → open_count_in D.sessions t ≤ open_sessions C t
   open_less t = sum_within number_cmp_total exact_number (λ e. cond (e.0.0 == t) 1 0) (λ e. cond (e.0.0 == t) 1 0) D.sessions C.sessions (λ q. by q (get D.sessions q) refl)
@@ -84,13 +84,13 @@ module _ (taken : TakenSessions) (D : DurableState) (C : Catalog) (a : Agrees ta
     pub sessions_are : R.sessions ≡ D.sessions
     sessions_are = same_map number_cmp_total exact_number R.sessions D.sessions (λ q. by q (get R.sessions q) (b.sessions q))
       where
-        home : (q : SessionNumber) (x : Chunks) (chunks : List Text) → AgreesOnChunks (get {R = session_number_cmp} empty q) x chunks → x ≡ CheckedIn chunks
-        home q (CheckedIn cs) chunks is = ap CheckedIn is
-        home q (CheckedOutWith n m) chunks is = nothing (get-empty session_number_cmp q) is.1
+        home : (q : SessionNumber) (repo : Text) (x : Chunks) (chunks : List Text) → AgreesOnChunks (get {R = session_number_cmp} empty q) repo x chunks → x ≡ CheckedIn chunks
+        home q repo (CheckedIn cs) chunks is = ap CheckedIn is
+        home q repo (CheckedOutWith n m) chunks is = nothing (get-empty session_number_cmp q) is.1
 
         by : (q : SessionNumber) (o : Option Session) → AgreesOnSession (get {R = session_number_cmp} empty q) (get D.sessions q) o → o ≡ get D.sessions q
         by q None is = sym is
-        by q (Some s) is = (λ i. Some (record { repo = s.repo; chunks = home q s.chunks is.0 is.3 i })) ∙ sym is.1
+        by q (Some s) is = (λ i. Some (record { repo = s.repo; chunks = home q s.repo s.chunks is.0 is.3 i })) ∙ sym is.1
 
     -- the other catalog with the slots, limit, sessions and blobs of this one
     abbrev pub as_was : Catalog

@@ -24,7 +24,7 @@ records : changes_of tenants steps ≡ SessionOpened repo (0, 1) ∷ ChunkReceiv
 records = refl
 
 returned : AreReturnedAsTaken empty steps
-returned = (tt, (tt, (simp (get-insert {X = List Text} number_cmp_total) refl, (tt, (simp (get-insert {X = List Text} number_cmp_total) refl, (tt, tt))))))
+returned = (tt, (tt, (simp (get-insert {X = Text × List Text} number_cmp_total) refl, (tt, (simp (get-insert {X = Text × List Text} number_cmp_total) refl, (tt, tt))))))
 
 -- the theorem about a log, for this history
 agrees : Agrees (taken_after_steps empty steps) (after_changes (initial_durable tenants) (SessionOpened repo (0, 1) ∷ ChunkReceived (0, 1) abc_bytes ∷ SessionSealed (0, 1) abc [] ∷ [])) closed
@@ -62,7 +62,7 @@ forged_is_accepted = simp (get-insert {X = Session} number_cmp_total) refl
 
 -- the history's steps are paired, as those of one lane
 paired : IsPaired None steps
-paired = (tt, (tt, ((first_hand, refl, refl, refl), (tt, ((second_hand, refl, refl, refl), (tt, tt))))))
+paired = (tt, (tt, ((first_hand, refl, refl, refl, refl), (tt, ((second_hand, refl, refl, refl, refl), (tt, tt))))))
 
 -- a lane may take a hand while it holds another, and then holds only the later one
 later_hand : held_hand (TakeCall repo 1 None 3 (Ok first_hand) ∷ TakeCall repo 2 None 0 (Ok second_hand) ∷ []) ≡ Some second_hand

@@ -27,7 +27,7 @@ book = record (opening (record { name = codes "acme"; quota = 5; share = 4294967
 }
 
 abbrev hand : HandRecord
-hand = record { key = (0, 1); chunks = codes "ab" ∷ []; reserved = 2; last = None }
+hand = record { repo = one; key = (0, 1); chunks = codes "ab" ∷ []; reserved = 2; last = None }
 
 -- session 1 is checked out, with two bytes reserved
 abbrev held : Catalog

@@ -42,10 +42,10 @@ abbrev pub closed : Catalog
 closed = with_stored_blob taken_again 0 repo 1 abc abc_bytes
 
 abbrev pub first_hand : HandRecord
-first_hand = record { key = (0, 1); chunks = []; reserved = 3; last = None }
+first_hand = record { repo = repo; key = (0, 1); chunks = []; reserved = 3; last = None }
 
 abbrev pub second_hand : HandRecord
-second_hand = record { key = (0, 1); chunks = abc_bytes ∷ []; reserved = 0; last = None }
+second_hand = record { repo = repo; key = (0, 1); chunks = abc_bytes ∷ []; reserved = 0; last = None }
 
 started : start empty_store repo ≡ Ok (1, opened)
 started = simp (get-empty, entries-empty) refl

@@ -63,10 +63,10 @@ abbrev both_back : Catalog
 both_back = with one_back (1, 1) x (CheckedIn (codes "abcd" ∷ []))
 
 abbrev hand : HandRecord
-hand = record { key = (0, 1); chunks = []; reserved = 2; last = None }
+hand = record { repo = one; key = (0, 1); chunks = []; reserved = 2; last = None }
 
 abbrev other_hand : HandRecord
-other_hand = record { key = (1, 1); chunks = []; reserved = 4; last = None }
+other_hand = record { repo = x; key = (1, 1); chunks = []; reserved = 4; last = None }
 
 abbrev steps : List Step
 steps = CommandCall (Start one) (Ok (Numbered 1)) ∷ CommandCall (Start one) (Ok (Numbered 2)) ∷ CommandCall (Start x) (Ok (Numbered 1)) ∷ TakeCall x 1 None 4 (Ok other_hand)

@@ -169,7 +169,7 @@ module _ (content : Text → Text) (t : ℕ) (C D : Catalog) (alike : Alike t C 
   own_take r n g len own = with_tenant content t C D alike consistent_C consistent_D r own _ _ (
       same_check t _ _ (check_same t C D alike r n g len) _ _ (λ after _.
       same_check t _ _ (quota_alike content t C D alike consistent_C consistent_D r own len) _ _ (λ _ _. (
-        (λ i. record { key = (t, n); chunks = option_map_or (λ s. at_home s.chunks) (session_found t C D alike n i) []; reserved = len; last = None }),
+        (λ i. record { repo = option_map_or (λ s. s.repo) (session_found t C D alike n i) []; key = (t, n); chunks = option_map_or (λ s. at_home s.chunks) (session_found t C D alike n i) []; reserved = len; last = None }),
         with_sessions t (visible C) (visible D) alike _ _
             (agree_changed (λ k. k.0 == t) C.sessions D.sessions (t, n) (λ s. record s { chunks = CheckedOutWith (received_length s) len }) alike.sessions (session_found t C D alike n)),
       ))))

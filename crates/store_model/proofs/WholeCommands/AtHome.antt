@@ -20,6 +20,7 @@ pub record IsLent (tenants : List Tenant) (max_blob : ℕ) (k : SessionNumber) (
   pub key : out.hand.key ≡ k
   pub unfilled : out.hand.last ≡ None
   pub repo : s.repo ≡ out.repo
+  pub named : s.repo ≡ out.hand.repo
   pub known : tenant_of tenants out.repo ≡ Some k.0
   pub chunks : s.chunks ≡ CheckedOutWith (sum_by length out.hand.chunks) out.hand.reserved
   pub pieces : AllByRecursion (λ c. c ≢ []) out.hand.chunks

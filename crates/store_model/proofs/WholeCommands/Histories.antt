@@ -21,7 +21,7 @@ use Rattle.store_model.specs.Histories.{AreSteps, SweepCall, SweepPartCall, Fini
 use Rattle.store_model.specs.Invariant.{Sound}
 use Rattle.store_model.specs.Runs as runs
 use Rattle.store_model.specs.Runs.{Answer, CommandEvent, Command, Event, IsCommandCase, Happens, HasShortName, IsRun, SweepEvent, SweepPartEvent, map_outcome, outcome, takes_memory}
-use Rattle.store_model.specs.Sessions.{Sessions, at_home, chunks_in, length_after, after_take_in, with_chunks}
+use Rattle.store_model.specs.Sessions.{Sessions, at_home, chunks_in, length_after, repo_in, after_take_in, with_chunks}
 use Rattle.store_model.specs.Sweep.{IsSweepOf}
 use Rattle.store_model.specs.declared.swept.Swept.{Swept as SweptCounts}
 use Rattle.store_model.specs.WholeCommands.{AreContentionFree, AreWholeCommands, CorrespondsTo, CheckedOutSessions, HistoriesAreRuns, IsContentionFree, IsContentionFreeStep, IsUpload, CheckedOut, length_reply}
@@ -112,7 +112,7 @@ module _ (hands : CheckedOutSessions) (C X : Catalog) (m : Sessions) (home : AtH
   key = (p.t, n)
 
   abbrev hand : HandRecord
-  hand = record { key = key; chunks = p.checked.chunks; reserved = len; last = None }
+  hand = record { repo = s.repo; key = key; chunks = p.checked.chunks; reserved = len; last = None }
 
   abbrev lent_as : HandRecord → CheckedOut
   lent_as x = record { hand = x; repo = r; range = g }
@@ -132,6 +132,7 @@ module _ (hands : CheckedOutSessions) (C X : Catalog) (m : Sessions) (home : AtH
     key = refl;
     unfilled = refl;
     repo = p.checked.of_repo;
+    named = refl;
     known = p.known;
     chunks = λ i. CheckedOutWith (received_is i) len;
     pieces = subst (λ cs. AllByRecursion (λ c. c ≢ []) cs) (ap at_home p.checked.home) (sound.lawful.sessions key s p.checked.found).chunks;
@@ -214,8 +215,11 @@ module _ (hands : CheckedOutSessions) (C : Catalog) (m : Sessions) (home : AtHom
               omega arith)
 
       hand_is : hand_in back.sessions h.key out.hand.reserved ≡ out.hand
-      hand_is = (λ i. record { key = sym lent_is.key i; chunks = chunks_is i; reserved = out.hand.reserved; last = sym lent_is.unfilled i })
+      hand_is = (λ i. record { repo = repo_is i; key = sym lent_is.key i; chunks = chunks_is i; reserved = out.hand.reserved; last = sym lent_is.unfilled i })
         where
+          repo_is : repo_in back.sessions h.key ≡ out.hand.repo
+          repo_is = rw found_back lent_is.named
+
           chunks_is : chunks_in back.sessions h.key ≡ out.hand.chunks
           chunks_is = rw found_back refl
 
