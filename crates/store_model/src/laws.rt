@@ -130,7 +130,7 @@ pub fn whole_commands()
 ///
 /// Each has one premise:
 ///
-/// - A hand that is checked in or finished has the chunks with which its session was checked out.
+/// - A hand that is checked in or finished has the repository and the chunks with which its session was checked out.
 ///
 /// Two clauses state when the premise holds:
 ///

@@ -26,16 +26,16 @@ use Rattle.store_model.proofs.WholeCommands.Histories.{whole}
 -- ---- whole commands
 
 module _ (D : DurableState) (C : Catalog) (a : Agrees empty D C) where
-  home : (k : SessionNumber) (x : Chunks) (chunks : List Text) → AgreesOnChunks (get {R = session_number_cmp} empty k) x chunks → are_checked_in x ≡ true
-  home k (CheckedIn cs) chunks is = refl
-  home k (CheckedOutWith n m) chunks is = nothing (get-empty session_number_cmp k) is.1
+  home : (k : SessionNumber) (repo : Text) (x : Chunks) (chunks : List Text) → AgreesOnChunks (get {R = session_number_cmp} empty k) repo x chunks → are_checked_in x ≡ true
+  home k repo (CheckedIn cs) chunks is = refl
+  home k repo (CheckedOutWith n m) chunks is = nothing (get-empty session_number_cmp k) is.1
 
   all_home : AtHome empty C C.sessions
   all_home k = subst (λ o. AreOne C.tenants C.contents.max_blob k (get C.sessions k) o (get C.sessions k)) (sym (get-empty session_number_cmp k)) (by (get C.sessions k) (a.sessions k))
     where
       by : (o : Option Session) → AgreesOnSession (get {R = session_number_cmp} empty k) (get D.sessions k) o → AreOne C.tenants C.contents.max_blob k o None o
       by None is = refl
-      by (Some s) is = (home k s.chunks is.0 is.3, refl)
+      by (Some s) is = (home k s.repo s.chunks is.0 is.3, refl)
 
 pub restarted_histories_are_runs : RestartedHistoriesAreRuns
 restarted_histories_are_runs D C steps s events a sound run calm are named = whole steps (initial_state C) s empty C.sessions events (all_home D C a) sound run calm are named
