@@ -58,6 +58,16 @@ with_forged_chunks = record taken_again { sessions = insert taken_again.sessions
 forged_is_accepted : put_back taken_again forged ≡ Ok (3, with_forged_chunks)
 forged_is_accepted = simp (get-insert {X = Session} number_cmp_total) refl
 
+-- A check-in of a hand with another repository is legal too, but its record would name another tenant.
+abbrev renamed : HandRecord
+renamed = record second_hand { repo = codes "other/one" }
+
+abbrev checked_in_again : Catalog
+checked_in_again = record taken_again { sessions = insert taken_again.sessions (0, 1) (record { repo = repo; chunks = CheckedIn (abc_bytes ∷ []) }) }
+
+renamed_is_accepted : put_back taken_again renamed ≡ Ok (3, checked_in_again)
+renamed_is_accepted = simp (get-insert {X = Session} number_cmp_total) refl
+
 -- ---- lanes
 
 -- the history's steps are paired, as those of one lane
