@@ -12,5 +12,6 @@ pub mod SessionTenants
 pub mod Sessions
 pub mod Shares
 pub mod TenantLimits
+pub mod TenantNames
 pub mod Unused
 pub mod Use

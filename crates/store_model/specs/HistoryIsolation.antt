@@ -9,7 +9,7 @@ use Rattle.store_model.specs.BookText.{book_text}
 use Rattle.store_model.specs.Catalog.{Catalog, HandRecord, Tenant, is_repo_of_tenant, opening, ContentRules}
 use Rattle.store_model.specs.Commands.{Outcome, after_cancel, finish, put_back, take}
 use Rattle.store_model.specs.Histories.{AreSteps, SweepCall, SweepPartCall, FinishCall, IsUncountable, LeadsTo, CommandCall, PutBackCall, State, Step, TakeCall, initial_state}
-use Rattle.store_model.specs.Noninterference.{NoCollision, uploads_of_command, catalog_after, uploaded_pair, isolated_outcome, tenant_view, reply_of}
+use Rattle.store_model.specs.Noninterference.{AreTenantsAlike, NoCollision, uploads_of_command, catalog_after, uploaded_pair, isolated_outcome, tenant_view, reply_of}
 use Rattle.store_model.specs.Runs.{Command, repo_of}
 use Rattle.store_model.specs.Sessions.{hand_content}
 
@@ -126,15 +126,15 @@ pub record IsCollisionFreeHistory (tenants : List Tenant) (slots : ℕ) (content
 abbrev pub IsUnaffectedHistory : (tenants : List Tenant) (slots : ℕ) (contents : ContentRules) (t : ℕ) (steps : List Step) (s : State) → IsCollisionFreeHistory tenants slots contents steps s → Type 0
 IsUnaffectedHistory tenants slots contents t steps s fair = AreOwnReplies tenants t (initial_state (opening tenants slots contents)) steps s fair.run
 
--- a tenant's steps and its view at the end are those of its isolated history
-pub record IsIsolatedInHistory (tenants : List Tenant) (slots : ℕ) (contents : ContentRules) (t : ℕ) (steps : List Step) (s : State) : Type 0 where
-  pub replies : isolated_steps (opening tenants slots contents) (requests_of (steps_of tenants t steps)) ≡ steps_of tenants t steps
-  pub tenant_view : tenant_view s.catalog t ≡ tenant_view (catalog_after_requests (opening tenants slots contents) (requests_of (steps_of tenants t steps))) t
+-- a tenant's steps and its view at the end are those of its isolated history in a new store with the tenants `others`
+pub record IsIsolatedInHistory (tenants others : List Tenant) (slots : ℕ) (contents : ContentRules) (t : ℕ) (steps : List Step) (s : State) : Type 0 where
+  pub replies : isolated_steps (opening others slots contents) (requests_of (steps_of tenants t steps)) ≡ steps_of tenants t steps
+  pub tenant_view : tenant_view s.catalog t ≡ tenant_view (catalog_after_requests (opening others slots contents) (requests_of (steps_of tenants t steps))) t
 
--- If no reply to a tenant is one that others may cause, its replies and its view at the end are those of its isolated history.
+-- If no reply to a tenant is one that others may cause, its replies and its view at the end are those of its isolated history, whatever settings the others have in it.
 abbrev pub TenantsAreIsolatedInHistories : Type 0
-TenantsAreIsolatedInHistories = (tenants : List Tenant) (slots : ℕ) (contents : ContentRules) (t : ℕ) (steps : List Step) (s : State) (fair : IsCollisionFreeHistory tenants slots contents steps s) →
-    IsUnaffectedHistory tenants slots contents t steps s fair → IsIsolatedInHistory tenants slots contents t steps s
+TenantsAreIsolatedInHistories = (tenants others : List Tenant) (slots : ℕ) (contents : ContentRules) (t : ℕ) (steps : List Step) (s : State) → AreTenantsAlike t tenants others →
+    (fair : IsCollisionFreeHistory tenants slots contents steps s) → IsUnaffectedHistory tenants slots contents t steps s fair → IsIsolatedInHistory tenants others slots contents t steps s
 
 -- The store's text is the same after two such histories in which each tenant makes the same requests in the same order.
 abbrev pub HistoriesLeaveTheSameText : Type 0

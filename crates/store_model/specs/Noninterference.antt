@@ -1,5 +1,5 @@
 -- Isolation of tenants in runs: a tenant's replies, and its view at the end, are those of its own commands alone.
-use Rattle.std.specs.Prelude.{◌≡◌, ◌≢◌, ℕ, ◌==◌, false, Result, Ok, Err, List, [], ◌∷◌, ◌++◌, map, filter, if◌then◌else◌}
+use Rattle.std.specs.Prelude.{◌≡◌, ◌≢◌, ℕ, ◌==◌, false, Result, Ok, Err, List, [], ◌∷◌, ◌++◌, map, filter, slice_get, if◌then◌else◌}
 use Rattle.std.specs.List.{AllByRecursion, Contains}
 use Rattle.std.specs.FinMap as fmap
 use Rattle.blob_digest.specs.declared.refusal.Refusal.{Refusal}
@@ -131,6 +131,13 @@ uploads_of_run (e ∷ es) C C' run = uploads_of_event C e ++ uploads_of_run es r
 abbrev pub NoCollision : List (Text × Text) → Type 0
 NoCollision pairs = (digest a b : Text) → Contains pairs (digest, a) → Contains pairs (digest, b) → a ≡ b
 
+-- ---- the settings of other tenants
+
+-- Two lists of tenants have the same names, and the tenant t has the same quota, share and limits in both.
+pub record AreTenantsAlike (t : ℕ) (tenants others : List Tenant) : Type 0 where
+  pub names : map (λ x. x.name) tenants ≡ map (λ x. x.name) others
+  pub settings : slice_get tenants t ≡ slice_get others t
+
 -- ---- the theorem
 
 -- The events are a run of a new store in which no two closes have different contents with the same digest.
@@ -138,15 +145,15 @@ pub record IsCollisionFreeRun (tenants : List Tenant) (slots : ℕ) (contents : 
   pub run : IsRun (opening tenants slots contents) es C'
   pub no_collision : NoCollision (uploads_of_run es (opening tenants slots contents) C' run)
 
--- a tenant's replies and its view at the end are those of its isolated run
-pub record IsIsolated (tenants : List Tenant) (slots : ℕ) (contents : ContentRules) (t : ℕ) (es : List Event) (C' : Catalog) : Type 0 where
-  pub replies : replies (events_of tenants t es) ≡ isolated_replies (opening tenants slots contents) (commands_of (events_of tenants t es))
-  pub tenant_view : tenant_view C' t ≡ tenant_view (isolated_catalog (opening tenants slots contents) (commands_of (events_of tenants t es))) t
+-- a tenant's replies and its view at the end are those of its isolated run in a new store with the tenants `others`
+pub record IsIsolated (tenants others : List Tenant) (slots : ℕ) (contents : ContentRules) (t : ℕ) (es : List Event) (C' : Catalog) : Type 0 where
+  pub replies : replies (events_of tenants t es) ≡ isolated_replies (opening others slots contents) (commands_of (events_of tenants t es))
+  pub tenant_view : tenant_view C' t ≡ tenant_view (isolated_catalog (opening others slots contents) (commands_of (events_of tenants t es))) t
 
--- If no reply to a tenant is one that others may cause, its replies and its view at the end are those of its isolated run.
+-- If no reply to a tenant is one that others may cause, its replies and its view at the end are those of its isolated run, whatever settings the others have in it.
 abbrev pub TenantsAreIsolated : Type 0
-TenantsAreIsolated = (tenants : List Tenant) (slots : ℕ) (contents : ContentRules) (t : ℕ) (es : List Event) (C' : Catalog) →
-    IsCollisionFreeRun tenants slots contents es C' → AllByRecursion IsUnaffectedByOthers (events_of tenants t es) → IsIsolated tenants slots contents t es C'
+TenantsAreIsolated = (tenants others : List Tenant) (slots : ℕ) (contents : ContentRules) (t : ℕ) (es : List Event) (C' : Catalog) → AreTenantsAlike t tenants others →
+    IsCollisionFreeRun tenants slots contents es C' → AllByRecursion IsUnaffectedByOthers (events_of tenants t es) → IsIsolated tenants others slots contents t es C'
 
 -- The store's text is the same after two such runs in which each tenant makes the same commands in the same order.
 abbrev pub TextsAreTheSame : Type 0

@@ -3,12 +3,12 @@ use Rattle.std.specs.Prelude.{◌≡◌, ℕ, List, ◌++◌, map}
 use Rattle.std.specs.List.{AllByRecursion}
 use Rattle.std.specs.FinMap as fmap
 use Rattle.spec_lib.specs.Texts.{Text}
-use Rattle.store_model.specs.Catalog.{Catalog}
+use Rattle.store_model.specs.Catalog.{Catalog, Tenant}
 use Rattle.store_model.specs.Durable.{Agrees, DurableState}
 use Rattle.store_model.specs.Histories.{LeadsTo, State, Step, initial_state}
 use Rattle.store_model.specs.HistoryIsolation.{AreOwnReplies, catalog_after_requests, isolated_steps, requests_of, steps_of, uploads_of_history}
 use Rattle.store_model.specs.Invariant.{Sound}
-use Rattle.store_model.specs.Noninterference.{NoCollision, tenant_view}
+use Rattle.store_model.specs.Noninterference.{AreTenantsAlike, NoCollision, tenant_view}
 use Rattle.store_model.specs.Runs.{Event, HasShortName, IsRun}
 use Rattle.store_model.specs.WholeCommands.{AreContentionFree, AreWholeCommands}
 
@@ -31,12 +31,16 @@ pub record IsCollisionFreeFrom (C : Catalog) (steps : List Step) (s : State) : T
   pub run : LeadsTo C steps s
   pub no_collision : NoCollision (stored_contents C ++ uploads_of_history (initial_state C) steps s run)
 
--- a tenant's steps and its view at the end are those of its isolated history from the catalog C
-pub record IsIsolatedFrom (C : Catalog) (t : ℕ) (steps : List Step) (s : State) : Type 0 where
-  pub replies : isolated_steps C (requests_of (steps_of C.tenants t steps)) ≡ steps_of C.tenants t steps
-  pub tenant_view : tenant_view s.catalog t ≡ tenant_view (catalog_after_requests C (requests_of (steps_of C.tenants t steps))) t
+-- the catalog with the tenants `others`
+abbrev pub with_others : Catalog → List Tenant → Catalog
+with_others C others = record C { tenants = others }
 
--- If no reply to a tenant is one that others may cause, its replies and its view at the end are those of its isolated history.
+-- a tenant's steps and its view at the end are those of its isolated history from the catalog C with the tenants `others`
+pub record IsIsolatedFrom (C : Catalog) (others : List Tenant) (t : ℕ) (steps : List Step) (s : State) : Type 0 where
+  pub replies : isolated_steps (with_others C others) (requests_of (steps_of C.tenants t steps)) ≡ steps_of C.tenants t steps
+  pub tenant_view : tenant_view s.catalog t ≡ tenant_view (catalog_after_requests (with_others C others) (requests_of (steps_of C.tenants t steps))) t
+
+-- If no reply to a tenant is one that others may cause, its replies and its view at the end are those of its isolated history, whatever settings the others have in it.
 abbrev pub TenantsAreIsolatedFrom : Type 0
-TenantsAreIsolatedFrom = (C : Catalog) (t : ℕ) (steps : List Step) (s : State) → Sound C → (fair : IsCollisionFreeFrom C steps s) →
-    AreOwnReplies C.tenants t (initial_state C) steps s fair.run → IsIsolatedFrom C t steps s
+TenantsAreIsolatedFrom = (C : Catalog) (others : List Tenant) (t : ℕ) (steps : List Step) (s : State) → AreTenantsAlike t C.tenants others → Sound C → (fair : IsCollisionFreeFrom C steps s) →
+    AreOwnReplies C.tenants t (initial_state C) steps s fair.run → IsIsolatedFrom C others t steps s

@@ -47,7 +47,8 @@ pub fn soundness()
 
 /// States that tenants are isolated from each other (noninterference).
 ///
-/// - `alone`: a tenant's replies, and its view of the catalog at the end, are those of its own commands alone.
+/// - `alone`: a tenant's replies, and its view of the catalog at the end, are those of its own commands alone, in a new
+///   store where the other tenants have any quotas, shares and limits.
 /// - `same_text`: the store's text is the same after two runs in which each tenant makes the same commands in the same
 ///   order.
 ///
@@ -89,7 +90,8 @@ pub fn removals()
 /// States that tenants are isolated from each other in histories, in which sessions are checked out between two steps.
 ///
 /// - `alone`: a tenant's steps with their replies, and its view of the catalog at the end, are those of its own requests
-///   alone. Its own check-outs are among its steps, so this includes its `Busy` and `Quota` errors.
+///   alone, in a new store where the other tenants have any quotas, shares and limits. Its own check-outs are among its
+///   steps, so this includes its `Busy` and `Quota` errors.
 /// - `same_text`: the store's text is the same after two histories in which each tenant makes the same requests in the
 ///   same order.
 ///
@@ -175,7 +177,8 @@ pub fn recovery()
 /// States the theorems about histories for a restarted store, which opens with any sound catalog.
 ///
 /// - `runs`: `whole_commands`, if no session is checked out at the start. The run begins with that catalog.
-/// - `alone`: the clause `alone` of `isolation_of_histories`. The tenant's isolated history begins with that catalog.
+/// - `alone`: the clause `alone` of `isolation_of_histories`. The tenant's isolated history begins with that catalog,
+///   in which the other tenants have any quotas, shares and limits.
 ///
 /// The premises are those of these two laws. The premise about contents then includes those of the stored blobs.
 pub fn restarts()

@@ -1,53 +1,40 @@
 -- A store that restarts with other settings is sound if its durable state fits them.
 use Rattle.std.proofs.Common.{◌≡◌, ℕ, ◌<◌, ◌≤◌, ◌^◌, List, length, map, Some, refl, sym, ap, ◌∙◌, subst, arith}
-use Rattle.std.specs.Prelude.{IsSome, count_by, nat_eq, position}
-use Rattle.std.specs.Option.{option_eq}
+use Rattle.std.specs.Prelude.{IsSome}
 use Rattle.std.specs.List.{AllByRecursion}
 use Rattle.std.specs.List.Sorted.{IsStrictlySortedBy}
 use Rattle.std.specs.FinMap.{empty, get}
-use Rattle.std.proofs.lemmas.List.{length-map}
 use Rattle.spec_lib.specs.Sets as set
-use Rattle.spec_lib.specs.Texts.{Text, same_text, text_cmp}
-use Rattle.spec_lib.proofs.Rows.{position-map}
-use Rattle.store_model.specs.Catalog.{Catalog, Session, SessionNumber, Tenant, charged_length, is_repo_of_tenant, tenant_name, tenant_of, ContentRules}
+use Rattle.spec_lib.specs.Texts.{text_cmp}
+use Rattle.store_model.specs.Catalog.{Catalog, Session, SessionNumber, Tenant, charged_length, ContentRules}
 use Rattle.store_model.specs.Durable.{Agrees, DurableState, TakenSessions}
 use Rattle.store_model.specs.Invariant.{AreWellFormedNumbers, AreWellFormedRepositories, AreWithinLimits, Sound, WellFormed, WellFormedSession}
 use Rattle.store_model.specs.Recovery.{CanRestore, StoresRestartWithOtherSettings, restored_blob, restored_blobs, restored_catalog, with_tenants}
 use Rattle.store_model.proofs.Durable.Restored.{agrees as agrees_there, content, kept_blob}
 use Rattle.store_model.proofs.Durable.Uses.{open_less, was_open}
+use Rattle.store_model.proofs.Invariant.TenantNames.{same_length, same_owner, same_repo_count, same_tenant}
 use Rattle.blob_digest.specs.Tenants.{AreSupported, greatest_limits}
 
 -- ---- tenants with the same names
 
 module _ (ts us : List Tenant) (names : map (λ t. t.name) ts ≡ map (λ t. t.name) us) where
-  same_tenant : (r : Text) → tenant_of ts r ≡ tenant_of us r
-  same_tenant r =
-      sym (position-map (λ n. same_text n (tenant_name r)) (λ (t : Tenant). t.name) ts) ∙ ap (position (λ n. same_text n (tenant_name r))) names
-      ∙ position-map (λ n. same_text n (tenant_name r)) (λ (t : Tenant). t.name) us
-
-  same_owner : (t : ℕ) (r : Text) → is_repo_of_tenant ts t r ≡ is_repo_of_tenant us t r
-  same_owner t r = ap (λ o. option_eq nat_eq o (Some t)) (same_tenant r)
-
-  same_length : length ts ≡ length us
-  same_length = sym (length-map ts (λ (t : Tenant). t.name)) ∙ ap length names ∙ length-map us (λ (t : Tenant). t.name)
-
   repositories : (present : set.Set text_cmp) → AreWellFormedRepositories us present → AreWellFormedRepositories ts present
   repositories present all = record {
-    owned = λ r there. subst (λ o. IsSome o) (sym (same_tenant r)) (all.owned r there);
-    few = λ t. subst (λ n. n ≤ greatest_limits.repos) (sym (λ i. count_by (λ r. same_owner t r i) (set.items present))) (all.few t);
+    owned = λ r there. subst (λ o. IsSome o) (sym (same_tenant ts us names r)) (all.owned r there);
+    few = λ t. subst (λ n. n ≤ greatest_limits.repos) (sym (same_repo_count ts us names present t)) (all.few t);
     short_names = all.short_names;
   }
 
   numbers : (next : List ℕ) → AreWellFormedNumbers us next → AreWellFormedNumbers ts next
   numbers next all = record {
-    one_each = all.one_each ∙ sym same_length;
-    from_one = λ t there. all.from_one t (subst (λ n. t < n) same_length there);
+    one_each = all.one_each ∙ sym (same_length ts us names);
+    from_one = λ t there. all.from_one t (subst (λ n. t < n) (same_length ts us names) there);
     few = all.few;
   }
 
   limits : (longest longer : ℕ) → longer ≤ 2 ^ 40 → AllByRecursion (λ t. t.quota ≤ 2 ^ 50) ts → AllByRecursion (λ t. AreSupported t.limits) ts → AreWithinLimits us longest → AreWithinLimits ts longer
   limits longest longer small quotas supported all = record {
-    tenants = subst (λ n. (0 < n) × (n ≤ 4096)) (sym same_length) all.tenants;
+    tenants = subst (λ n. (0 < n) × (n ≤ 4096)) (sym (same_length ts us names)) all.tenants;
     names_rise = subst (λ ns. IsStrictlySortedBy text_cmp ns) (sym names) all.names_rise;
     max_blob = small;
     quotas = quotas;

@@ -1,5 +1,5 @@
 -- A tenant has the same replies and the same view with a second tenant present and in its isolated run.
-use Rattle.std.proofs.Common.{◌≡◌, Bool, true, false, cond, List, [], ◌∷◌, ◌++◌, Option, None, Ok, refl, sym, ap, ◌∙◌, subst, inl, inr, arith}
+use Rattle.std.proofs.Common.{◌≡◌, Bool, true, false, cond, List, [], ◌∷◌, ◌++◌, Option, None, Ok, Err, refl, sym, ap, ◌∙◌, subst, inl, inr, arith}
 use Prim.Native.Nat.{zero, suc}
 use Rattle.std.specs.Prelude.{codes, if◌then◌else◌}
 use Rattle.std.specs.List.{AllByRecursion, Contains}
@@ -18,11 +18,13 @@ use Rattle.store_model.specs.Runs.{Command, Event, CommandEvent, SweepEvent, Sta
 use Rattle.store_model.specs.declared.swept.Swept.{Swept as SweptCounts}
 use Rattle.store_model.specs.Sweep.{is_orphan, IsAfterSweep, IsSweep}
 use Rattle.store_model.specs.Noninterference.{events_of, commands_of, isolated_replies, isolated_catalog, isolated_outcome, tenant_view, uploaded_pair, close_content, uploads_of_run, NoCollision, IsCollisionFreeRun, IsUnaffectedByOthers, IsIsolated}
+use Rattle.store_model.proofs.Noninterference.LocalRespect.{tenants_alike_themselves}
 use Rattle.store_model.proofs.Noninterference.Runs.{isolated}
 use Rattle.spec_lib.proofs.Maps.{get-insert_other, cases_key}
 use Rattle.spec_lib.proofs.Options.{nothing}
 use Rattle.store_model.proofs.Examples.Digests.{abc, abc_bytes, abc_named, obj, obj_bytes, obj_named}
 use Rattle.blob_digest.specs.Tenants.{usual_limits}
+use Rattle.blob_digest.specs.declared.refusal.Refusal.TheVariants.{Quota}
 
 abbrev tenants : List Tenant
 tenants = record { name = codes "acme"; quota = 3; share = 4294967295; limits = usual_limits } ∷ record { name = codes "other"; quota = 9; share = 4294967295; limits = usual_limits } ∷ []
@@ -246,8 +248,25 @@ uncrowded : AllByRecursion IsUnaffectedByOthers (events_of tenants 0 called)
 uncrowded = (tt, (tt, (tt, tt)))
 
 -- the first tenant's replies and view are those of its isolated run
-first_alone : IsIsolated tenants 64 (in_memory 10) 0 called both_mounted
-first_alone = isolated tenants 64 (in_memory 10) 0 called both_mounted fair uncrowded
+first_alone : IsIsolated tenants tenants 64 (in_memory 10) 0 called both_mounted
+first_alone = isolated tenants tenants 64 (in_memory 10) 0 called both_mounted (tenants_alike_themselves 0 tenants) fair uncrowded
 
 same_part : tenant_view both_mounted 0 ≡ tenant_view alone_mounted 0
 same_part = first_alone.tenant_view ∙ ap (λ C. tenant_view C 0) own_left_alone
+
+-- ---- with other settings of the second one
+
+-- the second one's quota is 2 bytes, and the first one's settings are the same
+abbrev others : List Tenant
+others = record { name = codes "acme"; quota = 3; share = 4294967295; limits = usual_limits } ∷ record { name = codes "other"; quota = 2; share = 4294967295; limits = usual_limits } ∷ []
+
+abbrev small_open : Catalog
+small_open = with_new_session (opening others 64 (in_memory 10)) 1 x
+
+-- it cannot store the blob that it stores above
+second_refused : outcome false small_open (Close x 1 abc None abc_bytes) ≡ Err (Quota 0 2)
+second_refused = simp (len-entries, entries-insert {X = Session} number_cmp_total, get-insert {X = Session} number_cmp_total, entries-insert {X = Unit {0}} nat_list_cmp_total, get-empty, entries-empty) refl
+
+-- the first tenant's replies and view are still those of its isolated run
+first_among_others : IsIsolated tenants others 64 (in_memory 10) 0 called both_mounted
+first_among_others = isolated tenants others 64 (in_memory 10) 0 called both_mounted (record { names = refl; settings = refl }) fair uncrowded

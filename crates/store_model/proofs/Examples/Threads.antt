@@ -19,6 +19,7 @@ use Rattle.store_model.specs.Runs.{Abandon, Append, CommandEvent, Event, IsRun, 
 use Rattle.store_model.specs.WholeCommands.{AreWholeCommands, CheckedOutSessions, CheckedOut}
 use Rattle.store_model.proofs.Commands.Opening.{Sound-opening}
 use Rattle.store_model.proofs.Noninterference.Histories.{alone_in_histories}
+use Rattle.store_model.proofs.Noninterference.LocalRespect.{tenants_alike_themselves}
 use Rattle.store_model.proofs.WholeCommands.Histories.{histories_are_runs}
 use Rattle.blob_digest.specs.Tenants.{usual_limits}
 use Rattle.blob_digest.proofs.Tenants.{usual_supported}
@@ -156,8 +157,8 @@ own_requests : requests_of (steps_of tenants 0 steps) ≡
     Perform (Start one) ∷ Perform (Start one) ∷ Take one 1 None 2 ∷ Take one 2 None 2 ∷ Perform (Abandon one 1) ∷ Return (record hand { last = Some (codes "ab") }) ∷ []
 own_requests = refl
 
-first_alone : IsIsolatedInHistory tenants 64 (in_memory 10) 0 steps (state both_back 5 6)
-first_alone = alone_in_histories tenants 64 (in_memory 10) 0 steps (state both_back 5 6) fair undisturbed
+first_alone : IsIsolatedInHistory tenants tenants 64 (in_memory 10) 0 steps (state both_back 5 6)
+first_alone = alone_in_histories tenants tenants 64 (in_memory 10) 0 steps (state both_back 5 6) (tenants_alike_themselves 0 tenants) fair undisturbed
 
 -- in its isolated history the tenant gets `Quota`, with the same numbers, and `Busy` too
 same_replies : isolated_steps book (requests_of (steps_of tenants 0 steps)) ≡

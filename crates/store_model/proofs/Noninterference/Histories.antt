@@ -12,15 +12,15 @@ use Rattle.store_model.specs.Commands
 use Rattle.store_model.specs.Commands.{Outcome, after_cancel, finish, has_slot, put_back, take}
 use Rattle.store_model.specs.Histories.{AreSteps, SweepCall, SweepPartCall, FinishCall, MayLeadTo, CommandCall, PutBackCall, State, Step, TakeCall, initial_state}
 use Rattle.store_model.specs.HistoryIsolation.{AreOwnReplies, Finish, HistoriesLeaveTheSameText, IsCollisionFreeHistory, IsOwnRefusal, IsOwnReply, IsUnaffectedHistory, Perform, StepRequest, Return, Take, TenantsAreIsolatedInHistories, catalog_after_request, uploads_of_history, uploads_of_step, catalog_after_requests, is_step_of, catalog_after_or, requests_of, isolated_step, isolated_steps, steps_of, reply_of_outcome, with_slot}
-use Rattle.store_model.specs.Noninterference.{IsUnaffectedByOthers, blobs_of, uploads_of_command, uploaded_pair}
+use Rattle.store_model.specs.Noninterference.{AreTenantsAlike, IsUnaffectedByOthers, blobs_of, uploads_of_command, uploaded_pair}
 use Rattle.store_model.specs.Runs as runs
 use Rattle.store_model.specs.Runs.{Answer, CommandEvent, Command, IsCommandCase, outcome, repo_of}
 use Rattle.store_model.specs.Sessions.{at_home, hand_content, with_chunk}
 use Rattle.store_model.specs.Sweep.{IsSweep, IsSweepPart}
 use Rattle.store_model.proofs.Noninterference.Consistency.{consistent_command, consistent_sweep, unseen_sweep}
 use Rattle.store_model.proofs.Noninterference.Hands.{Owned, changed_leaves, consistent_cancel, consistent_finish, consistent_put_back, consistent_take, finish_leaves, cancel_leaves, own_cancel, own_finish, own_put_back, own_take, owned_cancel, owned_chunks, owned_finish, owned_put_back, owned_session, owned_take, owned_without, put_back_leaves, take_leaves, unseen_cancel, unseen_finish, unseen_put_back, unseen_take}
-use Rattle.store_model.proofs.Noninterference.LocalRespect.{Leaves, abandon_leaves, alike_itself, alike_through, answers_leave, append_leaves, close_leaves, delete_leaves, delete_manifest_leaves, lease_leaves, mount_leaves, put_leaves, reading_leave, remove_repo_leaves, start_leaves, tenants_stay, unseen_command}
-use Rattle.store_model.proofs.Noninterference.Runs.{brought_same, consistent_opening, content_of, fits_both, fits_content, own_called, same_part}
+use Rattle.store_model.proofs.Noninterference.LocalRespect.{Leaves, abandon_leaves, alike_itself, alike_through, answers_leave, append_leaves, close_leaves, delete_leaves, delete_manifest_leaves, lease_leaves, mount_leaves, put_leaves, reading_leave, remove_repo_leaves, start_leaves, tenants_alike_themselves, tenants_stay, unseen_command}
+use Rattle.store_model.proofs.Noninterference.Runs.{brought_same, consistent_opening, content_of, fits_both, fits_content, opening_alike, own_called, same_part}
 use Rattle.store_model.proofs.Noninterference.SameFor.{Alike, Consistent}
 use Rattle.store_model.proofs.Noninterference.StepConsistency.{Fits, Matches}
 use Rattle.store_model.proofs.Noninterference.Texts.{alike_back, same_text_of}
@@ -245,27 +245,27 @@ module _ (tenants : List Tenant) (slots : ℕ) (contents : ContentRules) (steps 
   abbrev content : Text → Text
   content = content_of (uploads_of_history (initial_state start) steps s fair.run)
 
-  followed : (t : ℕ) → IsUnaffectedHistory tenants slots contents t steps s fair → Follows content t s.catalog start (steps_of tenants t steps)
-  followed t free =
-      let c = consistent_opening content tenants slots contents in
-      follows content tenants t steps (initial_state start) s start refl fair.run (fits_content (uploads_of_history (initial_state start) steps s fair.run) fair.no_collision)
-      (alike_itself t start) c (owned_opening tenants slots contents) c free
+  followed : (t : ℕ) (others : List Tenant) → AreTenantsAlike t tenants others → IsUnaffectedHistory tenants slots contents t steps s fair → Follows content t s.catalog (opening others slots contents) (steps_of tenants t steps)
+  followed t others same free =
+      follows content tenants t steps (initial_state start) s (opening others slots contents) refl fair.run (fits_content (uploads_of_history (initial_state start) steps s fair.run) fair.no_collision)
+      (opening_alike t tenants others slots contents same) (consistent_opening content tenants slots contents) (owned_opening tenants slots contents) (consistent_opening content others slots contents) free
 
 pub alone_in_histories : TenantsAreIsolatedInHistories
-alone_in_histories tenants slots contents t steps s fair free =
-    let h = followed tenants slots contents steps s fair t free in
-    record { replies = h.replies; tenant_view = same_part (content tenants slots contents steps s fair) t s.catalog (catalog_after_requests (opening tenants slots contents) (requests_of (steps_of tenants t steps))) h.alike h.consistent h.consistent_alone }
+alone_in_histories tenants others slots contents t steps s same fair free =
+    let h = followed tenants slots contents steps s fair t others same free in
+    record { replies = h.replies; tenant_view = same_part (content tenants slots contents steps s fair) t s.catalog (catalog_after_requests (opening others slots contents) (requests_of (steps_of tenants t steps))) h.alike h.consistent h.consistent_alone }
 
 pub same_text_after : HistoriesLeaveTheSameText
 same_text_after tenants slots contents one two s s' fair free fair' free' same =
-    let a : (t : ℕ) → _ = λ t. followed tenants slots contents one s fair t (free t) in
-    let b : (t : ℕ) → _ = λ t. followed tenants slots contents two s' fair' t (free' t) in
+    let itself : (t : ℕ) → AreTenantsAlike t tenants tenants = λ t. tenants_alike_themselves t tenants in
+    let a : (t : ℕ) → _ = λ t. followed tenants slots contents one s fair t tenants (itself t) (free t) in
+    let b : (t : ℕ) → _ = λ t. followed tenants slots contents two s' fair' t tenants (itself t) (free' t) in
     let alone_a : (t : ℕ) → Catalog = λ t. catalog_after_requests (opening tenants slots contents) (requests_of (steps_of tenants t one)) in
     let alone_b : (t : ℕ) → Catalog = λ t. catalog_after_requests (opening tenants slots contents) (requests_of (steps_of tenants t two)) in
     let alone_same : (t : ℕ) → alone_a t ≡ alone_b t = λ t. ap (catalog_after_requests (opening tenants slots contents)) (same t) in
     let alike : (t : ℕ) → Alike t s.catalog s'.catalog = λ t. alike_through t s.catalog (alone_a t) s'.catalog (a t).alike (subst (λ X. Alike t X s'.catalog) (sym (alone_same t)) (alike_back t s'.catalog (alone_b t) (b t).alike)) in
     let blobs : (t : ℕ) → blobs_of s.catalog t ≡ blobs_of s'.catalog t = λ t.
-    ap (λ p. p.blobs) (alone_in_histories tenants slots contents t one s fair (free t)).tenant_view
+    ap (λ p. p.blobs) (alone_in_histories tenants tenants slots contents t one s (itself t) fair (free t)).tenant_view
     ∙ ap (λ X. blobs_of X t) (alone_same t)
-    ∙ sym (ap (λ p. p.blobs) (alone_in_histories tenants slots contents t two s' fair' (free' t)).tenant_view) in
+    ∙ sym (ap (λ p. p.blobs) (alone_in_histories tenants tenants slots contents t two s' (itself t) fair' (free' t)).tenant_view) in
     same_text_of (content tenants slots contents one s fair) (content tenants slots contents two s' fair') s.catalog s'.catalog (a 0).consistent (b 0).consistent alike blobs

@@ -1,5 +1,5 @@
 -- A command changes nothing for any other tenant, and keeps the catalog consistent.
-use Rattle.std.proofs.Common.{◌≡◌, ℕ, ◌+◌, Bool, true, false, not, [], length, Option, Some, None, Result, Ok, Err, refl, sym, ap, ◌∙◌, get_or-set_other}
+use Rattle.std.proofs.Common.{◌≡◌, ℕ, ◌+◌, Bool, true, false, not, List, [], length, Option, Some, None, Result, Ok, Err, refl, sym, ap, ◌∙◌, get_or-set_other}
 use Rattle.std.specs.Prelude.{◌==◌, nat_lt, nat_eq, if◌then◌else◌}
 use Rattle.std.specs.Option.{option_map_or, option_eq, ok_or}
 use Rattle.std.specs.Cmp.Lexicographic.{nat_list_cmp_total}
@@ -14,11 +14,12 @@ use Rattle.blob_digest.specs.Digests.{sha256_text}
 use Rattle.spec_lib.specs.Sets as kept_set
 use Rattle.oci_manifest.specs.Manifests.{refs_of, max_manifest}
 use Rattle.spec_lib.specs.Texts.{Text}
-use Rattle.store_model.specs.Catalog.{SessionNumber, CheckedIn, Session, Resident, Catalog, session_number_cmp, tenant_of, is_repo_of, next_number_of}
+use Rattle.store_model.specs.Catalog.{SessionNumber, CheckedIn, Session, Resident, Catalog, Tenant, session_number_cmp, tenant_of, is_repo_of, next_number_of}
 use Rattle.store_model.specs.Commands
 use Rattle.spec_lib.specs.Outcomes.{◌>>=◌, refuse}
 use Rattle.store_model.specs.Commands.{Outcome, tenant, session_in, not_busy, length_after, with_new_session, after_append_in, content_in, is_digest_accepted, fits_stored, with_stored_blob, has_source, with_link, with_manifest, with_leased, check_link, linked_blob, lacks_room_for, cannot_open, has_manifest, is_full_of_manifests, check_all_links, check_no_referrer, check_quota, check_repo, check_share, has_slot, is_in_use, without_repo}
 use Rattle.store_model.specs.declared.mount.Mount.TheVariants as mounting
+use Rattle.store_model.specs.Noninterference.{AreTenantsAlike}
 use Rattle.store_model.specs.Runs as runs
 use Rattle.store_model.specs.Runs.{Command, Answer, map_outcome, reading_outcome, outcome, repo_of}
 use Rattle.blob_digest.proofs.KeyOrders.{number_cmp_total, exact_number, link_cmp_total, exact_link}
@@ -101,9 +102,12 @@ module _ (P : Catalog → Type 0) where
 
 -- ---- another tenant sees nothing
 
+pub tenants_alike_themselves : (t : ℕ) (tenants : List Tenant) → AreTenantsAlike t tenants tenants
+tenants_alike_themselves t tenants = record { names = refl; settings = refl }
+
 pub alike_itself : (t : ℕ) (C : Catalog) → Alike t C C
 alike_itself t C = record {
-  tenants = refl;
+  tenants = tenants_alike_themselves t C.tenants;
   contents = refl;
   numbers = refl;
   next = refl;
@@ -115,7 +119,7 @@ alike_itself t C = record {
 
 pub alike_through : (t : ℕ) (B C D : Catalog) → Alike t B C → Alike t C D → Alike t B D
 alike_through t B C D b c = record {
-  tenants = b.tenants ∙ c.tenants;
+  tenants = record { names = b.tenants.names ∙ c.tenants.names; settings = b.tenants.settings ∙ c.tenants.settings };
   contents = b.contents ∙ c.contents;
   numbers = b.numbers ∙ c.numbers;
   next = b.next ∙ c.next;
@@ -141,7 +145,7 @@ module _ (C : Catalog) (u : ℕ) (r : Text) (other : is_repo_of C u r ≡ false)
 
   unseen_new : (t : ℕ) → tenant_of C.tenants r ≡ Some t → Unseen (with_new_session C t r)
   unseen_new t k = record {
-    tenants = refl;
+    tenants = tenants_alike_themselves u C.tenants;
     contents = refl;
     numbers = length-set C.next t (next_number_of C t + 1);
     next = get_or-set_other C.next t u (next_number_of C t + 1) 0 (λ e. eqb-false t u (apart t k) (sym e));

@@ -1,7 +1,7 @@
 -- Isolation of tenants: the induction over a run.
-use Rattle.std.proofs.Common.{◌≡◌, ◌≢◌, ℕ, ◌<◌, Bool, true, false, cond, List, [], ◌∷◌, ◌++◌, length, get_or, Option, Some, None, Result, Ok, Err, refl, sym, ap, ◌∙◌, subst, arith, ⊎_elim}
+use Rattle.std.proofs.Common.{◌≡◌, ◌≢◌, ℕ, ◌<◌, Bool, true, false, cond, List, [], ◌∷◌, ◌++◌, length, map, get_or, Option, Some, None, Result, Ok, Err, refl, sym, ap, ◌∙◌, subst, arith, ⊎_elim}
 use Prim.Native.Nat.{zero, suc}
-use Rattle.std.specs.Prelude.{◌⊎◌, ◌==◌, if◌then◌else◌}
+use Rattle.std.specs.Prelude.{◌⊎◌, ◌==◌, slice_index, if◌then◌else◌}
 use Rattle.std.specs.Option.{option_map_or}
 use Rattle.std.specs.Ordering.{eq_by_cmp}
 use Rattle.std.specs.Cmp.{IsTotalOrder, Equal-is}
@@ -12,6 +12,7 @@ use Rattle.std.specs.FinMap.{FinMap, get, get-empty, retain_keys, get-retain_key
 use Rattle.std.specs.FinMap.Entries.{find as find_key}
 use Rattle.std.proofs.lemmas.List.Elements.{Contains-get_or}
 use Rattle.std.proofs.lemmas.Map.Lookups.{exact_bytes}
+use Rattle.std.proofs.lemmas.Simd.{map-map}
 use Rattle.blob_digest.specs.declared.refusal.Refusal.{Refusal}
 use Rattle.blob_digest.specs.declared.refusal.Refusal.TheVariants.{Memory, StoreFull, TooManyReaders}
 use Rattle.spec_lib.specs.Texts.{Text, text_cmp}
@@ -21,7 +22,7 @@ use Rattle.store_model.specs.Commands.{Outcome, tenant, content_in, linked_blob,
 use Rattle.spec_lib.specs.Outcomes.{◌>>=◌, refuse}
 use Rattle.store_model.specs.Runs as runs
 use Rattle.store_model.specs.Runs.{Command, Answer, map_outcome, takes_memory, outcome, IsCommandCase, Event, CommandEvent, SweepEvent, SweepPartEvent, Happens, IsRun, repo_of}
-use Rattle.store_model.specs.Noninterference.{events_of, commands_of, replies, tenant_view, isolated_outcome, uploaded_pair, reply_of, catalog_after, isolated_replies, isolated_catalog, IsUnaffectedByOthers, uploads_of_event, uploads_of_command, uploads_of_run, NoCollision, IsCollisionFreeRun, TenantsAreIsolated}
+use Rattle.store_model.specs.Noninterference.{AreTenantsAlike, events_of, commands_of, replies, tenant_view, isolated_outcome, uploaded_pair, reply_of, catalog_after, isolated_replies, isolated_catalog, IsUnaffectedByOthers, uploads_of_event, uploads_of_command, uploads_of_run, NoCollision, IsCollisionFreeRun, TenantsAreIsolated}
 use Rattle.blob_digest.proofs.KeyOrders.{number_cmp_total, exact_number, link_cmp_total, exact_link}
 use Rattle.spec_lib.proofs.Lists.{all_by_index}
 use Rattle.spec_lib.proofs.Agreement.{AgreeOn}
@@ -136,10 +137,10 @@ module _ (content : Text → Text) (tenants : List Tenant) (t : ℕ) where
   follows [] C C' D are run fits alike c d free = record { told = refl; alike = subst (λ X. Alike t X D) (sym run) alike; consistent = subst (λ X. Consistent content X) (sym run) c; consistent_alone = d }
   follows (SweepEvent swept ∷ es) C C' D are run fits alike c d free =
       let unseen = unseen_sweep t (λ _. true) C run.0 swept run.1 in
-      follows es run.0 C' D (unseen.tenants ∙ are) run.2 fits (alike_through t run.0 C D unseen alike) (consistent_sweep content (λ _. true) C run.0 swept c run.1) d free
+      follows es run.0 C' D (ap (λ (X : Catalog). X.tenants) run.1.rest ∙ are) run.2 fits (alike_through t run.0 C D unseen alike) (consistent_sweep content (λ _. true) C run.0 swept c run.1) d free
   follows (SweepPartEvent swept ∷ es) C C' D are run fits alike c d free =
       let unseen = unseen_sweep t run.1.0 C run.0 swept run.1.1 in
-      follows es run.0 C' D (unseen.tenants ∙ are) run.2 fits (alike_through t run.0 C D unseen alike) (consistent_sweep content run.1.0 C run.0 swept c run.1.1) d free
+      follows es run.0 C' D (ap (λ (X : Catalog). X.tenants) run.1.1.rest ∙ are) run.2 fits (alike_through t run.0 C D unseen alike) (consistent_sweep content run.1.0 C run.0 swept c run.1.1) d free
   follows (CommandEvent command r ∷ es) C C' D are run fits alike c d free =
       let both = fits_both content (uploads_of_command C command) (uploads_of_run es run.0 C' run.2) fits in
       let s = consistent_event content C run.0 (CommandEvent command r) c run.1 both.0 in
@@ -161,9 +162,9 @@ module _ {K X : Type 0} {R : K → K → Ordering} (o : IsTotalOrder R) (same : 
 -- catalogs that are equivalent for a tenant have the same view of it
 pub same_part : (content : Text → Text) (t : ℕ) (C D : Catalog) → Alike t C D → Consistent content C → Consistent content D → tenant_view C t ≡ tenant_view D t
 same_part content t C D a c d =
-    let repos = retain_agree nat_list_cmp_total exact_bytes (is_repo_of C t) C.repos D.repos a.repos ∙ ap (λ ts. retain_keys D.repos (is_repo_of_tenant ts t)) a.tenants in
-    let links = retain_agree link_cmp_total exact_link (λ l. is_repo_of C t l.0) C.links D.links a.links ∙ ap (λ ts. retain_keys D.links (λ l. is_repo_of_tenant ts t l.0)) a.tenants in
-    let manifests = retain_agree link_cmp_total exact_link (λ l. is_repo_of C t l.0) C.manifests D.manifests a.manifests ∙ ap (λ ts. retain_keys D.manifests (λ l. is_repo_of_tenant ts t l.0)) a.tenants in
+    let repos = retain_agree nat_list_cmp_total exact_bytes (is_repo_of C t) C.repos D.repos a.repos ∙ (λ i. retain_keys D.repos (λ r. of_same t C D a r i)) in
+    let links = retain_agree link_cmp_total exact_link (λ l. is_repo_of C t l.0) C.links D.links a.links ∙ (λ i. retain_keys D.links (λ l. of_same t C D a l.0 i)) in
+    let manifests = retain_agree link_cmp_total exact_link (λ l. is_repo_of C t l.0) C.manifests D.manifests a.manifests ∙ (λ i. retain_keys D.manifests (λ l. of_same t C D a l.0 i)) in
     let sessions = retain_agree number_cmp_total exact_number (λ n. n.0 == t) C.sessions D.sessions a.sessions in
     let blobs = blobs_same t C D a content c d in
     λ i. record { repos = repos i; links = links i; manifests = manifests i; sessions = sessions i; next = a.next i; blobs = blobs i }
@@ -219,15 +220,33 @@ consistent_opening content tenants slots contents = record {
 abbrev pub pairs_of : (tenants : List Tenant) (slots : ℕ) (contents : ContentRules) (es : List Event) (C' : Catalog) → IsCollisionFreeRun tenants slots contents es C' → List (Text × Text)
 pairs_of tenants slots contents es C' f = uploads_of_run es (opening tenants slots contents) C' f.run
 
-pub followed : (tenants : List Tenant) (slots : ℕ) (contents : ContentRules) (t : ℕ) (es : List Event) (C' : Catalog) (f : IsCollisionFreeRun tenants slots contents es C') → AllByRecursion IsUnaffectedByOthers (events_of tenants t es) →
-    Follows (content_of (pairs_of tenants slots contents es C' f)) t C' (opening tenants slots contents) (events_of tenants t es)
-followed tenants slots contents t es C' f free =
-    let start : Catalog = opening tenants slots contents in
+-- new stores whose tenants are alike for a tenant are equivalent for it
+pub opening_alike : (t : ℕ) (tenants others : List Tenant) (slots : ℕ) (contents : ContentRules) → AreTenantsAlike t tenants others → Alike t (opening tenants slots contents) (opening others slots contents)
+opening_alike t tenants others slots contents same = record {
+  tenants = same;
+  contents = refl;
+  numbers = ap length next;
+  next = ap (λ ns. slice_index ns t) next;
+  repos = λ q is. refl;
+  links = λ q is. refl;
+  manifests = λ q is. refl;
+  sessions = λ q is. refl;
+}
+  where
+    next : map {A = Tenant} {B = ℕ} (λ _. 1) tenants ≡ map {A = Tenant} {B = ℕ} (λ _. 1) others
+    next =
+        sym (map-map {A = Tenant} {B = Text} {C = ℕ} (λ _. 1) (λ x. x.name) tenants)
+        ∙ ap (map {A = Text} {B = ℕ} (λ _. 1)) same.names
+        ∙ map-map {A = Tenant} {B = Text} {C = ℕ} (λ _. 1) (λ x. x.name) others
+
+pub followed : (tenants others : List Tenant) (slots : ℕ) (contents : ContentRules) (t : ℕ) (es : List Event) (C' : Catalog) → AreTenantsAlike t tenants others → (f : IsCollisionFreeRun tenants slots contents es C') →
+    AllByRecursion IsUnaffectedByOthers (events_of tenants t es) → Follows (content_of (pairs_of tenants slots contents es C' f)) t C' (opening others slots contents) (events_of tenants t es)
+followed tenants others slots contents t es C' same f free =
     let content : Text → Text = content_of (pairs_of tenants slots contents es C' f) in
-    let s = consistent_opening content tenants slots contents in
-    follows content tenants t es start C' start refl f.run (fits_content (pairs_of tenants slots contents es C' f) f.no_collision) (alike_itself t start) s s free
+    follows content tenants t es (opening tenants slots contents) C' (opening others slots contents) refl f.run (fits_content (pairs_of tenants slots contents es C' f) f.no_collision)
+    (opening_alike t tenants others slots contents same) (consistent_opening content tenants slots contents) (consistent_opening content others slots contents) free
 
 pub isolated : TenantsAreIsolated
-isolated tenants slots contents t es C' f free =
-    let h = followed tenants slots contents t es C' f free in
-    record { replies = h.told; tenant_view = same_part (content_of (pairs_of tenants slots contents es C' f)) t C' (isolated_catalog (opening tenants slots contents) (commands_of (events_of tenants t es))) h.alike h.consistent h.consistent_alone }
+isolated tenants others slots contents t es C' same f free =
+    let h = followed tenants others slots contents t es C' same f free in
+    record { replies = h.told; tenant_view = same_part (content_of (pairs_of tenants slots contents es C' f)) t C' (isolated_catalog (opening others slots contents) (commands_of (events_of tenants t es))) h.alike h.consistent h.consistent_alone }

@@ -1,6 +1,6 @@
 -- Two catalogs that are equivalent for a tenant, and the facts that are equal in both.
 use Rattle.std.proofs.Common.{T, ◌≡◌, ℕ, ◌+◌, Bool, true, false, cond, not, List, [], ◌∷◌, ◌++◌, length, map, Option, Some, None, is_some, refl, sym, ap, ◌∙◌, subst, arith}
-use Rattle.std.specs.Prelude.{◌==◌, ◌&&◌, ◌||◌, nat_le, slice_get, slice_index}
+use Rattle.std.specs.Prelude.{◌==◌, ◌&&◌, ◌||◌, nat_le, slice_index}
 use Rattle.std.specs.Option.{option_map, option_map_or}
 use Rattle.std.specs.Cmp.Lexicographic.{nat_list_cmp_total, same_text as text_is}
 use Rattle.std.specs.Ordering.{eq_by_cmp}
@@ -13,15 +13,16 @@ use Rattle.std.proofs.lemmas.Map.Lookups.{exact_bytes}
 use Rattle.blob_digest.specs.declared.range.ByteRange.{ByteRange}
 use Rattle.spec_lib.specs.Sets as set
 use Rattle.spec_lib.specs.Texts.{Text, text_cmp, same_text}
-use Rattle.store_model.specs.Catalog.{Link, SessionNumber, Session, Resident, Catalog, tenant_of, is_repo_of_tenant, is_repo_of, quota_of, share_of, holds, tenant_holds, held_digests, session_charge, session_charges_of, blob_share, used_bytes, open_sessions, repos_of, manifests_of, received_length, Tenant, link_cmp, session_number_cmp, limits_of, ContentRules}
+use Rattle.store_model.specs.Catalog.{Link, SessionNumber, Session, Resident, Catalog, tenant_of, is_repo_of_tenant, is_repo_of, quota_of, share_of, holds, tenant_holds, held_digests, session_charge, session_charges_of, blob_share, used_bytes, open_sessions, repos_of, manifests_of, received_length, Tenant, link_cmp, session_number_cmp, limits_of, no_tenant, ContentRules}
 use Rattle.store_model.specs.Sessions.{at_home}
 use Rattle.spec_lib.specs.Outcomes.{◌>>=◌, refuse}
 use Rattle.store_model.specs.Commands.{check_share, content_in, session, session_in, not_busy, chunk_length_check, length_after, has_links, has_manifests, has_sessions, is_in_use, lacks_room_for, referrer, refers}
-use Rattle.store_model.specs.Noninterference.{blobs_of}
+use Rattle.store_model.specs.Noninterference.{AreTenantsAlike, blobs_of}
 use Rattle.blob_digest.proofs.KeyOrders.{number_cmp_total, exact_number, link_cmp_total, exact_link}
 use Rattle.blob_digest.specs.declared.refusal.Refusal.TheVariants.{LimitReached}
 use Rattle.store_model.proofs.Invariant.DistinctUse.{held_digests-by_links}
 use Rattle.store_model.proofs.Invariant.Shares.{same_set}
+use Rattle.store_model.proofs.Invariant.TenantNames.{same_owner, same_repo_count}
 use Rattle.store_model.proofs.Invariant.Unused.{no_session, no_sessions, same_test}
 use Rattle.spec_lib.proofs.Options.{option_eq_some, some_same}
 use Rattle.spec_lib.proofs.Lists.{list_any_same, witness}
@@ -41,9 +42,9 @@ pub record Visible : Type 0 where
 abbrev pub visible : Catalog → Visible
 visible C = record { tenants = C.tenants; contents = C.contents; next = C.next; repos = C.repos; links = C.links; manifests = C.manifests; sessions = C.sessions }
 
--- Catalogs are equivalent for a tenant: all that belongs to it is equal.
+-- Catalogs are equivalent for a tenant: all that belongs to it is equal, and so are the names of all tenants.
 pub record AreAlike (t : ℕ) (C D : Visible) : Type 0 where
-  pub tenants : C.tenants ≡ D.tenants
+  pub tenants : AreTenantsAlike t C.tenants D.tenants
   pub contents : C.contents ≡ D.contents
   pub numbers : length C.next ≡ length D.next
   pub next : slice_index C.next t ≡ slice_index D.next t
@@ -134,7 +135,7 @@ sessions_none content t X Y consistent agree r own none = no_sessions Y.sessions
 
 module _ (t : ℕ) (C D : Catalog) (alike : Alike t C D) where
   pub of_same : (r : Text) → is_repo_of C t r ≡ is_repo_of D t r
-  of_same r = ap (λ ts. is_repo_of_tenant ts t r) alike.tenants
+  of_same r = same_owner C.tenants D.tenants alike.tenants.names t r
 
   pub holds_same : (r d : Text) → is_repo_of C t r ≡ true → holds C r d ≡ holds D r d
   holds_same r d own = ap is_some (alike.links (r, d) own)
@@ -154,10 +155,10 @@ module _ (t : ℕ) (C D : Catalog) (alike : Alike t C D) where
   pub repos_same : repos_of C t ≡ repos_of D t
   repos_same =
       count_agree nat_list_cmp_total exact_bytes (is_repo_of C t) (is_repo_of C t) C.repos D.repos alike.repos (λ r off. off)
-      ∙ ap (λ ts. repos_of (record D { tenants = ts }) t) alike.tenants
+      ∙ same_repo_count C.tenants D.tenants alike.tenants.names D.repos t
 
   pub limits_same : limits_of C t ≡ limits_of D t
-  limits_same = ap (λ ts. limits_of (record D { tenants = ts }) t) alike.tenants
+  limits_same = ap (λ o. option_map_or (λ x. x.limits) o no_tenant.limits) alike.tenants.settings
 
   pub room_same : (r : Text) → is_repo_of C t r ≡ true → lacks_room_for C t r ≡ lacks_room_for D t r
   room_same r own = λ i. not (is_some (alike.repos r own i)) && nat_le (limits_same i).repos (repos_same i)
@@ -181,16 +182,16 @@ module _ (t : ℕ) (C D : Catalog) (alike : Alike t C D) where
   whole_same n last = ap (λ o. concat (option_map_or (λ s. at_home s.chunks) o []) ++ last) (session_found n)
 
   pub quota_same : quota_of C t ≡ quota_of D t
-  quota_same = ap (λ ts. option_map_or (λ x. x.quota) (slice_get ts t) 0) alike.tenants
+  quota_same = ap (λ o. option_map_or (λ x. x.quota) o 0) alike.tenants.settings
 
   share_same : share_of C t ≡ share_of D t
-  share_same = ap (λ ts. option_map_or (λ x. x.share) (slice_get ts t) 0) alike.tenants
+  share_same = ap (λ o. option_map_or (λ x. x.share) o 0) alike.tenants.settings
 
   digests_same : held_digests C t ≡ held_digests D t
   digests_same = same_set nat_list_cmp_total exact_bytes (held_digests C t) (held_digests D t) (λ d.
       held_digests-by_links C t d
       ∙ any_agree link_cmp_total exact_link (λ l. is_repo_of C t l.0) (λ l. is_repo_of C t l.0 && eq_by_cmp text_cmp d l.1) C.links D.links alike.links (λ l off. and_left (is_repo_of C t l.0) (eq_by_cmp text_cmp d l.1) off)
-      ∙ ap (λ ts. list_any (λ l. is_repo_of_tenant ts t l.0 && eq_by_cmp text_cmp d l.1) (set.items D.links)) alike.tenants
+      ∙ (λ i. list_any (λ l. of_same l.0 i && eq_by_cmp text_cmp d l.1) (set.items D.links))
       ∙ sym (held_digests-by_links D t d))
 
   pub share_check_same : (d : Text) → check_share C t d ≡ check_share D t d

@@ -1,6 +1,7 @@
 -- The store's text after two runs in which each tenant makes the same commands.
 use Rattle.std.proofs.Common.{◌≡◌, ℕ, ◌+◌, Bool, true, false, cond, List, [], ◌∷◌, ◌++◌, length, Option, Some, None, is_some, refl, sym, ap, ◌∙◌, subst}
-use Rattle.std.specs.Prelude.{◌==◌, ◌&&◌, ◌||◌, if◌then◌else◌}
+use Prim.Native.Nat.{suc}
+use Rattle.std.specs.Prelude.{◌==◌, ◌&&◌, ◌||◌, slice_get, if◌then◌else◌}
 use Rattle.std.specs.Option.{option_map, option_map_or}
 use Rattle.std.specs.Ordering.{eq_by_cmp, is_eq}
 use Rattle.std.specs.Cmp.{IsTotalOrder, tied_itself}
@@ -15,18 +16,25 @@ use Rattle.spec_lib.specs.Sets as kept_set
 use Rattle.spec_lib.specs.Texts.{Text, text_cmp, same_text}
 use Rattle.store_model.specs.Catalog.{Tenant, Link, Resident, Catalog, link_cmp, tenant_of, is_repo_of, tenant_holds, blob_length, link_count, used_bytes, opening, is_repo_of_tenant}
 use Rattle.store_model.specs.Runs.{Event, CommandEvent, SweepEvent, SweepPartEvent, repo_of}
-use Rattle.store_model.specs.Noninterference.{events_of, commands_of, blobs_of, isolated_catalog, IsUnaffectedByOthers, TextsAreTheSame}
+use Rattle.store_model.specs.Noninterference.{AreTenantsAlike, events_of, commands_of, blobs_of, isolated_catalog, IsUnaffectedByOthers, TextsAreTheSame}
 use Rattle.store_model.specs.BookText.{blob_line, book_line, end_line, repository_line, tenant_line, blob_text, manifest_text, session_text, repo_text, tenant_text, book_text}
 use Rattle.blob_digest.proofs.KeyOrders.{number_cmp_total, exact_number, link_cmp_total, exact_link}
 use Rattle.spec_lib.proofs.Lists.{all_weaker, flat_map-same, all_same}
-use Rattle.spec_lib.proofs.Options.{not_some}
+use Rattle.spec_lib.proofs.Options.{not_some, some_none, some_same}
 use Rattle.store_model.proofs.Invariant.Repos.{is_own}
 use Rattle.store_model.proofs.Invariant.Links.{is_held}
+use Rattle.store_model.proofs.Invariant.TenantNames.{same_tenant}
 use Rattle.store_model.proofs.Noninterference.SameFor.{Alike, Consistent, of_same, find-blobs, used_bytes-blobs, tenant_holds_same, in_sessions_same}
-use Rattle.store_model.proofs.Noninterference.LocalRespect.{alike_through}
+use Rattle.store_model.proofs.Noninterference.LocalRespect.{alike_through, tenants_alike_themselves}
 use Rattle.store_model.proofs.Noninterference.Runs.{content_of, pairs_of, followed, isolated}
 
 -- ---- lists
+
+same_elements : {A : Type 0} (xs ys : List A) → ((i : ℕ) → slice_get xs i ≡ slice_get ys i) → xs ≡ ys
+same_elements [] [] same = refl
+same_elements [] (y ∷ ys) same = some_none (sym (same 0))
+same_elements (x ∷ xs) [] same = some_none (same 0)
+same_elements (x ∷ xs) (y ∷ ys) same = λ i. some_same (same 0) i ∷ same_elements xs ys (λ n. same (suc n)) i
 
 all_filtered : {A : Type 0} (P : A → Type 0) (p : A → Bool) (xs : List A) → AllByRecursion P xs → AllByRecursion P (filter p xs)
 all_filtered P p [] h = tt
@@ -50,7 +58,7 @@ module _ {K : Type 0} (R : K → K → Ordering) (o : IsTotalOrder R) where
 
 pub alike_back : (t : ℕ) (C D : Catalog) → Alike t C D → Alike t D C
 alike_back t C D a = record {
-  tenants = sym a.tenants;
+  tenants = record { names = sym a.tenants.names; settings = sym a.tenants.settings };
   contents = sym a.contents;
   numbers = sym a.numbers;
   next = sym a.next;
@@ -68,7 +76,7 @@ module _ (b c : Text → Text) (C D : Catalog) (consistent_C : Consistent b C) (
   absent r none there = false≢true (ap is_some (sym none) ∙ consistent_C.repos r there)
 
   absent_D : (r : Text) → tenant_of C.tenants r ≡ None → kept_set.contains D.repos r ≡ true → ⊥
-  absent_D r none there = false≢true (ap is_some (sym none ∙ ap (λ ts. tenant_of ts r) (alike 0).tenants) ∙ consistent_D.repos r there)
+  absent_D r none there = false≢true (ap is_some (sym none ∙ same_tenant C.tenants D.tenants (alike 0).tenants.names r) ∙ consistent_D.repos r there)
 
   same_repos : C.repos ≡ D.repos
   same_repos = same_map nat_list_cmp_total exact_bytes C.repos D.repos (λ r. at r (tenant_of C.tenants r) refl)
@@ -139,13 +147,13 @@ module _ (b c : Text → Text) (C D : Catalog) (consistent_C : Consistent b C) (
   same_tenant_text e =
       let repos_here : flat_map (repo_text C e.0) (filter (is_repo_of C e.0) (kept_set.items C.repos)) ≡ flat_map (repo_text D e.0) (filter (is_repo_of D e.0) (kept_set.items D.repos)) =
       flat_map-same (repo_text C e.0) (repo_text D e.0) (filter (is_repo_of C e.0) (kept_set.items C.repos)) (all_same (λ r. repo_text C e.0 r ≡ repo_text D e.0 r) (same_repo_text e.0) (filter (is_repo_of C e.0) (kept_set.items C.repos)))
-      ∙ (λ i. flat_map (repo_text D e.0) (filter (is_repo_of_tenant ((alike 0).tenants i) e.0) (kept_set.items (same_repos i)))) in
+      ∙ (λ i. flat_map (repo_text D e.0) (filter (λ r. of_same e.0 C D (alike e.0) r i) (kept_set.items (same_repos i)))) in
       λ i. tenant_line e.1.name (same_used e.0 i) e.1.quota ((alike e.0).next i) ++ repos_here i
 
   pub same_text_of : book_text C ≡ book_text D
   same_text_of =
       let all = flat_map-same (tenant_text C) (tenant_text D) (enumerate_from 0 C.tenants) (all_same (λ e. tenant_text C e ≡ tenant_text D e) same_tenant_text (enumerate_from 0 C.tenants))
-      ∙ ap (λ ts. flat_map (tenant_text D) (enumerate_from 0 ts)) (alike 0).tenants in
+      ∙ ap (λ ts. flat_map (tenant_text D) (enumerate_from 0 ts)) (same_elements C.tenants D.tenants (λ t. (alike t).tenants.settings)) in
       λ i. book_line ++ all i ++ end_line
 
 -- ---- the theorem
@@ -162,14 +170,15 @@ uncrowded_of tenants t (CommandEvent command r ∷ es) h =
 
 pub same_texts : TextsAreTheSame
 same_texts tenants slots contents es fs C D run_es free_es run_fs free_fs same =
-    let a : (t : ℕ) → _ = λ t. followed tenants slots contents t es C run_es (uncrowded_of tenants t es free_es) in
-    let b : (t : ℕ) → _ = λ t. followed tenants slots contents t fs D run_fs (uncrowded_of tenants t fs free_fs) in
+    let itself : (t : ℕ) → AreTenantsAlike t tenants tenants = λ t. tenants_alike_themselves t tenants in
+    let a : (t : ℕ) → _ = λ t. followed tenants tenants slots contents t es C (itself t) run_es (uncrowded_of tenants t es free_es) in
+    let b : (t : ℕ) → _ = λ t. followed tenants tenants slots contents t fs D (itself t) run_fs (uncrowded_of tenants t fs free_fs) in
     let alone_a : (t : ℕ) → Catalog = λ t. isolated_catalog (opening tenants slots contents) (commands_of (events_of tenants t es)) in
     let alone_b : (t : ℕ) → Catalog = λ t. isolated_catalog (opening tenants slots contents) (commands_of (events_of tenants t fs)) in
     let alone_same : (t : ℕ) → alone_a t ≡ alone_b t = λ t. ap (isolated_catalog (opening tenants slots contents)) (same t) in
     let alike : (t : ℕ) → Alike t C D = λ t. alike_through t C (alone_a t) D (a t).alike (subst (λ X. Alike t X D) (sym (alone_same t)) (alike_back t D (alone_b t) (b t).alike)) in
     let blobs : (t : ℕ) → blobs_of C t ≡ blobs_of D t = λ t.
-    ap (λ p. p.blobs) (isolated tenants slots contents t es C run_es (uncrowded_of tenants t es free_es)).tenant_view
+    ap (λ p. p.blobs) (isolated tenants tenants slots contents t es C (itself t) run_es (uncrowded_of tenants t es free_es)).tenant_view
     ∙ ap (λ X. blobs_of X t) (alone_same t)
-    ∙ sym (ap (λ p. p.blobs) (isolated tenants slots contents t fs D run_fs (uncrowded_of tenants t fs free_fs)).tenant_view) in
+    ∙ sym (ap (λ p. p.blobs) (isolated tenants tenants slots contents t fs D (itself t) run_fs (uncrowded_of tenants t fs free_fs)).tenant_view) in
     same_text_of (content_of (pairs_of tenants slots contents es C run_es)) (content_of (pairs_of tenants slots contents fs D run_fs)) C D (a 0).consistent (b 0).consistent alike blobs
