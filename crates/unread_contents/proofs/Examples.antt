@@ -188,7 +188,7 @@ fair_as_read = record {
 -- ---- the conclusion
 
 pub first_alone : IsIsolatedUpTo AgreeWhereRead known known 0 steps (state first_leased 3 3)
-first_alone = tenants_are_isolated_on_disk known 0 steps (state first_leased 3 3) fair
+first_alone = tenants_are_isolated_on_disk known tenants 0 steps (state first_leased 3 3) (record { names = refl; settings = refl }) fair
 
 -- the tenant's isolated history returns the content that was not read
 leases_alone : isolated_outcome known (Lease one abc) ≡ Ok (Bytes unread_bytes, with_leased known abc (record { bytes = unread_bytes; condemned = false; lent = false }))

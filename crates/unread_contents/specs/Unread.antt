@@ -5,12 +5,12 @@ use Rattle.std.specs.FinMap as fmap
 use Rattle.content_files.specs.Notes.{is_read}
 use Rattle.blob_digest.specs.Digests.{is_digest_of}
 use Rattle.spec_lib.specs.Texts.{Text}
-use Rattle.store_model.specs.Catalog.{Catalog, Resident}
+use Rattle.store_model.specs.Catalog.{Catalog, Resident, Tenant}
 use Rattle.store_model.specs.Histories.{CommandCall, LeadsTo, State, Step, initial_state}
 use Rattle.store_model.specs.HistoryIsolation.{AreOwnReplies, catalog_after_requests, isolated_steps, requests_of, steps_of, uploads_of_history}
 use Rattle.store_model.specs.Invariant.{Sound}
-use Rattle.store_model.specs.Noninterference.{NoCollision, TenantView, tenant_view}
-use Rattle.store_model.specs.Restarts.{stored_contents}
+use Rattle.store_model.specs.Noninterference.{AreTenantsAlike, NoCollision, TenantView, tenant_view}
+use Rattle.store_model.specs.Restarts.{stored_contents, with_others}
 use Rattle.store_model.specs.Runs.{Bytes, Lease}
 
 -- ---- contents: lists of numbers, of which those below 256 are bytes that were read
@@ -126,9 +126,10 @@ pub record IsFairOnDisk (C : Catalog) (t : ℕ) (steps : List Step) (s : State) 
   pub uploads : NoCollisionOnDisk C (uploads_of_history (initial_state C) steps s run)
   pub own_replies : AreOwnReplies C.tenants t (initial_state C) steps s run
 
--- A tenant's replies and its view at the end are those of its isolated history, but for bytes that were not read in one of both.
+-- A tenant's replies and its view at the end are those of its isolated history, but for bytes that were not read in one of both, whatever settings the others have in it.
 abbrev pub TenantsAreIsolatedOnDisk : Type 0
-TenantsAreIsolatedOnDisk = (C : Catalog) (t : ℕ) (steps : List Step) (s : State) → IsFairOnDisk C t steps s → IsIsolatedUpTo AgreeWhereRead C C t steps s
+TenantsAreIsolatedOnDisk = (C : Catalog) (others : List Tenant) (t : ℕ) (steps : List Step) (s : State) →
+    AreTenantsAlike t C.tenants others → IsFairOnDisk C t steps s → IsIsolatedUpTo AgreeWhereRead C (with_others C others) t steps s
 
 -- The steps lead from a sound catalog, with contents on disk, to a state. F is this catalog with its contents read, which have their digests.
 -- No two contents of F and of the uploads differ and have the same digest. No reply to the tenant is one that others may cause.
@@ -141,6 +142,7 @@ pub record IsFairAsRead (C F : Catalog) (t : ℕ) (steps : List Step) (s : State
   pub no_collision : NoCollision (stored_contents F ++ uploads_of_history (initial_state C) steps s run)
   pub own_replies : AreOwnReplies C.tenants t (initial_state C) steps s run
 
--- A tenant's replies and its view at the end are those of its isolated history from F, but for bytes that were not read.
+-- A tenant's replies and its view at the end are those of its isolated history from F, but for bytes that were not read, whatever settings the others have in it.
 abbrev pub TenantsReadTheirContents : Type 0
-TenantsReadTheirContents = (C F : Catalog) (t : ℕ) (steps : List Step) (s : State) → IsFairAsRead C F t steps s → IsIsolatedUpTo IsReadAs C F t steps s
+TenantsReadTheirContents = (C F : Catalog) (others : List Tenant) (t : ℕ) (steps : List Step) (s : State) →
+    AreTenantsAlike t C.tenants others → IsFairAsRead C F t steps s → IsIsolatedUpTo IsReadAs C (with_others F others) t steps s

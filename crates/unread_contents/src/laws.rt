@@ -13,8 +13,9 @@ ghost use Rattle.unread_contents.specs.Unread.{
 /// - `histories`: a legal history of the store is one of the same store with its contents read. Only the contents that
 ///   leases return may differ, in bytes that were not read.
 /// - `sound`: a sound catalog with its contents read is sound, if they have their digests.
-/// - `alone`: a tenant's replies and its view at the end are those of its isolated history. Only contents that leases
-///   return, and contents in the view, may differ. They are as long, and have the same bytes where both were read.
+/// - `alone`: a tenant's replies and its view at the end are those of its isolated history, in which the other tenants
+///   have any quotas, shares and limits. Only contents that leases return, and contents in the view, may differ. They
+///   are as long, and have the same bytes where both were read.
 /// - `read`: the same, with an isolated history that begins with all contents read. Each byte of the tenant's replies
 ///   and view that was read is then the byte on the disk.
 /// - `agreement`: contents that have the same bytes where both were read are the same if all of both was read.
