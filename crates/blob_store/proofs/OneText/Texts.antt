@@ -14,6 +14,7 @@ use Rattle.store_model.specs.Histories.{initial_state}
 use Rattle.store_model.specs.HistoryIsolation.{is_step_of, requests_of}
 use Rattle.store_model.specs.HistoryIsolation as model
 use Rattle.store_model.proofs.Noninterference.Histories.{alone_in_histories, same_text_after}
+use Rattle.store_model.proofs.Noninterference.LocalRespect.{tenants_alike_themselves}
 use Rattle.store_api.specs.Answers.{Answer}
 use Rattle.store_api.specs.Commands.{is_command}
 use Rattle.script_player.specs.Leases.{no_leases}
@@ -168,7 +169,7 @@ module _ (tenants : List Tenant) (slots : ℕ) (contents : ContentRules) (rows :
       alone : (model.steps_of tenants t (steps_of play.run.order) ≡ (rows_alone book (filter (λ row. is_repo_of_tenant tenants t row.repo) rows)).0)
           × (answers_of (filter owns lines) ≡ (rows_alone book (filter (λ row. is_repo_of_tenant tenants t row.repo) rows)).1)
       alone =
-          let h = alone_in_histories tenants slots contents t (steps_of play.run.order) play.run.state play.free.fair undisturbed in
+          let h = alone_in_histories tenants tenants slots contents t (steps_of play.run.order) play.run.state (tenants_alike_themselves t tenants) play.free.fair undisturbed in
           let is : rows_of (filter owns lines) ≡ filter (λ row. is_repo_of_tenant tenants t row.repo) rows = sym (filter-map (λ row. is_repo_of_tenant tenants t row.repo) (λ (l : Line). l.0) lines) ∙ ap (filter (λ row. is_repo_of_tenant tenants t row.repo)) rows_are in
           let k = told_alone (filter owns lines) (model.steps_of tenants t (steps_of play.run.order)) book own_steps h.replies in
           (k.0 ∙ ap (λ rs. (rows_alone book rs).0) is, k.1 ∙ ap (λ rs. (rows_alone book rs).1) is)
