@@ -7,9 +7,9 @@ pub mod ManifestTableRows
 pub mod Shares
 pub mod Soundness
 pub mod Tables
+pub mod TenantIndexes
 pub mod TenantLists
 pub mod TenantRepoCalls
 pub mod TenantRepoRows
 pub mod TenantRepos
-pub mod TenantSearch
 pub mod Weights

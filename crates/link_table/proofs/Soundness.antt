@@ -72,7 +72,7 @@ module _ (tenants : List Tenant) (links : FinMap link_cmp ℕ) (blob_bytes charg
       let most : w ≤ x + size = at_most held w x size is in
       let is_w : w ≡ slice_index blob_bytes t + (if held then 0 else size) = is ∙ ap (λ n. n + (if held then 0 else size)) at in
       let fits_now : w + slice_index charges t < 2 ^ 64 = omega arith in record {
-        ordered = sound.ordered;
+        accepted = sound.accepted;
         one_each = (length-set blob_bytes t w ∙ sound.one_each.0, sound.one_each.1);
         one_size = HasOneSize-insert links r d size sound.one_size fits;
         summed = λ u below. elim (cases_eq u t) [
@@ -103,7 +103,7 @@ module _ (tenants : List Tenant) (links : FinMap link_cmp ℕ) (blob_bytes charg
     KeepsUsage-unlink w is =
         let lighter : w ≡ total_size (blobs (is_repo_of_tenant tenants t) (remove links (r, d))) = omega (arith, before, at) in
         let small_now : w + slice_index charges t < 2 ^ 64 = (let s = sound.small t lt in omega (arith, before, at)) in record {
-          ordered = sound.ordered;
+          accepted = sound.accepted;
           one_each = (length-set blob_bytes t w ∙ sound.one_each.0, sound.one_each.1);
           one_size = HasOneSize-remove links sound.one_size (r, d);
           summed = λ u below. elim (cases_eq u t) [
@@ -151,8 +151,8 @@ nothing_linked k n h = (let e : None ≡ Some n = sym (get-empty link_cmp k) ∙
 
 pub KeepsUsage-initial : (tenants : List Tenant) (links : FinMap link_cmp ℕ) (blob_bytes charges : List ℕ) → AreTenants tenants → links ≡ empty →
     blob_bytes ≡ replicate (length tenants) 0 → charges ≡ replicate (length tenants) 0 → KeepsUsage tenants links blob_bytes charges
-KeepsUsage-initial tenants links blob_bytes charges ordered no_links ws cs = rw (no_links, ws, cs) (record {
-  ordered = ordered;
+KeepsUsage-initial tenants links blob_bytes charges are no_links ws cs = rw (no_links, ws, cs) (record {
+  accepted = are;
   one_each = (length-replicate {A = ℕ} (length tenants) 0, length-replicate {A = ℕ} (length tenants) 0);
   one_size = λ r s d m n f g. nothing_linked (r, d) m f;
   summed = λ t lt. get_or-replicate {A = ℕ} (length tenants) t 0 0 lt ∙ sym (none_total (is_repo_of_tenant tenants t));

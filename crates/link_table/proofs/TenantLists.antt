@@ -23,7 +23,7 @@ use Rattle.spec_lib.proofs.Rows.{position-map, sum_by-map}
 use Rattle.link_table.specs.declared.tenants.TenantLimits.{TenantLimits}
 use Rattle.link_table.specs.declared.tenants.TenantSettings.{TenantSettings}
 use Rattle.link_table.specs.Linked.{limits_in}
-use Rattle.link_table.specs.Tenancy.{HasNames, IsWithinLimits, AreTenants, tenant_shown, tenants_shown}
+use Rattle.link_table.specs.Tenancy.{AreTenants, DoNamesRise, HasNames, IsWithinLimits, tenant_shown, tenants_shown}
 use Rattle.spec_lib.proofs.Sorted.{is_less}
 
 -- ---- how many pass a test
@@ -32,7 +32,7 @@ count_by-cons : {A : Type 0} (p : A → Bool) (x : A) (xs : List A) → count_by
 count_by-cons p x xs = sum_by-cons (λ y. cond (p y) 1 0) x xs
 
 -- an element that passes is counted
-one_place : {A : Type 0} (p : A → Bool) (xs : List A) (j : ℕ) (d : A) → j < length xs → p (get_or xs j d) ≡ true → 1 ≤ count_by p xs
+pub one_place : {A : Type 0} (p : A → Bool) (xs : List A) (j : ℕ) (d : A) → j < length xs → p (get_or xs j d) ≡ true → 1 ≤ count_by p xs
 one_place p [] j d lt h = absurd (omega arith)
 one_place p (x ∷ xs) zero d lt h = rw (count_by-cons p x xs, h) (omega arith)
 one_place p (x ∷ xs) (suc j) d lt h = let rest = one_place p xs j d (omega arith) h in rw (count_by-cons p x xs) (omega arith)
@@ -185,7 +185,7 @@ module _ (given ts : List TenantSettings) (moved : IsPermutation given ts) where
   comes_twice up at names = twice ts up at (HasNames-moved (tenants_shown given) (tenants_shown ts) shown_moved names)
 
   module _ (next : AllAdjacentBelow (λ x y. true ≡ is_lt (text_cmp (name_of x) (name_of y))) ts (length ts)) (components : All (λ t. IsComponent (string_bytes t.name)) ts) where
-    rises : IsStrictlySortedBy text_cmp (map (λ t. t.name) (tenants_shown ts))
+    pub rises : DoNamesRise (tenants_shown ts)
     rises = rising_by text_cmp nat_list_cmp_total (λ t. t.name) tenant_shown ts (λ k d lt.
         let lt' : k + 1 < length ts = omega arith in
         is_less (text_cmp (name_of (get_or ts k d)) (name_of (get_or ts (suc k) d))) (sym (rw add-one at (next k d lt'))))
@@ -203,4 +203,4 @@ module _ (given ts : List TenantSettings) (moved : IsPermutation given ts) where
     beyond not_within limits = not_within (IsWithinLimits-moved (tenants_shown given) (tenants_shown ts) shown_moved limits)
 
     pub ordered : IsWithinLimits (tenants_shown ts) → AreTenants (tenants_shown ts)
-    ordered limits = record { rising = rises; components = shown_components; limits = limits }
+    ordered limits = record { apart = once (tenants_shown ts) rises; components = shown_components; limits = limits }

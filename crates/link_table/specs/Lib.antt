@@ -4,6 +4,7 @@ pub mod Groups
 pub mod Rows
 pub mod Usage
 pub mod Tenancy
+pub mod TenantIndex
 pub mod Holders
 pub mod ManifestTable
 pub mod Manifests

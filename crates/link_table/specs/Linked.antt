@@ -15,7 +15,7 @@ use Rattle.blob_digest.specs.declared.refusal.Refusal.TheVariants.{LimitReached,
 use Rattle.link_table.specs.ManifestTable.{ManifestBytes, put_on}
 pub use Rattle.blob_digest.specs.Tenants.{Tenant, Limits, no_tenant, tenant_of, is_repo_of_tenant, tenant_repo_count, coded_tenant}
 
--- tenants in the order of their names, the existing repositories, the links with the sizes of their blobs, the manifests, and each tenant's charge in bytes
+-- tenants in the order of their numbers, the existing repositories, the links with the sizes of their blobs, the manifests, and each tenant's charge in bytes
 pub record Linked : Type 0 where
   pub tenants : List Tenant
   pub repos : set.Set text_cmp

@@ -1,6 +1,5 @@
 -- The lists of tenants that a table accepts, and the errors for the others.
 use Rattle.std.specs.Prelude.{◌≡◌, ◌<◌, ◌≤◌, ◌^◌, ℕ, Bool, List, length, map, count_by, string_bytes}
-use Rattle.std.specs.declared.cmp.Ordering.{Ordering}
 use Rattle.std.specs.Ordering.{is_lt}
 use Rattle.std.specs.List.{All}
 use Rattle.std.specs.List.Sorted.{IsPermutation, IsStrictlySortedBy}
@@ -13,10 +12,14 @@ use Rattle.link_table.specs.declared.tenants.TenantLimits.{TenantLimits}
 use Rattle.link_table.specs.declared.tenants.TenantSettings.{TenantSettings}
 use Rattle.link_table.specs.Linked.{Linked, initial_links}
 
+-- no name occurs twice
+abbrev pub AreApart : List Tenant → Type 0
+AreApart ts = (name : Text) → count_by (λ t. same_text t.name name) ts ≤ 1
+
 -- each name is one component of a repository's name (OCI Distribution Specification 1.1, "Pulling manifests"), and no name occurs twice
 pub record HasNames (ts : List Tenant) : Type 0 where
   pub components : All (λ t. IsComponent t.name) ts
-  pub apart : (name : Text) → count_by (λ t. same_text t.name name) ts ≤ 1
+  pub apart : AreApart ts
 
 -- the maximum number of tenants
 abbrev pub max_tenants : ℕ
@@ -40,11 +43,15 @@ RefusesTenants LimitReached given = HasNames given × (¬ (IsWithinLimits given)
 RefusesTenants Memory given = HasNames given × IsWithinLimits given
 RefusesTenants _ given = ⊥
 
--- the tenants are in the strict order of their names, which are components, and within the limits
+-- the names of the tenants are components, no name occurs twice, and the tenants are within the limits
 pub record AreTenants (ts : List Tenant) : Type 0 where
-  pub rising : IsStrictlySortedBy text_cmp (map (λ t. t.name) ts)
+  pub apart : AreApart ts
   pub components : All (λ t. IsComponent t.name) ts
   pub limits : IsWithinLimits ts
+
+-- the tenants are in the strict order of their names
+abbrev pub DoNamesRise : List Tenant → Type 0
+DoNamesRise ts = IsStrictlySortedBy text_cmp (map (λ t. t.name) ts)
 
 -- the table has the given tenants in the order of their names, and nothing else
 pub record Opens (given : List Tenant) (l : Linked) : Type 0 where
@@ -52,6 +59,7 @@ pub record Opens (given : List Tenant) (l : Linked) : Type 0 where
   pub limits : IsWithinLimits given
   pub same : IsPermutation given l.tenants
   pub tenants : AreTenants l.tenants
+  pub rising : DoNamesRise l.tenants
   pub empty : l ≡ initial_links l.tenants
 
 -- the limits of a tenant
@@ -65,10 +73,6 @@ tenant_shown t = record { name = string_bytes t.name; quota = t.quota; share = t
 -- the tenants that rows show
 abbrev pub tenants_shown : List TenantSettings → List Tenant
 tenants_shown ts = map tenant_shown ts
-
--- the order of a tenant's name and this name
-abbrev pub tenant_name_cmp : Text → TenantSettings → Ordering
-tenant_name_cmp name t = text_cmp (string_bytes t.name) name
 
 -- the test says whether the name of x is below that of y
 abbrev pub IsNameBelow : TenantSettings → TenantSettings → Bool → Type 0

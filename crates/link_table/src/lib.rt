@@ -17,6 +17,7 @@ mod manifests;
 mod repo_blobs;
 mod repo_manifests;
 mod repos;
+mod tenant_index;
 mod tenant_repos;
 mod tenants;
 mod usage;

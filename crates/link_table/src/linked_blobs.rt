@@ -9,7 +9,6 @@ ghost use Rattle.link_table.specs.Linked.{blobs_in, blobs_of, first_unlinked, is
 use crate::blobs::Blobs;
 use crate::holders::{decrement, digest_count, holders_of, increment};
 use crate::links::Links;
-use crate::tenants::tenant_at;
 use crate::usage::{bytes_with, bytes_without};
 use blob_digest::{Digest, Refusal, RepoName};
 
@@ -156,9 +155,9 @@ impl Links {
     pub fn blobs(&self, repo: &RepoName) -> Blobs<'_>
         ensures { result ≡ blobs_in self.now repo.now }
     {
-        match tenant_at(self.tenants.as_slice(), repo.tenant()) {
+        match self.index.find(repo.tenant()) {
             Some(t) => Blobs {
-                rest: self.repos[t].blobs(repo),
+                rest: self.repos[t as usize].blobs(repo),
             },
             None => Blobs { rest: None },
         }

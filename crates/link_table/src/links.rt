@@ -9,8 +9,9 @@ ghost use Rattle.link_table.specs.Tenancy.{Opens, AreTenants, RefusesTenants, li
 
 use crate::holders::{Holders, no_holders};
 use crate::manifest_table::ManifestTable;
+use crate::tenant_index::TenantIndex;
 use crate::tenant_repos::TenantRepos;
-use crate::tenants::{TenantLimits, TenantSettings, in_order, tenant_at};
+use crate::tenants::{TenantLimits, TenantSettings, in_order};
 use blob_digest::{Refusal, RepoName};
 use std::alloc::Global;
 use std::marker::Model;
@@ -18,15 +19,15 @@ use std::marker::Model;
 /// Tenants with quotas and shares, their repositories, the links of repositories to blobs, the manifests, and each tenant's
 /// charges.
 ///
-/// Contracts see these five. Each tenant's usage follows from them. Tenants are numbered from 0 in the order of their
-/// names. Sizes, quotas, charges and usages are in bytes.
+/// Contracts see these five. Each tenant's usage follows from them. A tenant's number is its position in the list of
+/// tenants, from 0 on. Sizes, quotas, charges and usages are in bytes.
 ///
 /// # Cost
 ///
-/// Each tenant has its repositories in an ordered map. Each repository has its blobs in one ordered map and
-/// its manifests in another. Finding, creating or removing a repository is logarithmic in the number of tenants and of
-/// the tenant's repositories. For each digest in its repositories, a tenant has the number of repositories that contain
-/// it. Finding that number is logarithmic in the number of these digests.
+/// A tenant is found by its name in an ordered map. Each tenant has its repositories in an ordered map. Each repository
+/// has its blobs in one ordered map and its manifests in another. Finding, creating or removing a repository is
+/// logarithmic in the number of tenants and of the tenant's repositories. For each digest in its repositories, a tenant
+/// has the number of repositories that contain it. Finding that number is logarithmic in the number of these digests.
 ///
 /// # Memory
 ///
@@ -35,6 +36,7 @@ use std::marker::Model;
 pub struct Links {
     pub(crate) alloc: Global,
     pub(crate) tenants: Vec<TenantSettings>,
+    pub(crate) index: TenantIndex,
     pub(crate) repos: Vec<TenantRepos>,
     pub(crate) manifests: ManifestTable,
     pub(crate) holders: Vec<Holders>,
@@ -54,6 +56,7 @@ impl Model for Links {
     ghost use Rattle.link_table.specs.TenantRepos.{repos_shown, links_shown, IsOwned};
     ghost use Rattle.link_table.specs.Usage.{KeepsUsage};
     ghost use Rattle.link_table.specs.Holders.{Counts};
+    ghost use Rattle.link_table.specs.TenantIndex.{IsIndexOf};
 
     ghost view = { λ a. record {
       tenants = tenants_shown a.tenants.items;
@@ -65,7 +68,8 @@ impl Model for Links {
 
     ghost invariant = { λ a. KeepsUsage (tenants_shown a.tenants.items) (links_shown a.repos.items)
         a.blob_bytes.items a.charges.items × IsOwned (tenants_shown a.tenants.items) a.repos.items ×
-        Counts (tenants_shown a.tenants.items) (links_shown a.repos.items) a.holders.items };
+        Counts (tenants_shown a.tenants.items) (links_shown a.repos.items) a.holders.items ×
+        IsIndexOf a.tenants.items a.index };
 }
 
 /// Returns `count` tenants without repositories.
@@ -81,20 +85,21 @@ fn no_repos(alloc: Global, count: usize) -> Result<Vec<TenantRepos>, Refusal>
 }
 
 impl Links {
-    /// Returns a table of these tenants, without repositories. It numbers them in the order of their names.
+    /// Returns a table of these tenants, without repositories. A new table numbers them in the order of their names.
     ///
     /// # Errors
     ///
     /// - `NameInvalid`: a name is not one component of a repository's name (OCI Distribution Specification 1.1,
     ///   "Pulling manifests"), or occurs twice.
-    /// - `LimitReached`: there is no tenant, there are more than 256, a quota exceeds 2^50 bytes, or a limit exceeds
-    ///   `GREATEST_LIMITS`.
+    /// - `LimitReached`: there is no tenant, there are more than `MAX_TENANTS`, a quota exceeds 2^50 bytes, or a limit
+    ///   exceeds `GREATEST_LIMITS`.
     /// - `Memory`: out of memory.
     pub fn new(alloc: Global, tenants: Vec<TenantSettings>) -> Result<Links, Refusal>
         ensures opened { IfOk result (λ l. Opens (tenants_shown tenants.items) l) }
         ensures refused { IfErr result (λ e. RefusesTenants e (tenants_shown tenants.items)) }
     {
         let tenants = in_order(tenants)?;
+        let index = TenantIndex::new(alloc, tenants.as_slice())?;
         let count = tenants.as_slice().len();
         let blob_bytes = vec![in alloc; 0u64; count]?;
         let charges = vec![in alloc; 0u64; count]?;
@@ -103,6 +108,7 @@ impl Links {
         Ok(Links {
             alloc,
             tenants,
+            index,
             repos,
             manifests: ManifestTable::new(alloc),
             holders,
@@ -127,8 +133,8 @@ impl Links {
         ensures short { length repo.now ≤ 255 }
         ensures tenants { AreTenants self.now.tenants }
     {
-        match tenant_at(self.tenants.as_slice(), repo.tenant()) {
-            Some(t) => Ok(t as u16),
+        match self.index.find(repo.tenant()) {
+            Some(t) => Ok(t),
             None => Err(Refusal::NameUnknown),
         }
     }

@@ -1,12 +1,10 @@
 //! The checks of the list of tenants that a table is made of.
 
-ghost use Rattle.std.specs.Prelude.{◌≡◌, ◌≤◌, ◌<◌, ◌↔◌, IsTrue, IfOk, IfErr, length, position, string_bytes};
+ghost use Rattle.std.specs.Prelude.{◌≡◌, ◌≤◌, ◌↔◌, IsTrue, IfOk, IfErr, string_bytes};
 ghost use Rattle.std.specs.List.{All, IsAllAdjacentAnswer};
-ghost use Rattle.std.specs.List.Sorted.{IsBinarySearchResult, IsSearchInRange};
-ghost use Rattle.spec_lib.specs.Texts.{same_text};
 ghost use Rattle.blob_digest.specs.Names.{IsComponent};
 ghost use Rattle.blob_digest.specs.Tenants.{AreSupported};
-ghost use Rattle.link_table.specs.Tenancy.{AreTenants, HasNames, IsNameBelow, IsWithinLimits, RefusesTenants, SameTenants, limits_shown, max_quota, tenant_name_cmp, tenants_shown};
+ghost use Rattle.link_table.specs.Tenancy.{AreTenants, DoNamesRise, HasNames, IsNameBelow, IsWithinLimits, RefusesTenants, SameTenants, limits_shown, max_quota, tenants_shown};
 
 use blob_digest::{Refusal, is_component};
 
@@ -56,22 +54,6 @@ pub const MAX_TENANTS: usize = 4096;
 
 /// The maximum quota in bytes.
 pub const MAX_QUOTA: u64 = 1 << 50;
-
-/// Returns the index of a name among those of the tenants, or the index at which to insert it.
-fn place_named(tenants: &[TenantSettings], name: &str) -> Result<usize, usize>
-    ensures within { IsSearchInRange result (length tenants.now) }
-    ensures place { IsBinarySearchResult (tenant_name_cmp name.now) tenants.now result }
-{
-    tenants.binary_search_by(|t| t.name.as_str().cmp(name))
-}
-
-/// Returns the index of the tenant with a name. Logarithmic in the number of tenants.
-pub fn tenant_at(tenants: &[TenantSettings], name: &str) -> Option<usize>
-    requires { AreTenants (tenants_shown tenants.now) }
-    ensures { result ≡ position (λ t. same_text (string_bytes t.name) name.now) tenants.now }
-{
-    place_named(tenants, name).ok()
-}
 
 /// Returns whether each name is one component of a repository's name.
 fn are_components(tenants: &[TenantSettings]) -> bool
@@ -128,13 +110,14 @@ fn are_within_limits(tenants: &[TenantSettings]) -> bool
 /// # Errors
 ///
 /// - `NameInvalid`: a name is not one component of a repository's name, or occurs twice.
-/// - `LimitReached`: there is no tenant, there are more than 256, a quota exceeds 2^50 bytes, or a limit exceeds
-///   `GREATEST_LIMITS`.
+/// - `LimitReached`: there is no tenant, there are more than `MAX_TENANTS`, a quota exceeds 2^50 bytes, or a limit
+///   exceeds `GREATEST_LIMITS`.
 pub fn in_order(mut tenants: Vec<TenantSettings>) -> Result<Vec<TenantSettings>, Refusal>
     ensures names { IfOk result (λ ts. HasNames (tenants_shown tenants.items)) }
     ensures limits { IfOk result (λ ts. IsWithinLimits (tenants_shown tenants.items)) }
     ensures same { IfOk result (λ ts. SameTenants tenants.items ts.items) }
     ensures kept { IfOk result (λ ts. AreTenants (tenants_shown ts.items)) }
+    ensures rising { IfOk result (λ ts. DoNamesRise (tenants_shown ts.items)) }
     ensures refused { IfErr result (λ e. RefusesTenants e (tenants_shown tenants.items)) }
 {
     tenants.sort_unstable();

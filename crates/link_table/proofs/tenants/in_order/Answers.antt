@@ -1,5 +1,5 @@
 use Rattle.std.proofs.lemmas.Bool.{false≢true}
-use Rattle.link_table.proofs.TenantLists.{no_component, comes_twice, have_names, limited, beyond, ordered, shown_moved}
+use Rattle.link_table.proofs.TenantLists.{no_component, comes_twice, have_names, limited, beyond, ordered, rises, shown_moved}
 use Rattle.link_table.proofs.tenants.in_order.Goals as goal
 
 pub returns-then-not-are_components-clause-refused : goal.returns-then-not-are_components-clause-refused
@@ -31,3 +31,6 @@ returns-clause-same c = shown_moved c.args.tenants.items c.sort_unstable.new.sel
 pub returns-clause-kept : goal.returns-clause-kept
 returns-clause-kept c = ordered c.args.tenants.items c.sort_unstable.new.self.items c.sort_unstable.ensures.permutation (rw c.as_slice-2.ensures.value at c.if-not-names_rise.ensures) (rw c.as_slice.ensures.value at (c.are_components.ensures.0 c.if-not-are_components.false))
     (rw c.as_slice-3.ensures.value at (c.are_within_limits.ensures.0 c.if-not-are_within_limits.false))
+
+pub returns-clause-rising : goal.returns-clause-rising
+returns-clause-rising c = rises c.args.tenants.items c.sort_unstable.new.self.items c.sort_unstable.ensures.permutation (rw c.as_slice-2.ensures.value at c.if-not-names_rise.ensures) (rw c.as_slice.ensures.value at (c.are_components.ensures.0 c.if-not-are_components.false))

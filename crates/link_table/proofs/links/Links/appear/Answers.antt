@@ -13,7 +13,7 @@ pub appear-requires : goal.appear-requires
 appear-requires c =
     let tenants = tenants_shown c.self.inside.tenants.items in
     let is : limits_shown c.limits-limit.result ≡ limits_in tenants c.args.tenant = rw (← c.self.view_is) at c.limits-limit.ensures in
-    let supported = (limits_supported tenants c.self.invariant.0.ordered.limits.limits c.args.tenant).repos in
+    let supported = (limits_supported tenants c.self.invariant.0.accepted.limits.limits c.args.tenant).repos in
     omega (arith, ap (λ (l : Limits). l.repos) is, supported)
 
 pub invariant_of-self : goal.invariant_of-self
@@ -28,6 +28,7 @@ invariant_of-self c =
       rw links c.self.invariant.0,
       IsOwned-appear tenants by_tenant owned c.self.inside.manifests c.self.inside.charges.items c.args.tenant s at c.args.repo.now (rw (← c.self.view_is) at c.requires.own) c.appear.new.self is,
       rw links c.self.invariant.2,
+      c.self.invariant.3,
     )
 
 pub returns : goal.returns

@@ -33,6 +33,7 @@ invariant_of-self-then-not-branch c =
       rw links c.self.invariant.0,
       IsOwned-link tenants by_tenant c.self.invariant.1 c.self.inside.manifests c.self.inside.charges.items c.args.tenant s at c.args.repo.now own c.link.new.self c.args.digest.now c.args.size known c.in_ok-link.ensures.ok,
       rw links c.self.invariant.2,
+      c.self.invariant.3,
     )
 
 pub returns-then-not-branch : goal.returns-then-not-branch
@@ -80,6 +81,7 @@ invariant_of-self-in-Ok c =
           (rw (← c.self.view_is) at c.requires.size) (rw (← c.self.view_is) at c.requires.room) (nat_lt 1 c.in-Ok.count) held c.index.result.now c.bytes_with.result c.index.ensures c.bytes_with.ensures),
       IsOwned-link tenants by_tenant c.self.invariant.1 c.self.inside.manifests c.self.inside.charges.items c.args.tenant s at c.args.repo.now own c.link.new.self c.args.digest.now c.args.size known c.in_ok-link.ensures.ok,
       rw links (Counts-insert tenants (links_shown by_tenant) c.self.inside.holders.items c.self.invariant.2 c.args.tenant c.index_mut.result.now counted c.increment.new.holders c.args.repo.now c.args.digest.now c.args.size own absent c.in-Ok.ensures.ok),
+      c.self.invariant.3,
     )
 
 pub returns-in-Ok : goal.returns-in-Ok
@@ -111,6 +113,7 @@ invariant_of-self-in-Err c =
       rw links c.self.invariant.0,
       IsOwned-same tenants by_tenant c.self.invariant.1 c.self.inside.manifests c.self.inside.charges.items c.args.tenant s at c.args.repo.now own c.unlink.new.self back,
       rw links (Counts-same tenants (links_shown by_tenant) c.self.inside.holders.items c.self.invariant.2 c.args.tenant c.index_mut.result.now counted c.increment.new.holders c.in-Err.ensures.err),
+      c.self.invariant.3,
     )
 
 pub returns-in-Err : goal.returns-in-Err

@@ -11,6 +11,9 @@ use Rattle.link_table.proofs.Soundness.{KeepsUsage-initial}
 use Rattle.link_table.proofs.Tables.{links-initial, repos-initial, IsOwned-initial}
 use Rattle.link_table.proofs.links.Links.new.Goals as goal
 
+pub new-requires-clause-apart : goal.new-requires-clause-apart
+new-requires-clause-apart c = rw c.as_slice.ensures.value c.in_ok-tenants.ensures.kept.apart
+
 pub invariant_of-result : goal.invariant_of-result
 invariant_of-result c =
     let tenants = tenants_shown c.in_ok-tenants.tenants.items in
@@ -25,6 +28,7 @@ invariant_of-result c =
       IsOwned-initial tenants c.in_ok-repos.repos.items (length c.in_ok-tenants.tenants.items) (sym n) s,
       Counts-initial tenants (links_shown c.in_ok-repos.repos.items) c.in_ok-holders.holders.items (ap entries links ∙ entries-empty link_cmp ℕ)
           (holders.0 ∙ sym n) holders.1,
+      rw c.as_slice.ensures.value at c.in_ok-index.ensures.ok,
     )
 
 pub returns-clause-opened : goal.returns-clause-opened
@@ -41,5 +45,6 @@ returns-clause-opened c =
       limits = c.in_ok-tenants.ensures.limits;
       same = c.in_ok-tenants.ensures.same;
       tenants = c.in_ok-tenants.ensures.kept;
-      empty = λ i. record { tenants = tenants; repos = repos i; links = links i; manifests = c.new.ensures i; charges = charges i };
+      rising = c.in_ok-tenants.ensures.rising;
+      empty = λ i. record { tenants = tenants; repos = repos i; links = links i; manifests = c.new-2.ensures i; charges = charges i };
     }

@@ -60,6 +60,7 @@ invariant_of-self c =
           c.index.result.now c.index.ensures c.bytes_without.result c.bytes_without.ensures),
       IsOwned-unlink tenants by_tenant c.self.invariant.1 c.self.inside.manifests c.self.inside.charges.items c.args.tenant s at c.args.repo.now own c.unlink.new.self c.args.digest.now c.in-Some.ensures.gone,
       rw links counts,
+      c.self.invariant.3,
     )
 
 -- the link wasn't there
@@ -77,6 +78,7 @@ invariant_of-self-in-None c =
       rw links c.self.invariant.0,
       IsOwned-unlink tenants by_tenant c.self.invariant.1 c.self.inside.manifests c.self.inside.charges.items c.args.tenant s at c.args.repo.now own c.unlink.new.self c.args.digest.now c.in-None.ensures.gone,
       rw links c.self.invariant.2,
+      c.self.invariant.3,
     )
 
 pub returns-in-Some-clause-was : goal.returns-in-Some-clause-was

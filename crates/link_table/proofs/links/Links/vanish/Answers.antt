@@ -36,6 +36,7 @@ invariant_of-self c =
       rw links c.self.invariant.0,
       IsOwned-vanish tenants c.self.inside.repos.items c.self.invariant.1 c.self.inside.manifests c.self.inside.charges.items c.args.tenant s at c.args.repo.now own c.vanish.new.self none c.vanish.ensures,
       rw links c.self.invariant.2,
+      c.self.invariant.3,
     )
 
 pub returns : goal.returns
