@@ -1,4 +1,4 @@
--- The catalog: the abstract state of a store, and its counts. Names and digests are texts; a tenant is its position in the order of names.
+-- The catalog: the abstract state of a store, and its counts. Names and digests are texts; a tenant is its number, which is its position in the list of tenants.
 use Rattle.std.specs.Prelude.{ℕ, ◌+◌, ◌&&◌, Bool, false, List, length, filter, map, sum_by, count_by, slice_get, slice_index, if◌then◌else◌}
 use Rattle.std.specs.Option.{option_map_or}
 use Rattle.std.proofs.Common.{refl}
@@ -29,7 +29,7 @@ pub record ContentRules : Type 0 where
 
 -- The abstract state of a store.
 pub record Catalog : Type 0 where
-  -- the tenants, in the order of their names
+  -- the tenants, in the order of their numbers
   pub tenants : List Tenant
   -- the number of slots
   pub slots : ℕ

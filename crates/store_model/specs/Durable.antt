@@ -18,7 +18,7 @@ use Rattle.store_model.specs.declared.mount.Mount.TheVariants as mount
 
 -- the durable state of a store: all that a restart restores
 pub record DurableState : Type 0 where
-  -- the tenants, in the order of their names
+  -- the tenants, in the order of their numbers
   pub tenants : List Tenant
   -- the repositories
   pub repos : set.Set text_cmp

@@ -1,8 +1,7 @@
 -- The invariant of a catalog, and the theorems about counts, uses and references.
-use Rattle.std.specs.Prelude.{◌≡◌, ◌≢◌, ℕ, ◌+◌, ◌<◌, ◌≤◌, ◌^◌, true, false, Some, Err, List, [], length, IsSome, map, sum_by, count_by, slice_index}
+use Rattle.std.specs.Prelude.{◌≡◌, ◌≢◌, ℕ, ◌+◌, ◌<◌, ◌≤◌, ◌^◌, true, false, Some, Err, List, [], length, IsSome, sum_by, count_by, slice_index}
 use Rattle.std.specs.List.{AllByRecursion}
 use Rattle.std.specs.Ordering.{eq_by_cmp}
-use Rattle.std.specs.List.Sorted.{IsStrictlySortedBy}
 use Rattle.std.specs.FinMap as fmap
 use Rattle.blob_digest.specs.Digests.{sha256_text}
 use Rattle.spec_lib.specs.Sets as set
@@ -11,7 +10,7 @@ use Rattle.std.specs.declared.cmp.Ordering.TheVariants.{Less}
 use Rattle.blob_digest.specs.Slots.{greatest_slots}
 use Rattle.blob_digest.specs.declared.refusal.Refusal.TheVariants.{Referenced}
 use Rattle.store_model.specs.Commands.{refers, delete, is_named}
-use Rattle.spec_lib.specs.Texts.{Text, text_cmp}
+use Rattle.spec_lib.specs.Texts.{Text, same_text, text_cmp}
 use Rattle.store_model.specs.Catalog.{Link, SessionNumber, Session, Resident, Catalog, tenant_of, quota_of, share_of, link_count, blob_length, used_bytes, held_digests, held_count, session_charges_of, open_sessions, manifests_of, charged_length, Tenant, is_repo_of_tenant, tenant_repo_count, link_cmp}
 use Rattle.store_model.specs.Sessions.{at_home}
 use Rattle.blob_digest.specs.Tenants.{AreSupported, greatest_limits}
@@ -43,10 +42,10 @@ pub record IsWellFormedLink (present : set.Set text_cmp) (residents : fmap.FinMa
   pub repo : set.contains present l.0 ≡ true
   pub kept : (b : Resident) × (fmap.get residents l.1 ≡ Some b) × (b.condemned ≡ false)
 
--- the tenants are in the order of their names, and within the limits of a store
+-- no name of a tenant occurs twice, and the tenants are within the limits of a store
 pub record AreWithinLimits (known : List Tenant) (longest : ℕ) : Type 0 where
   pub tenants : (0 < length known) × (length known ≤ 4096)
-  pub names_rise : IsStrictlySortedBy text_cmp (map (λ t. t.name) known)
+  pub names_apart : (name : Text) → count_by (λ t. same_text t.name name) known ≤ 1
   pub max_blob : longest ≤ 2 ^ 40
   pub quotas : AllByRecursion (λ t. t.quota ≤ 2 ^ 50) known
   pub limits : AllByRecursion (λ t. AreSupported t.limits) known

@@ -3,7 +3,6 @@ use Rattle.std.proofs.Common.{◌≡◌, ◌∙◌, ℕ, true, false, List, [], 
 use Prim.Native.Nat.{zero, suc}
 use Rattle.std.specs.Prelude.{codes}
 use Rattle.std.specs.List.{Contains}
-use Rattle.std.specs.List.Sorted.{IsStrictlySortedBy}
 use Rattle.std.specs.FinMap.{empty, entries-insert, get, get-empty, get-insert, len-entries}
 use Rattle.std.specs.Cmp.Lexicographic.{nat_list_cmp_total}
 use Rattle.content_files.specs.Notes.{unread}
@@ -22,7 +21,7 @@ use Rattle.store_model.specs.Invariant.{Sound}
 use Rattle.store_model.specs.Noninterference.{NoCollision, isolated_outcome}
 use Rattle.store_model.specs.Restarts.{stored_contents}
 use Rattle.store_model.specs.Runs.{Bytes, Close, CommandEvent, Event, Lease, Number, Start, outcome}
-use Rattle.store_model.proofs.Commands.Opening.{Sound-opening}
+use Rattle.store_model.proofs.Commands.Opening.{Sound-opening, two_names_apart}
 use Rattle.store_model.proofs.Commands.Runs.{Sound-run}
 use Rattle.store_model.proofs.Examples.Digests.{abc, abc_bytes, abc_named}
 use Rattle.store_model.proofs.Examples.Sweeps.{is_only}
@@ -30,8 +29,14 @@ use Rattle.unread_contents.specs.Unread.{AgreeWhereRead, AreReadBlobs, HaveTheir
 use Rattle.unread_contents.proofs.Blobs.{AreRead, read_insert}
 use Rattle.unread_contents.proofs.Theorems.{tenants_are_isolated_on_disk}
 
+abbrev first_tenant : Tenant
+first_tenant = record { name = codes "acme"; quota = 9; share = 4294967295; limits = usual_limits }
+
+abbrev second_tenant : Tenant
+second_tenant = record { name = codes "other"; quota = 9; share = 4294967295; limits = usual_limits }
+
 abbrev tenants : List Tenant
-tenants = record { name = codes "acme"; quota = 9; share = 4294967295; limits = usual_limits } ∷ record { name = codes "other"; quota = 9; share = 4294967295; limits = usual_limits } ∷ []
+tenants = first_tenant ∷ second_tenant ∷ []
 
 abbrev one : Text
 one = codes "acme/one"
@@ -75,9 +80,8 @@ abbrev events : List Event
 events = CommandEvent (Start one) (Ok (Number 1)) ∷ CommandEvent (Close one 1 abc None unread_bytes) (Ok (Number 3)) ∷ []
 
 known_sound : Sound known
-unfolding IsStrictlySortedBy
 known_sound = Sound-run new_store known events (omega arith, (omega arith, tt)) (opened, opens, (known, stores, refl))
-    (Sound-opening tenants 64 rules (omega arith) (omega arith) ((refl, tt), (tt, tt)) (omega arith) (omega arith, (omega arith, tt)) (usual_supported, (usual_supported, tt)) (omega arith) (omega arith))
+    (Sound-opening tenants 64 rules (omega arith) (omega arith) (two_names_apart first_tenant second_tenant refl) (omega arith) (omega arith, (omega arith, tt)) (usual_supported, (usual_supported, tt)) (omega arith) (omega arith))
 
 none_yet : AreRead empty empty
 none_yet d = subst (λ o. AreReadBlobs o o) (sym (get-empty text_cmp d)) tt

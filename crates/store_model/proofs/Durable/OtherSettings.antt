@@ -1,11 +1,11 @@
 -- A store that restarts with other settings is sound if its durable state fits them.
 use Rattle.std.proofs.Common.{◌≡◌, ℕ, ◌<◌, ◌≤◌, ◌^◌, List, map, Some, refl, sym, ap, ◌∙◌, subst, arith}
-use Rattle.std.specs.Prelude.{IsSome}
+use Rattle.std.specs.Prelude.{IsSome, cond, count_by, sum_by}
 use Rattle.std.specs.List.{AllByRecursion}
-use Rattle.std.specs.List.Sorted.{IsStrictlySortedBy}
 use Rattle.std.specs.FinMap.{empty, get}
 use Rattle.spec_lib.specs.Sets as set
-use Rattle.spec_lib.specs.Texts.{text_cmp}
+use Rattle.spec_lib.specs.Texts.{Text, same_text, text_cmp}
+use Rattle.spec_lib.proofs.Rows.{sum_by-map}
 use Rattle.store_model.specs.Catalog.{Catalog, Session, SessionNumber, Tenant, charged_length, ContentRules}
 use Rattle.store_model.specs.Durable.{Agrees, DurableState, TakenSessions}
 use Rattle.store_model.specs.Invariant.{AreWellFormedNumbers, AreWellFormedRepositories, AreWithinLimits, Sound, WellFormed, WellFormedSession}
@@ -18,6 +18,12 @@ use Rattle.blob_digest.specs.Tenants.{AreSupported, greatest_limits}
 -- ---- tenants with the same names
 
 module _ (ts us : List Tenant) (names : map (λ t. t.name) ts ≡ map (λ t. t.name) us) where
+  -- how many tenants have a name is how many names are this one
+  same_count : (name : Text) → count_by (λ t. same_text t.name name) ts ≡ count_by (λ t. same_text t.name name) us
+  same_count name =
+      let named : Text → ℕ = λ n. cond (same_text n name) 1 0 in
+      sym (sum_by-map named (λ (t : Tenant). t.name) ts) ∙ ap (sum_by named) names ∙ sum_by-map named (λ (t : Tenant). t.name) us
+
   repositories : (present : set.Set text_cmp) → AreWellFormedRepositories us present → AreWellFormedRepositories ts present
   repositories present all = record {
     owned = λ r there. subst (λ o. IsSome o) (sym (same_tenant ts us names r)) (all.owned r there);
@@ -35,7 +41,7 @@ module _ (ts us : List Tenant) (names : map (λ t. t.name) ts ≡ map (λ t. t.n
   limits : (longest longer : ℕ) → longer ≤ 2 ^ 40 → AllByRecursion (λ t. t.quota ≤ 2 ^ 50) ts → AllByRecursion (λ t. AreSupported t.limits) ts → AreWithinLimits us longest → AreWithinLimits ts longer
   limits longest longer small quotas supported all = record {
     tenants = subst (λ n. (0 < n) × (n ≤ 4096)) (sym (same_length ts us names)) all.tenants;
-    names_rise = subst (λ ns. IsStrictlySortedBy text_cmp ns) (sym names) all.names_rise;
+    names_apart = λ name. subst (λ n. n ≤ 1) (sym (same_count name)) (all.names_apart name);
     max_blob = small;
     quotas = quotas;
     limits = supported;

@@ -152,7 +152,7 @@ module _ (taken : TakenSessions) (D : DurableState) (C : Catalog) (a : Agrees ta
         sessions = session;
         repositories = lawful.repositories;
         numbering = lawful.numbering;
-        limits = record { tenants = lawful.limits.tenants; names_rise = lawful.limits.names_rise; max_blob = few_bytes; quotas = lawful.limits.quotas; limits = lawful.limits.limits };
+        limits = record { tenants = lawful.limits.tenants; names_apart = lawful.limits.names_apart; max_blob = few_bytes; quotas = lawful.limits.quotas; limits = lawful.limits.limits };
         few_sessions = λ t. let less = open_less taken D C a t in let few = lawful.few_sessions t in omega arith;
         few_manifests = lawful.few_manifests;
       }

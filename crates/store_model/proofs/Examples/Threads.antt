@@ -3,7 +3,6 @@
 use Rattle.std.proofs.Common.{◌≡◌, ℕ, false, List, [], ◌∷◌, Some, None, Ok, Err, refl, ap, ◌∙◌, arith, inl}
 use Rattle.std.specs.Prelude.{codes}
 use Rattle.std.specs.FinMap.{empty, insert, remove, get-empty, get-insert, get-remove, entries-insert}
-use Rattle.std.specs.List.Sorted.{IsStrictlySortedBy}
 use Rattle.std.specs.Cmp.Lexicographic.{nat_list_cmp_total}
 use Rattle.blob_digest.specs.declared.refusal.Refusal.TheVariants.{Busy, Quota}
 use Rattle.blob_digest.proofs.KeyOrders.{number_cmp_total, exact_number}
@@ -17,15 +16,21 @@ use Rattle.store_model.specs.HistoryIsolation.{Perform, Return, Take, IsIsolated
 use Rattle.store_model.specs.Invariant.{Sound}
 use Rattle.store_model.specs.Runs.{Abandon, Append, CommandEvent, Event, IsRun, Number as Numbered, Start}
 use Rattle.store_model.specs.WholeCommands.{AreWholeCommands, CheckedOutSessions, CheckedOut}
-use Rattle.store_model.proofs.Commands.Opening.{Sound-opening}
+use Rattle.store_model.proofs.Commands.Opening.{Sound-opening, two_names_apart}
 use Rattle.store_model.proofs.Noninterference.Histories.{alone_in_histories}
 use Rattle.store_model.proofs.Noninterference.LocalRespect.{tenants_alike_themselves}
 use Rattle.store_model.proofs.WholeCommands.Histories.{histories_are_runs}
 use Rattle.blob_digest.specs.Tenants.{usual_limits}
 use Rattle.blob_digest.proofs.Tenants.{usual_supported}
 
+abbrev first_tenant : Tenant
+first_tenant = record { name = codes "acme"; quota = 3; share = 4294967295; limits = usual_limits }
+
+abbrev second_tenant : Tenant
+second_tenant = record { name = codes "other"; quota = 9; share = 4294967295; limits = usual_limits }
+
 abbrev tenants : List Tenant
-tenants = record { name = codes "acme"; quota = 3; share = 4294967295; limits = usual_limits } ∷ record { name = codes "other"; quota = 9; share = 4294967295; limits = usual_limits } ∷ []
+tenants = first_tenant ∷ second_tenant ∷ []
 
 abbrev one : Text
 one = codes "acme/one"
@@ -211,8 +216,7 @@ whole : AreWholeCommands empty calm_steps commands
 whole = (_, _, empty, (refl, refl), refl, (_, _, empty, (refl, refl), refl, (_, _, empty, (refl, refl), refl, ([], appends, other_lent, (refl, refl), refl, ([], appends, both_lent, (refl, refl), refl, are_back)))))
 
 sound : Sound book
-unfolding IsStrictlySortedBy
-sound = Sound-opening tenants 64 (in_memory 10) (omega arith) (omega arith) ((refl, tt), (tt, tt)) (omega arith) (omega arith, (omega arith, tt)) (usual_supported, (usual_supported, tt)) (omega arith) (omega arith)
+sound = Sound-opening tenants 64 (in_memory 10) (omega arith) (omega arith) (two_names_apart first_tenant second_tenant refl) (omega arith) (omega arith, (omega arith, tt)) (usual_supported, (usual_supported, tt)) (omega arith) (omega arith)
 
 is_run : IsRun book commands both_back
 is_run = histories_are_runs tenants 64 (in_memory 10) calm_steps (state both_back 5 6) commands sound (opened backs (state both_back 5 6) back) (tt, (tt, (tt, (tt, (tt, (tt, (tt, tt))))))) whole
