@@ -9,7 +9,7 @@ use Rattle.store_book.specs.BookState.{BookState}
 use Rattle.store_model.specs.Catalog.{Catalog, Tenant, opening, ContentRules, in_memory}
 use Rattle.store_model.specs.Invariant.{Sound}
 
--- the setting of a store, which no command changes: its tenants with their quotas in the order of their names, its slots, and its blob size limit
+-- the setting of a store, which no command changes: its tenants with their quotas in the order of their numbers, its slots, and its blob size limit
 pub record Setting : Type 0 where
   pub tenants : List Tenant
   pub slots : ℕ

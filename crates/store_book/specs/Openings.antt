@@ -1,15 +1,14 @@
 -- The book of a new store, and the errors of opening one.
-use Rattle.std.specs.Prelude.{◌≡◌, ◌<◌, ◌≤◌, ◌^◌, ℕ, None, List, map, replicate}
-use Rattle.std.specs.List.Sorted.{IsPermutation, IsStrictlySortedBy}
+use Rattle.std.specs.Prelude.{◌≡◌, ◌<◌, ◌≤◌, ◌^◌, ℕ, None, List, replicate}
+use Rattle.std.specs.List.Sorted.{IsPermutation}
 use Rattle.blob_digest.specs.Slots.{greatest_slots}
 use Rattle.blob_digest.specs.declared.refusal.Refusal.{Refusal}
 use Rattle.blob_digest.specs.declared.refusal.Refusal.TheVariants.{NameInvalid, LimitReached, Memory}
-pub use Rattle.link_table.specs.Tenancy.{HasNames, IsWithinLimits, max_quota, max_tenants, tenant_shown, tenants_shown}
+pub use Rattle.link_table.specs.Tenancy.{DoNamesRise, HasNames, IsWithinLimits, max_quota, max_tenants, tenant_shown, tenants_shown}
 use Rattle.slot_table.specs.declared.phase.Phase.TheVariants as phase
 use Rattle.store_book.specs.BookState.{BookState}
 use Rattle.store_book.specs.declared.config.Config.{Config}
 use Rattle.store_model.specs.Catalog.{Tenant, Catalog, opening, ContentRules}
-use Rattle.spec_lib.specs.Texts.{text_cmp}
 
 -- 1 to 2^24 slots, and blobs of at most 2^40 bytes
 pub record IsSized (slots max_blob : ℕ) : Type 0 where
@@ -20,7 +19,7 @@ pub record IsSized (slots max_blob : ℕ) : Type 0 where
 -- the catalog has the given tenants in the order of their names, and nothing else
 pub record OpensCatalog (given : List Tenant) (slots : ℕ) (contents : ContentRules) (C : Catalog) : Type 0 where
   pub same : IsPermutation given C.tenants
-  pub rising : IsStrictlySortedBy text_cmp (map (λ t. t.name) C.tenants)
+  pub rising : DoNamesRise C.tenants
   pub empty : C ≡ opening C.tenants slots contents
 
 -- the configuration is valid, the catalog is the opening one, and each slot is free in its first generation

@@ -462,8 +462,9 @@ impl Book {
 
     /// Writes the text of the book: `book`, the tenants with their repositories, and `end`.
     ///
-    /// Tenants and repositories are in the order of their names. A tenant's line has its use, its quota and its next
-    /// session number. A repository is followed by its blobs, its manifests and its sessions, each in their order.
+    /// Tenants are in the order of their numbers, and repositories in the order of their names. A tenant's line has its
+    /// use, its quota and its next session number. A repository is followed by its blobs, its manifests and its
+    /// sessions, each in their order.
     ///
     /// # Errors
     /// The errors of the writer.

@@ -11,7 +11,7 @@ pub struct Config {
     pub slots: u32,
     /// The largest size of a blob in bytes: at most 2^40.
     pub max_blob: u64,
-    /// The tenants: 1 to 256 in any order, no name twice, with quotas of at most 2^50 bytes and limits of at most
+    /// The tenants: 1 to 4,096 in any order, no name twice, with quotas of at most 2^50 bytes and limits of at most
     /// `GREATEST_LIMITS`.
     pub tenants: Vec<TenantSettings>,
     /// Whether contents may lie in files. If so, a content that is stored again is compared by its digest and its length

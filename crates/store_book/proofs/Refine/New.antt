@@ -105,7 +105,7 @@ module _ (tenants : List Tenant) (slots first : ℕ) (contents : ContentRules) w
 
   pub IsBook-opening : AreTenants tenants → IsSized slots contents.max_blob → IsBook L
   IsBook-opening are sized = record {
-    sound = subst (λ (D : Catalog). Sound D) (sym catalog-opening) (Sound-opening tenants slots contents are.limits.some are.limits.few are.rising sized.blobs (recursion_from_All _ tenants are.limits.quotas) (recursion_from_All _ tenants are.limits.limits) sized.some sized.few);
+    sound = subst (λ (D : Catalog). Sound D) (sym catalog-opening) (Sound-opening tenants slots contents are.limits.some are.limits.few are.apart sized.blobs (recursion_from_All _ tenants are.limits.quotas) (recursion_from_All _ tenants are.limits.limits) sized.some sized.few);
     tied = record {
       marks = length-marks (new_slots slots first);
       distinct = λ k m g h at_k at_m same. nothing (none_held slots first k) at_k;
@@ -151,7 +151,7 @@ module _ (given : List Tenant) (l' : Linked) (u' : Uploaded) (p : Pinned) (t : T
     sized = sized;
     catalog = record {
       same = opened.same;
-      rising = opened.tenants.rising;
+      rising = opened.rising;
       empty = ap book_catalog (sym layers_are) ∙ catalog-opening l'.tenants count first contents;
     };
     slots = ap slot_views_of made ∙ ap (with_looks (replicate count 0)) (slot_view-opening count first) ∙ slot_views_of-opening count _;

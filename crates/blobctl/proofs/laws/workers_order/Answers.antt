@@ -12,7 +12,7 @@ sound_opening : (first last : Catalog) → setting_of last ≡ setting_of first 
 sound_opening first last same sound =
     let limits : AreWithinLimits first.tenants first.contents.max_blob = subst (λ (s : Setting). AreWithinLimits s.tenants s.contents.max_blob) same sound.lawful.limits in
     let slots : FitSlots first.slots last.residents last.retired = subst (λ (s : Setting). FitSlots s.slots last.residents last.retired) same sound.slots in
-    Sound-opening first.tenants first.slots first.contents limits.tenants.0 limits.tenants.1 limits.names_rise limits.max_blob limits.quotas limits.limits slots.some slots.few
+    Sound-opening first.tenants first.slots first.contents limits.tenants.0 limits.tenants.1 limits.names_apart limits.max_blob limits.quotas limits.limits slots.some slots.few
 
 pub returns : goal.returns
 returns c = record {
