@@ -13,9 +13,9 @@ use Rattle.upload_table.specs.declared.sealing.Sealing.{Sealing}
 use Rattle.upload_table.specs.declared.sealing.Sealing.TheVariants.{ByHash, ByNote}
 use Rattle.blob_digest.specs.declared.refusal.Refusal.TheVariants.{DigestInvalid}
 use Rattle.spec_lib.proofs.Options.{some_same}
-use Rattle.store_model.specs.Sessions.{Chunks, CheckedIn, CheckedOutWith, Session, HandRecord, at_home, with_old_chunks, charged_length, chunks_in, chunks_of, after_cancel_in, hand_in, received_of, reserved_of, after_take_in, session_of_hand, hand_content, with_chunks}
+use Rattle.store_model.specs.Sessions.{Chunks, CheckedIn, CheckedOutWith, Session, HandRecord, at_home, with_old_chunks, charged_length, chunks_of, after_cancel_in, hand_in, received_of, reserved_of, after_take_in, session_of_hand, hand_content, with_chunks}
 use Rattle.upload_table.specs.Uploaded.{HandRemainder, Uploaded, BeginsWith, CanReopen, checked_in_with, cut_chunks, finish_upload, is_sealed, put_back_upload, reopened_table, with_sessions}
-use Rattle.upload_table.specs.Rows.{IsConsistentBuffer}
+use Rattle.upload_table.specs.Rows.{empty_hand, home_session, IsConsistentBuffer}
 use Rattle.upload_table.specs.declared.upload.ChunkBuffer.{ChunkBuffer}
 use Rattle.upload_table.proofs.Cuts.{sum_by-cut_chunks}
 
@@ -91,14 +91,12 @@ sealed_if_read ByNote digest content read = ap (λ b. if b then is_digest_of dig
 
 -- ---- checking a session out
 
-module _ (v : Uploaded) (key : SessionNumber) (n : ℕ) (x : Session) (found : get v.sessions key ≡ Some x) (p : ChunkBuffer) (whole : IsConsistentBuffer p) (home : Some x.chunks ≡ Some (CheckedIn (cut_chunks p.lens.items p.bytes))) where
-  pub hand_is : record { key = key; chunks = cut_chunks p.lens.items p.bytes; reserved = n; last = None } ≡ hand_in v.sessions key n
-  hand_is =
-      let chunks : chunks_in v.sessions key ≡ cut_chunks p.lens.items p.bytes = ap (λ o. option_map_or (λ (s : Session). at_home s.chunks) o []) found ∙ ap at_home (some_same home) in
-      λ j. record { key = key; chunks = sym chunks j; reserved = n; last = None }
+module _ (v : Uploaded) (key : SessionNumber) (n : ℕ) (x : Session) (found : get v.sessions key ≡ Some x) (repo : Text) (p : ChunkBuffer) (whole : IsConsistentBuffer p) (home : Some x ≡ Some (home_session repo p)) where
+  pub hand_is : empty_hand repo key n p ≡ hand_in v.sessions key n
+  hand_is = ap (λ (o : Option Session). record { repo = option_map_or (λ (s : Session). s.repo) o []; key = key; chunks = option_map_or (λ (s : Session). at_home s.chunks) o []; reserved = n; last = None }) (sym (found ∙ home))
 
   pub take_is : with_sessions v (with_chunks v.sessions key x (CheckedOutWith (length p.bytes) n)) ≡ with_sessions v (after_take_in v.sessions key n)
   take_is =
-      let received : received_of x.chunks ≡ length p.bytes = ap received_of (some_same home) ∙ whole_length p whole in
+      let received : received_of x.chunks ≡ length p.bytes = ap (λ (s : Session). received_of s.chunks) (some_same home) ∙ whole_length p whole in
       ap (λ k. with_sessions v (with_chunks v.sessions key x (CheckedOutWith k n))) (sym received)
       ∙ ap (with_sessions v) (sym (ap (λ o. option_map_or (λ (s : Session). with_chunks v.sessions key s (CheckedOutWith (received_of s.chunks) n)) o v.sessions) found))

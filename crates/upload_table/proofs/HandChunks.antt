@@ -7,6 +7,7 @@ use Rattle.std.proofs.lemmas.Bool.Decides.{nat_tests}
 use Rattle.std.proofs.lemmas.List.{length-take-le, take-append-drop, append-nil}
 use Rattle.std.proofs.lemmas.List.Sums.{sum_by-cons, sum_by_push}
 use Rattle.std.proofs.Math.Seq.{drop-append_seam}
+use Rattle.spec_lib.specs.Texts.{Text}
 use Rattle.store_model.specs.Sessions.{HandRecord, chunks_of, hand_content, with_chunk}
 use Rattle.upload_table.specs.Uploaded.{cut_chunks}
 use Rattle.upload_table.specs.Rows.{hand_shown, with_length, IsFilled, IsHand}
@@ -69,10 +70,10 @@ module _ (received reserved : ℕ) (p : ChunkBuffer) (room : ℕ) (whole : Optio
   hand_received = sym hand.lengths ∙ sym (sum_by-cut_chunks p.lens.items p.bytes chunks_within)
 
   -- the bytes of a hand that is not filled are those of its chunks
-  pub unfilled_long : (t n : ℕ) → (hand_shown t n received reserved p whole).last ≡ None → length p.bytes ≡ sum_by length (cut_chunks p.lens.items p.bytes)
-  unfilled_long t n empty = at whole empty hand.filled
+  pub unfilled_long : (repo : Text) (t n : ℕ) → (hand_shown repo t n received reserved p whole).last ≡ None → length p.bytes ≡ sum_by length (cut_chunks p.lens.items p.bytes)
+  unfilled_long repo t n empty = at whole empty hand.filled
     where
-      at : (v : Option ContentHash) → (hand_shown t n received reserved p v).last ≡ None → IsFilled received reserved p room v → length p.bytes ≡ sum_by length (cut_chunks p.lens.items p.bytes)
+      at : (v : Option ContentHash) → (hand_shown repo t n received reserved p v).last ≡ None → IsFilled received reserved p room v → length p.bytes ≡ sum_by length (cut_chunks p.lens.items p.bytes)
       at None none filled = filled ∙ hand_received
       at (Some v) none filled = absurd cc
 
@@ -80,8 +81,8 @@ module _ (received reserved : ℕ) (p : ChunkBuffer) (room : ℕ) (whole : Optio
   hand_nonempty = cut_chunks-nonempty p.lens.items p.bytes chunks_within hand.positive
 
   -- its bytes are those of all its chunks
-  pub hand_whole : (t n : ℕ) → hand_content (hand_shown t n received reserved p whole) ≡ p.bytes
-  hand_whole t n = at whole hand.filled
+  pub hand_whole : (repo : Text) (t n : ℕ) → hand_content (hand_shown repo t n received reserved p whole) ≡ p.bytes
+  hand_whole repo t n = at whole hand.filled
     where
       at : (w : Option ContentHash) → IsFilled received reserved p room w → concat (cut_chunks p.lens.items p.bytes) ++ option_map_or (λ b. b) (option_map (λ (r : ContentHash). drop received p.bytes) w) [] ≡ p.bytes
       at None filled = append-nil (concat (cut_chunks p.lens.items p.bytes)) ∙ concat-cut_chunks p.lens.items p.bytes (hand.lengths ∙ sym filled)
@@ -89,25 +90,25 @@ module _ (received reserved : ℕ) (p : ChunkBuffer) (room : ℕ) (whole : Optio
           ∙ ap (λ k. take k p.bytes ++ drop received p.bytes) hand.lengths ∙ take-append-drop received p.bytes
 
   -- with the length of the last chunk, if there is one, the bytes are cut into all chunks
-  pub hand_chunks : (t n : ℕ) → cut_chunks (if is_some whole then with_length p.lens.items reserved else p.lens.items) p.bytes ≡ chunks_of (hand_shown t n received reserved p whole)
-  hand_chunks t n = at whole hand.filled
+  pub hand_chunks : (repo : Text) (t n : ℕ) → cut_chunks (if is_some whole then with_length p.lens.items reserved else p.lens.items) p.bytes ≡ chunks_of (hand_shown repo t n received reserved p whole)
+  hand_chunks repo t n = at whole hand.filled
     where
-      at : (v : Option ContentHash) → IsFilled received reserved p room v → cut_chunks (if is_some v then with_length p.lens.items reserved else p.lens.items) p.bytes ≡ chunks_of (hand_shown t n received reserved p v)
+      at : (v : Option ContentHash) → IsFilled received reserved p room v → cut_chunks (if is_some v then with_length p.lens.items reserved else p.lens.items) p.bytes ≡ chunks_of (hand_shown repo t n received reserved p v)
       at None filled = refl
       at (Some v) filled =
           let len : length p.bytes ≡ sum p.lens.items + reserved = omega (arith, filled.0, hand.lengths) in
           cut_chunks-last p.lens.items p.bytes reserved len ∙ ap (λ k. with_chunk (cut_chunks p.lens.items p.bytes) (drop k p.bytes)) hand.lengths
 
   -- a chunk is filled in
-  pub hand_fill : (t n : ℕ) (new : ChunkBuffer) (w : ContentHash) (chunk : List ℕ) → (hand_shown t n received reserved p whole).last ≡ None → new.lens.items ≡ p.lens.items → new.bytes ≡ p.bytes ++ chunk →
-      hand_shown t n received reserved new (Some w) ≡ record (hand_shown t n received reserved p whole) { last = Some chunk }
-  hand_fill t n new w chunk empty lens bytes = at whole empty hand.filled
+  pub hand_fill : (repo : Text) (t n : ℕ) (new : ChunkBuffer) (w : ContentHash) (chunk : List ℕ) → (hand_shown repo t n received reserved p whole).last ≡ None → new.lens.items ≡ p.lens.items → new.bytes ≡ p.bytes ++ chunk →
+      hand_shown repo t n received reserved new (Some w) ≡ record (hand_shown repo t n received reserved p whole) { last = Some chunk }
+  hand_fill repo t n new w chunk empty lens bytes = at whole empty hand.filled
     where
-      at : (v : Option ContentHash) → (hand_shown t n received reserved p v).last ≡ None → IsFilled received reserved p room v → hand_shown t n received reserved new (Some w) ≡ record (hand_shown t n received reserved p v) { last = Some chunk }
+      at : (v : Option ContentHash) → (hand_shown repo t n received reserved p v).last ≡ None → IsFilled received reserved p room v → hand_shown repo t n received reserved new (Some w) ≡ record (hand_shown repo t n received reserved p v) { last = Some chunk }
       at None none filled =
           let chunks : cut_chunks new.lens.items new.bytes ≡ cut_chunks p.lens.items p.bytes = rw (lens, bytes) (cut_chunks-more p.lens.items p.bytes chunk chunks_within) in
           let last : drop received new.bytes ≡ chunk = rw bytes (ap (λ k. drop k (p.bytes ++ chunk)) (sym filled) ∙ drop-append_seam p.bytes chunk) in
-          λ i. record { key = (t, n); chunks = chunks i; reserved = reserved; last = Some (last i) }
+          λ i. record { repo = repo; key = (t, n); chunks = chunks i; reserved = reserved; last = Some (last i) }
       at (Some v) none filled = absurd cc
 
 -- all chunks of a hand together are no longer than the received and reserved bytes
@@ -120,10 +121,10 @@ chunks_of-length h = at h.last
     at (Some (b ∷ bs)) fits = omega (arith, sum_by_push (λ (c : List ℕ). length c) h.chunks (b ∷ bs), fits)
 
 -- with the filled chunk, the chunks fit into the received and reserved bytes
-pub hand_fits : (t n received reserved : ℕ) (p : ChunkBuffer) (room : ℕ) (whole : Option ContentHash) → IsHand received reserved p room whole →
-    sum_by length (chunks_of (hand_shown t n received reserved p whole)) ≤ sum_by length (hand_shown t n received reserved p whole).chunks + reserved
-hand_fits t n received reserved p room whole hand = chunks_of-length (hand_shown t n received reserved p whole) (last whole hand.filled)
+pub hand_fits : (repo : Text) (t n received reserved : ℕ) (p : ChunkBuffer) (room : ℕ) (whole : Option ContentHash) → IsHand received reserved p room whole →
+    sum_by length (chunks_of (hand_shown repo t n received reserved p whole)) ≤ sum_by length (hand_shown repo t n received reserved p whole).chunks + reserved
+hand_fits repo t n received reserved p room whole hand = chunks_of-length (hand_shown repo t n received reserved p whole) (last whole hand.filled)
   where
-    last : (w : Option ContentHash) → IsFilled received reserved p room w → IfSome (hand_shown t n received reserved p w).last (λ b. length b ≡ reserved)
+    last : (w : Option ContentHash) → IsFilled received reserved p room w → IfSome (hand_shown repo t n received reserved p w).last (λ b. length b ≡ reserved)
     last None filled = tt
     last (Some w) filled = omega (arith, filled.0, length-drop received p.bytes)

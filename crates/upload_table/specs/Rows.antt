@@ -35,6 +35,10 @@ cut_buffer p = cut_chunks p.lens.items p.bytes
 abbrev pub home_chunks : ChunkBuffer → Chunks
 home_chunks p = shown.CheckedIn (cut_buffer p)
 
+-- the session of a repository, checked in with this buffer
+abbrev pub home_session : Text → ChunkBuffer → Session
+home_session repo p = record { repo = repo; chunks = home_chunks p }
+
 -- the chunks of a session that is checked out with this buffer, with n bytes reserved
 abbrev pub out_chunks : ChunkBuffer → ℕ → Chunks
 out_chunks p n = shown.CheckedOutWith (length p.bytes) n
@@ -121,13 +125,13 @@ rows_listed repo rows = map row_listed (filter (λ u. same_text u.repo repo) row
 
 -- ---- hands
 
--- a hand of these chunks with n bytes reserved, not filled
-abbrev pub empty_hand : SessionNumber → ℕ → ChunkBuffer → HandRecord
-empty_hand key n p = record { key = key; chunks = cut_buffer p; reserved = n; last = None }
+-- a hand of a repository's session with these chunks and n bytes reserved, not filled
+abbrev pub empty_hand : Text → SessionNumber → ℕ → ChunkBuffer → HandRecord
+empty_hand repo key n p = record { repo = repo; key = key; chunks = cut_buffer p; reserved = n; last = None }
 
 -- the checked-out session that a hand shows
-abbrev pub hand_shown : ℕ → ℕ → ℕ → ℕ → ChunkBuffer → Option ContentHash → HandRecord
-hand_shown tenant number received reserved p whole = record { key = (tenant, number); chunks = cut_chunks p.lens.items p.bytes; reserved = reserved; last = option_map (λ _. drop received p.bytes) whole }
+abbrev pub hand_shown : Text → ℕ → ℕ → ℕ → ℕ → ChunkBuffer → Option ContentHash → HandRecord
+hand_shown repo tenant number received reserved p whole = record { repo = repo; key = (tenant, number); chunks = cut_chunks p.lens.items p.bytes; reserved = reserved; last = option_map (λ _. drop received p.bytes) whole }
 
 -- a hand is not sealed because of another digest only if its bytes were read and lack the digest
 abbrev pub IsUnsealedFor : Unsealed → HandRecord → Text → Type 0

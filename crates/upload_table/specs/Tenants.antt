@@ -1,7 +1,7 @@
 -- The sessions of one tenant by number, and those of all tenants together, which contracts see of `Uploads`.
-use Rattle.std.specs.Prelude.{ℕ, ◌+◌, ◌^◌, ◌||◌, nat_le, Bool, Option, List, [], ◌∷◌, ◌++◌, length, map, sum_by, Ok, Err, if◌then◌else◌}
+use Rattle.std.specs.Prelude.{ℕ, ◌+◌, ◌^◌, ◌||◌, nat_le, Bool, List, [], ◌∷◌, ◌++◌, length, map, sum_by, Ok, Err, if◌then◌else◌}
 use Rattle.std.proofs.Common.{refl}
-use Rattle.std.specs.Option.{option_map, option_map_or}
+use Rattle.std.specs.Option.{option_map_or}
 use Rattle.std.specs.Ordering.{nat_cmp}
 use Rattle.std.specs.FinMap as fmap
 use Rattle.std.specs.Coded.{Coded, code_by, coded×, coded_ℕ}
@@ -36,10 +36,6 @@ is_exhausted n s = nat_le n (length (fmap.entries s.sessions)) || nat_le (2 ^ 32
 -- the tenant, whose limit is n, with one more session, under the next number, or `LimitReached`
 abbrev pub start_here : ℕ → SessionsByNumber → Text → OutcomeIn SessionsByNumber ℕ
 start_here n s repo = if is_exhausted n s then Err LimitReached else Ok (s.next, record { next = s.next + 1; sessions = fmap.insert s.sessions s.next (record { repo = repo; chunks = CheckedIn [] }) })
-
--- the chunks of the session of a number, if there is one
-abbrev pub chunks_here : SessionsByNumber → ℕ → Option Chunks
-chunks_here s n = option_map (λ x. x.chunks) (fmap.get s.sessions n)
 
 -- the tenant with these chunks in the session of a number
 abbrev pub with_chunks_here : SessionsByNumber → ℕ → Chunks → SessionsByNumber

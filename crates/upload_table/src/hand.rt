@@ -15,10 +15,11 @@ use crate::hashing::Hashing;
 use crate::last_chunk::{add_last, whole_digest};
 use crate::sealing::Sealing;
 use crate::upload::{ChunkBuffer, extend, extend_noted, sum_of};
-use blob_digest::{Algorithm, Blob, Digest};
+use blob_digest::{Algorithm, Blob, Digest, RepoName};
 use content_files::{Content, ContentError, ContentName, ContentStore, Home};
 use std::marker::Model;
 use std::mem;
+use std::snapshot::Snapshot;
 
 /// The chunks of a checked-out session, with room reserved for one more.
 ///
@@ -26,6 +27,8 @@ use std::mem;
 ///
 /// A hand can be neither copied nor dropped: `Uploads::put_back` or `Uploads::finish` consumes it.
 pub struct Hand {
+    /// The repository of the session, which only clauses read.
+    repo: Snapshot<RepoName>,
     tenant: u16,
     number: u32,
     /// The session's index among its tenant's sessions at the time of the check-out.
@@ -45,8 +48,8 @@ impl Model for Hand {
 
     ghost use Rattle.upload_table.specs.Rows.{hand_shown, IsHand};
 
-    ghost view = { λ h. hand_shown h.tenant h.number h.received h.reserved h.pieces.value
-        h.pieces.value.whole };
+    ghost view = { λ h. hand_shown h.repo.value h.tenant h.number h.received h.reserved
+        h.pieces.value h.pieces.value.whole };
 
     ghost invariant = { λ h. IsHand h.received h.reserved h.pieces.value
         (vec_capacity h.pieces.value.lens) h.pieces.value.whole };
@@ -94,6 +97,7 @@ pub(crate) enum Unsealed {
 impl Hand {
     /// Returns the unfilled hand of a session's chunks.
     pub(crate) fn new(
+        repo: Snapshot<RepoName>,
         tenant: u16,
         number: u32,
         place: usize,
@@ -102,10 +106,11 @@ impl Hand {
     ) -> Hand
         requires whole { IsConsistentBuffer pieces.value }
         requires fits { length pieces.value.bytes + reserved < 2 ^ 64 }
-        ensures { result ≡ empty_hand (tenant, number) reserved pieces.value }
+        ensures { result ≡ empty_hand repo.value (tenant, number) reserved pieces.value }
     {
         let received = pieces.bytes.len();
         Hand {
+            repo,
             tenant,
             number,
             place,
@@ -249,6 +254,7 @@ impl Hand {
         ensures err { IfErr result (λ e. e.1 ≡ self) }
     {
         let Hand {
+            repo,
             tenant,
             number,
             place,
@@ -258,6 +264,7 @@ impl Hand {
         } = self;
         let filled = extend(&mut pieces, files, home, bytes, hashing, notes);
         let hand = Hand {
+            repo,
             tenant,
             number,
             place,
@@ -287,6 +294,7 @@ impl Hand {
     {
         let name = self.content_name();
         let Hand {
+            repo,
             tenant,
             number,
             place,
@@ -296,6 +304,7 @@ impl Hand {
         } = self;
         let filled = extend_noted(&mut pieces, name, notes);
         let hand = Hand {
+            repo,
             tenant,
             number,
             place,
@@ -318,6 +327,7 @@ impl Hand {
         ensures { result ≡ record self { last = None } }
     {
         let Hand {
+            repo,
             tenant,
             number,
             place,
@@ -328,6 +338,7 @@ impl Hand {
         pieces.bytes.truncate(received as usize);
         pieces.whole = None;
         Hand {
+            repo,
             tenant,
             number,
             place,
@@ -352,6 +363,7 @@ impl Hand {
         ensures fits { total_length (chunks_of self) ≤ total_length self.chunks + self.reserved }
     {
         let Hand {
+            repo: _,
             tenant: _,
             number: _,
             place: _,
@@ -385,6 +397,7 @@ impl Hand {
         ensures chunks { IfErr result (λ e. cut_buffer e.1.value ≡ self.chunks) }
     {
         let Hand {
+            repo: _,
             tenant,
             number,
             place: _,
@@ -430,6 +443,7 @@ impl Hand {
         ensures err { IfErr result (λ h. h ≡ self) }
     {
         let Hand {
+            repo,
             tenant,
             number,
             place: before,
@@ -454,6 +468,7 @@ impl Hand {
                 pieces.bytes = bytes;
                 pieces.whole = whole;
                 Err(Hand {
+                    repo,
                     tenant,
                     number,
                     place: before,
@@ -501,6 +516,7 @@ impl Hand {
     /// Drops a hand that matches no session.
     pub(crate) fn discard(self) {
         let Hand {
+            repo: _,
             tenant: _,
             number: _,
             place: _,

@@ -8,13 +8,14 @@ ghost use Rattle.std.specs.Ordering.{nat_cmp};
 ghost use Rattle.std.specs.FinMap as fmap;
 ghost use Rattle.blob_digest.specs.Outcomes.{Does};
 ghost use Rattle.store_model.specs.Sessions.{is_checked_in};
-ghost use Rattle.upload_table.specs.Rows.{entry_of, found_session, home_chunks, out_chunks, HasConsistentBuffer, FitsCharge, HasNumber, IsConsistentBuffer};
-ghost use Rattle.upload_table.specs.Tenants.{charged_in, chunks_here, is_exhausted, no_sessions, start_here, with_chunks_here, without_number};
+ghost use Rattle.upload_table.specs.Rows.{entry_of, found_session, home_chunks, home_session, out_chunks, HasConsistentBuffer, FitsCharge, HasNumber, IsConsistentBuffer};
+ghost use Rattle.upload_table.specs.Tenants.{charged_in, is_exhausted, no_sessions, start_here, with_chunks_here, without_number};
 
 use crate::upload::{ChunkBuffer, SessionContent, Upload, charge_of, take_chunks};
 use blob_digest::{Refusal, RepoName};
 use std::alloc::Global;
 use std::marker::Model;
+use std::snapshot::Snapshot;
 
 /// The exclusive upper bound of session numbers.
 const NUMBER_LIMIT: u64 = 1 << 32;
@@ -135,18 +136,28 @@ impl TenantSessions {
     }
 
     /// Moves the chunks out of a checked-in session, and reserves `len` bytes for one more. Allocates nothing.
-    pub(crate) fn take(&mut self, number: u32, place: usize, len: u64) -> Box<ChunkBuffer>
+    ///
+    /// Only clauses read the returned repository.
+    pub(crate) fn take(
+        &mut self,
+        number: u32,
+        place: usize,
+        len: u64,
+    ) -> (Snapshot<RepoName>, Box<ChunkBuffer>)
         requires home { is_checked_in (fmap.get self.old.sessions number) ≡ true }
         requires room { charged_in self.old + len < 2 ^ 64 }
-        ensures whole { IsConsistentBuffer result.value }
-        ensures fits { length result.value.bytes + len < 2 ^ 64 }
-        ensures chunks { chunks_here self.old number ≡ Some (home_chunks result.value) }
-        ensures taken { self.new ≡ with_chunks_here self.old number (out_chunks result.value len) }
+        ensures whole { IsConsistentBuffer result.1.value }
+        ensures fits { length result.1.value.bytes + len < 2 ^ 64 }
+        ensures session { fmap.get self.old.sessions number
+            ≡ Some (home_session result.0.value result.1.value) }
+        ensures taken { self.new ≡ with_chunks_here self.old number (out_chunks result.1.value len) }
     {
         match place_of(self.rows.as_slice(), number, Some(place)) {
             Ok(i) => {
                 self.charged += len;
-                take_chunks(&mut self.rows[i], len)
+                let row = &mut self.rows[i];
+                let repo = Snapshot::of(&row.repo);
+                (repo, take_chunks(row, len))
             }
             Err(_) => unreachable!(),
         }

@@ -234,8 +234,8 @@ impl Uploads {
         ensures hand { result ≡ hand_in self.old.sessions (tenant, number) len }
         ensures taken { self.new ≡ take_upload self.old (tenant, number) len }
     {
-        let pieces = self.tenants[tenant as usize].take(number, place, len);
-        Hand::new(tenant, number, place, len, pieces)
+        let (repo, pieces) = self.tenants[tenant as usize].take(number, place, len);
+        Hand::new(repo, tenant, number, place, len, pieces)
     }
 
     /// Checks a session in with the hand's chunks, and returns the number of bytes received.

@@ -14,10 +14,10 @@ returns-clause-chunks c =
     (λ i. cut_chunks (c.add_last.ensures.lens i) (c.add_last.ensures.bytes i))
     ∙ ap (λ (p : ChunkBuffer). cut_chunks (if is_some p.whole then with_length p.lens.items c.self.inside.reserved else p.lens.items) p.bytes) c.deref_mut.ensures.value
     ∙ hand_chunks c.self.inside.received c.self.inside.reserved c.self.inside.pieces.value (vec_capacity c.self.inside.pieces.value.lens) c.self.inside.pieces.value.whole c.self.invariant
-    c.self.inside.tenant c.self.inside.number
+    c.self.inside.repo.value c.self.inside.tenant c.self.inside.number
     ∙ ap (λ (h : HandRecord). chunks_of h) c.self.view_is
 
 pub returns-clause-fits : goal.returns-clause-fits
 returns-clause-fits c =
     subst (λ (h : HandRecord). sum_by length (chunks_of h) ≤ sum_by length h.chunks + h.reserved) c.self.view_is
-    (hand_fits c.self.inside.tenant c.self.inside.number c.self.inside.received c.self.inside.reserved c.self.inside.pieces.value (vec_capacity c.self.inside.pieces.value.lens) c.self.inside.pieces.value.whole c.self.invariant)
+    (hand_fits c.self.inside.repo.value c.self.inside.tenant c.self.inside.number c.self.inside.received c.self.inside.reserved c.self.inside.pieces.value (vec_capacity c.self.inside.pieces.value.lens) c.self.inside.pieces.value.whole c.self.invariant)

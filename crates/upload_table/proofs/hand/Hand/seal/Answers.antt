@@ -15,7 +15,7 @@ returns-in-Ok-clause-blob c =
     let bytes : c.replace-bytes.result ≡ c.self.inside.pieces.value.bytes =
     c.replace-bytes.ensures.value ∙ ap (λ (p : ChunkBuffer). p.bytes) c.deref_mut-2.ensures.value ∙ c.whole_digest.ensures.kept.0 ∙ ap (λ (p : ChunkBuffer). p.bytes) c.deref_mut.ensures.value in
     let whole : c.replace-bytes.result ≡ hand_content c.args.self =
-    bytes ∙ sym (hand_whole c.self.inside.received c.self.inside.reserved c.self.inside.pieces.value (vec_capacity c.self.inside.pieces.value.lens) c.self.inside.pieces.value.whole c.self.invariant c.self.inside.tenant c.self.inside.number)
+    bytes ∙ sym (hand_whole c.self.inside.received c.self.inside.reserved c.self.inside.pieces.value (vec_capacity c.self.inside.pieces.value.lens) c.self.inside.pieces.value.whole c.self.invariant c.self.inside.repo.value c.self.inside.tenant c.self.inside.number)
     ∙ ap (λ (h : HandRecord). hand_content h) c.self.view_is in
     c.in-Ok.ensures.blob ∙ ap (λ w. (c.args.digest.now, w)) whole
 
@@ -24,7 +24,7 @@ returns-in-Ok-clause-agrees c =
     let bytes : c.replace-bytes.result ≡ c.self.inside.pieces.value.bytes =
     c.replace-bytes.ensures.value ∙ ap (λ (p : ChunkBuffer). p.bytes) c.deref_mut-2.ensures.value ∙ c.whole_digest.ensures.kept.0 ∙ ap (λ (p : ChunkBuffer). p.bytes) c.deref_mut.ensures.value in
     let whole : c.replace-bytes.result ≡ hand_content c.args.self =
-    bytes ∙ sym (hand_whole c.self.inside.received c.self.inside.reserved c.self.inside.pieces.value (vec_capacity c.self.inside.pieces.value.lens) c.self.inside.pieces.value.whole c.self.invariant c.self.inside.tenant c.self.inside.number)
+    bytes ∙ sym (hand_whole c.self.inside.received c.self.inside.reserved c.self.inside.pieces.value (vec_capacity c.self.inside.pieces.value.lens) c.self.inside.pieces.value.whole c.self.invariant c.self.inside.repo.value c.self.inside.tenant c.self.inside.number)
     ∙ ap (λ (h : HandRecord). hand_content h) c.self.view_is in
     rw (← whole) (c.in-Ok.ensures.agrees.0 refl)
 
@@ -33,7 +33,7 @@ returns-in-Ok-clause-read c =
     let bytes : c.replace-bytes.result ≡ c.self.inside.pieces.value.bytes =
     c.replace-bytes.ensures.value ∙ ap (λ (p : ChunkBuffer). p.bytes) c.deref_mut-2.ensures.value ∙ c.whole_digest.ensures.kept.0 ∙ ap (λ (p : ChunkBuffer). p.bytes) c.deref_mut.ensures.value in
     let whole : c.replace-bytes.result ≡ hand_content c.args.self =
-    bytes ∙ sym (hand_whole c.self.inside.received c.self.inside.reserved c.self.inside.pieces.value (vec_capacity c.self.inside.pieces.value.lens) c.self.inside.pieces.value.whole c.self.invariant c.self.inside.tenant c.self.inside.number)
+    bytes ∙ sym (hand_whole c.self.inside.received c.self.inside.reserved c.self.inside.pieces.value (vec_capacity c.self.inside.pieces.value.lens) c.self.inside.pieces.value.whole c.self.invariant c.self.inside.repo.value c.self.inside.tenant c.self.inside.number)
     ∙ ap (λ (h : HandRecord). hand_content h) c.self.view_is in
     let read : is_read c.replace-bytes.result ≡ true =
     ap is_read (c.replace-bytes.ensures.value ∙ ap (λ (p : ChunkBuffer). p.bytes) c.deref_mut-2.ensures.value ∙ c.whole_digest.ensures.kept.0) ∙ c.in-Some.ensures.read in
@@ -44,7 +44,7 @@ returns-in-Err-clause-other c =
     let bytes : c.replace-bytes.result ≡ c.self.inside.pieces.value.bytes =
     c.replace-bytes.ensures.value ∙ ap (λ (p : ChunkBuffer). p.bytes) c.deref_mut-2.ensures.value ∙ c.whole_digest.ensures.kept.0 ∙ ap (λ (p : ChunkBuffer). p.bytes) c.deref_mut.ensures.value in
     let whole : c.replace-bytes.result ≡ hand_content c.args.self =
-    bytes ∙ sym (hand_whole c.self.inside.received c.self.inside.reserved c.self.inside.pieces.value (vec_capacity c.self.inside.pieces.value.lens) c.self.inside.pieces.value.whole c.self.invariant c.self.inside.tenant c.self.inside.number)
+    bytes ∙ sym (hand_whole c.self.inside.received c.self.inside.reserved c.self.inside.pieces.value (vec_capacity c.self.inside.pieces.value.lens) c.self.inside.pieces.value.whole c.self.invariant c.self.inside.repo.value c.self.inside.tenant c.self.inside.number)
     ∙ ap (λ (h : HandRecord). hand_content h) c.self.view_is in
     let read : is_read c.replace-bytes.result ≡ true =
     ap is_read (c.replace-bytes.ensures.value ∙ ap (λ (p : ChunkBuffer). p.bytes) c.deref_mut-2.ensures.value ∙ c.whole_digest.ensures.kept.0) ∙ c.in-Some.ensures.read in

@@ -17,5 +17,5 @@ returns c =
     let within = chunks_within c.self.inside.received c.self.inside.reserved p (vec_capacity p.lens) p.whole c.self.invariant in
     let chunks : cut_chunks q.lens.items q.bytes ≡ cut_chunks p.lens.items p.bytes =
     (λ i. cut_chunks (lens i) (bytes i)) ∙ ap (λ n. cut_chunks p.lens.items (take n p.bytes)) (sym c.self.invariant.lengths) ∙ cut_chunks-take p.lens.items p.bytes within in
-    (λ i. record { key = (c.self.inside.tenant, c.self.inside.number); chunks = chunks i; reserved = c.self.inside.reserved; last = None })
+    (λ i. record { repo = c.self.inside.repo.value; key = (c.self.inside.tenant, c.self.inside.number); chunks = chunks i; reserved = c.self.inside.reserved; last = None })
     ∙ ap (λ (h : HandRecord). record h { last = None }) c.self.view_is

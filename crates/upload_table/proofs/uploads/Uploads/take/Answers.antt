@@ -1,7 +1,6 @@
 use Rattle.std.proofs.Common.{ap, sym, ◌∙◌, arith}
-use Rattle.std.specs.Option.{option_map}
 use Rattle.std.specs.FinMap.{get}
-use Rattle.store_model.specs.Sessions.{Session, is_checked_in}
+use Rattle.store_model.specs.Sessions.{is_checked_in}
 use Rattle.upload_table.proofs.HandCalls.{hand_is, take_is}
 use Rattle.upload_table.proofs.TableCalls.{after-chunks, charged_here, found_here, home_value, within}
 use Rattle.upload_table.proofs.uploads.Uploads.take.Goals as goal
@@ -13,15 +12,15 @@ index_mut-requires c =
     let x = home_value (get v.sessions (c.args.tenant, c.args.number)) c.requires.home in
     omega (arith, within tenants v c.self.view_is c.args.tenant c.args.number x.0 x.1, c.self.inside.tenants.ok.0)
 
-pub take-pieces-requires-clause-home : goal.take-pieces-requires-clause-home
-take-pieces-requires-clause-home c =
+pub take-repo-requires-clause-home : goal.take-repo-requires-clause-home
+take-repo-requires-clause-home c =
     let tenants = c.self.inside.tenants.items in
     let v = c.args.self.now in
     let x = home_value (get v.sessions (c.args.tenant, c.args.number)) c.requires.home in
     ap is_checked_in (found_here tenants v c.self.view_is c.args.tenant c.args.number x.0 x.1 c.index_mut.result.now c.index_mut.ensures.value ∙ sym x.1) ∙ c.requires.home
 
-pub take-pieces-requires-clause-room : goal.take-pieces-requires-clause-room
-take-pieces-requires-clause-room c =
+pub take-repo-requires-clause-room : goal.take-repo-requires-clause-room
+take-repo-requires-clause-room c =
     let tenants = c.self.inside.tenants.items in
     let v = c.args.self.now in
     let x = home_value (get v.sessions (c.args.tenant, c.args.number)) c.requires.home in
@@ -32,14 +31,14 @@ returns-clause-hand c =
     let tenants = c.self.inside.tenants.items in
     let v = c.args.self.now in
     let x = home_value (get v.sessions (c.args.tenant, c.args.number)) c.requires.home in
-    let home = ap (option_map (λ (s : Session). s.chunks)) (sym (found_here tenants v c.self.view_is c.args.tenant c.args.number x.0 x.1 c.index_mut.result.now c.index_mut.ensures.value)) ∙ c.take-pieces.ensures.chunks in
-    c.new.ensures ∙ hand_is v (c.args.tenant, c.args.number) c.args.len x.0 x.1 c.take-pieces.result.value c.take-pieces.ensures.whole home
+    let home = sym (found_here tenants v c.self.view_is c.args.tenant c.args.number x.0 x.1 c.index_mut.result.now c.index_mut.ensures.value) ∙ c.take-repo.ensures.session in
+    c.new.ensures ∙ hand_is v (c.args.tenant, c.args.number) c.args.len x.0 x.1 c.take-repo.result.0.value c.take-repo.result.1.value c.take-repo.ensures.whole home
 
 pub returns-clause-taken : goal.returns-clause-taken
 returns-clause-taken c =
     let tenants = c.self.inside.tenants.items in
     let v = c.args.self.now in
     let x = home_value (get v.sessions (c.args.tenant, c.args.number)) c.requires.home in
-    let home = ap (option_map (λ (s : Session). s.chunks)) (sym (found_here tenants v c.self.view_is c.args.tenant c.args.number x.0 x.1 c.index_mut.result.now c.index_mut.ensures.value)) ∙ c.take-pieces.ensures.chunks in
-    after-chunks tenants v c.self.view_is c.args.tenant c.args.number x.0 x.1 c.index_mut.result.now c.index_mut.ensures.value c.take-pieces.new.self _ c.take-pieces.ensures.taken
-    ∙ take_is v (c.args.tenant, c.args.number) c.args.len x.0 x.1 c.take-pieces.result.value c.take-pieces.ensures.whole home
+    let home = sym (found_here tenants v c.self.view_is c.args.tenant c.args.number x.0 x.1 c.index_mut.result.now c.index_mut.ensures.value) ∙ c.take-repo.ensures.session in
+    after-chunks tenants v c.self.view_is c.args.tenant c.args.number x.0 x.1 c.index_mut.result.now c.index_mut.ensures.value c.take-repo.new.self _ c.take-repo.ensures.taken
+    ∙ take_is v (c.args.tenant, c.args.number) c.args.len x.0 x.1 c.take-repo.result.0.value c.take-repo.result.1.value c.take-repo.ensures.whole home
