@@ -18,8 +18,8 @@ use Rattle.store_model.specs.Sessions.{Chunks, Session, HandRecord, charged_leng
 use Rattle.store_model.specs.Sessions as shown
 use Rattle.upload_table.specs.Tenants.{SessionsByNumber}
 use Rattle.upload_table.specs.Uploaded.{cut_chunks, HashesIfAny}
-use Rattle.upload_table.specs.declared.hand.Unsealed.{Unsealed}
-use Rattle.upload_table.specs.declared.hand.Unsealed.TheVariants.{Differs}
+use Rattle.upload_table.specs.declared.sealing.Unsealed.{Unsealed}
+use Rattle.upload_table.specs.declared.sealing.Unsealed.TheVariants.{Differs}
 use Rattle.upload_table.specs.declared.hashed.ContentHash.{ContentHash}
 use Rattle.upload_table.specs.declared.hashed.ContentHash.TheVariants.{All, One, Missing}
 use Rattle.upload_table.specs.declared.upload.SessionContent.{SessionContent}

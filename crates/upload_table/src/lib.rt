@@ -15,6 +15,7 @@
 //! put back. `Hand::fill_by` can leave the hash to a later call, or take it from a blob with the same bytes.
 #![tactic(auto)]
 
+mod filling;
 mod hand;
 mod hashed;
 mod hashing;
@@ -25,8 +26,8 @@ mod tenant_sessions;
 mod upload;
 mod uploads;
 
-pub use hand::{Hand, PendingClose};
+pub use hand::Hand;
 pub use hashing::Hashing;
 pub use repo_sessions::RepoSessions;
-pub use sealing::Sealing;
+pub use sealing::{PendingClose, Sealing};
 pub use uploads::Uploads;

@@ -12,9 +12,9 @@ ghost use Rattle.store_model.specs.Sessions.{HasNoOpenReserve};
 ghost use Rattle.upload_table.specs.Rows.{cut_buffer, found_session, HasConsistentBuffer, FitsCharge, IsConsistentBuffer};
 ghost use Rattle.upload_table.specs.Tenants.{no_sessions};
 
-use crate::hand::{Hand, PendingClose, Unsealed};
+use crate::hand::Hand;
 use crate::repo_sessions::RepoSessions;
-use crate::sealing::Sealing;
+use crate::sealing::{PendingClose, Sealing, Unsealed};
 use crate::tenant_sessions::TenantSessions;
 use crate::upload::{ChunkBuffer, SessionContent, Upload, is_in_hand, length_after, received_of};
 use blob_digest::{Blob, ByteRange, Digest, Refusal, RepoName};

@@ -3,7 +3,7 @@ use Rattle.std.specs.Prelude.{sum}
 use Rattle.upload_table.specs.Uploaded.{HandRemainder, cut_chunks}
 use Rattle.upload_table.specs.declared.upload.ChunkBuffer.{ChunkBuffer}
 use Rattle.upload_table.proofs.Cuts.{cut_chunks-take}
-use Rattle.upload_table.proofs.hand.PendingClose.into_pieces.Goals as goal
+use Rattle.upload_table.proofs.sealing.PendingClose.into_pieces.Goals as goal
 
 pub returns-clause-chunks : goal.returns-clause-chunks
 returns-clause-chunks c =
