@@ -11,8 +11,10 @@ mod frames;
 mod header;
 mod loss;
 mod maker;
+mod repo_changes;
 mod repos;
 mod salvage;
+mod session_changes;
 mod sessions;
 
 pub use error::SalvageError;
