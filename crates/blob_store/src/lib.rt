@@ -11,6 +11,7 @@ mod commit;
 mod durable_state;
 pub mod laws;
 mod lease;
+mod manifests;
 mod parts;
 mod playing;
 mod queries;
@@ -18,6 +19,7 @@ mod replay;
 mod started;
 mod store;
 mod store_backend;
+mod sweeps;
 mod uploads;
 mod workers;
 

@@ -1,45 +1,31 @@
 //! The store that threads share.
 
-ghost use Rattle.std.specs.Prelude.{◌≡◌, ◌⊎◌, ◌+◌, ◌<◌, ◌^◌, Err, IfErr, IfOk, IsSome, OnOk, length, true, vec_len};
-ghost use Rattle.std.specs.Arc.{arc_value};
+ghost use Rattle.std.specs.Prelude.{◌≡◌, ◌⊎◌, IfErr, IfOk, OnOk, vec_len};
 ghost use Rattle.std.specs.Option.{option_map};
-ghost use Rattle.blob_digest.specs.Digests.{sha256_text};
-ghost use Rattle.blob_digest.specs.Vouched.{has_digest};
-ghost use Rattle.oci_manifest.specs.Manifests.{max_manifest, refs_of};
-ghost use Rattle.store_book.specs.SlotSteps.{HasPin};
-ghost use Rattle.store_model.specs.Histories.{SweepCall};
-ghost use Rattle.locked_book.specs.History.{AreFreshDesks, IsUnread, Makes, OneBegins};
-ghost use Rattle.locked_book.specs.Logging.{manifest_bytes};
-ghost use Rattle.locked_book.specs.Found.{AreTotalsOfSome, InSomeBook, IsSweepOfSome};
-ghost use Rattle.blob_store.specs.SweepParts.{MakesAllParts, with_part};
+ghost use Rattle.locked_book.specs.History.{AreFreshDesks, OneBegins};
+ghost use Rattle.locked_book.specs.Found.{AreTotalsOfSome};
 ghost use Rattle.blob_store.specs.Parts.{AreOfNewStore, names_of};
-ghost use Rattle.blob_store.specs.StoreCalls.{DeletesBlob, LeasesBlob, MountsBlob, RemovesRepo};
-ghost use Rattle.blob_store.specs.StoreCalls.{DeletesManifest, GetsManifest, PutsManifest};
+ghost use Rattle.blob_store.specs.StoreCalls.{DeletesBlob, MountsBlob, RemovesRepo};
 ghost use Rattle.blob_store.specs.StoreCalls.{AreBalancedTotals, AreSumsOfDesks};
 ghost use Rattle.blob_store.specs.StoreCalls.{KeepsAmounts, SeeOneHistory};
-ghost use Rattle.blob_store.specs.StoreCalls.{FailsWith, IsLengthRefusal, IsNoDeskCount, IsNoManifest};
-ghost use Rattle.blob_store.specs.StoreCalls.{IsFullLease, PrintsBook, RefusesNonManifest};
-ghost use Rattle.blob_digest.specs.declared.refusal.Refusal.TheVariants.{LimitReached, ManifestInvalid, Memory, SizeInvalid};
+ghost use Rattle.blob_store.specs.StoreCalls.{FailsWith, IsNoDeskCount, PrintsBook};
+ghost use Rattle.blob_digest.specs.declared.refusal.Refusal.TheVariants.{LimitReached, Memory};
 
-use crate::lease::Lease;
 use crate::parts::{NamedParts, Parts};
 use blob_digest::{Digest, Refusal, RepoName};
 use content_files::Home;
 use durable_log::IdleDevice;
-use locked_book::{
-    Desk, Kept, LogPolicy, Naming, Settled, Step, StoreLog, Totals, manifest_record,
-};
+use locked_book::{Desk, Kept, LogPolicy, Naming, Settled, Step, StoreLog, Totals};
 use log_disk::Disk;
-use oci_manifest::{Manifest, read};
 use pin_table::Pins;
 use std::alloc::Global;
 use std::hint::spin_loop;
 use std::io::{self, Write};
 use std::marker::Model;
 use std::sync::atomic::AtomicU64;
-use std::sync::{Arc, Mutex, MutexGuard, Wait};
+use std::sync::{Mutex, MutexGuard, Wait};
 use std::time::Duration;
-use store_book::{Freed, Mount, Swept};
+use store_book::{Freed, Mount};
 use upload_table::Hand;
 
 /// A store that threads share: the pins, and one lock around the book with the totals.
@@ -63,7 +49,7 @@ pub struct Store<S: Naming> {
     /// The length of the longest content whose bytes the log has, if longer ones lie in files.
     longest: Option<u64>,
     /// Stays 0: a thread that waits for the lock sleeps on it until its pause is over.
-    rest: AtomicU64,
+    pub(crate) rest: AtomicU64,
     pub(crate) alloc: Global,
 }
 
@@ -92,30 +78,13 @@ const SPINS_PER_ROUND: u32 = 30;
 /// Microseconds that a thread pauses at the end of a round. The pause is a system call of a few microseconds, so a
 /// waiting thread uses a few hundredths of a processor, and no thread has to wake it. The lock may be free for up to
 /// one pause before the thread sees it, and longer if the system wakes the thread late.
-const REST_MICROS: u64 = 100;
-
-/// The maximum number of blobs that a part of a sweep visits. That takes a few tenths of a millisecond.
-const PART_BLOBS: u32 = 256;
+pub(crate) const REST_MICROS: u64 = 100;
 
 /// Waits for a moment without giving up the processor.
 fn spin_wait() {
     for _ in 0..SPINS_PER_ROUND {
         spin_loop();
     }
-}
-
-/// Adds the counts of a part to those of the parts before it.
-fn add_part(swept: &mut Swept, part: &Swept)
-    requires condemned { swept.old.condemned + part.now.condemned < 2 ^ 32 }
-    requires freed { swept.old.freed + part.now.freed < 2 ^ 32 }
-    requires held { swept.old.held + part.now.held < 2 ^ 32 }
-    requires retired { swept.old.retired + part.now.retired < 2 ^ 32 }
-    ensures { swept.new ≡ with_part swept.old part.now }
-{
-    swept.condemned += part.condemned;
-    swept.freed += part.freed;
-    swept.held += part.held;
-    swept.retired += part.retired;
 }
 
 impl<S: Naming> Store<S> {
@@ -310,80 +279,6 @@ impl<S: Naming> Store<S> {
         self.locked(rt).delete(desk, repo, digest)
     }
 
-    /// Parses a manifest, and makes the record of its put.
-    fn read_manifest(&self, repo: &RepoName, bytes: &[u8]) -> Result<(Manifest, Vec<u8>), Refusal>
-        ensures value { IfOk result (λ r. r.0 ≡ bytes.now) }
-        ensures accepted { IfOk result (λ _. IsSome (refs_of bytes.now)) }
-        ensures made { IfOk result (λ r. (r.1).items
-            ≡ manifest_bytes S.names.policy repo.now bytes.now) }
-        ensures too_long { max_manifest < length bytes.now → result ≡ Err SizeInvalid }
-        ensures unread { IfErr result (IsUnread bytes.now) }
-    {
-        let manifest = read(self.alloc, bytes)?;
-        let record = manifest_record(self.alloc, self.policy, repo, bytes)?;
-        Ok((manifest, record))
-    }
-
-    /// Stores a manifest under the SHA-256 digest of its bytes, and returns that digest (OCI Distribution Specification
-    /// 1.1, "Pushing Manifests"). The repository appears with its first manifest.
-    ///
-    /// # Cost
-    ///
-    /// Parses, hashes and copies the bytes, without the lock. The lock is taken at most twice: to check the tenant, and
-    /// to add the manifest or the failed step.
-    pub fn put_manifest(
-        &self,
-        rt: &impl Wait,
-        desk: &mut Desk<S>,
-        repo: &RepoName,
-        bytes: &[u8],
-    ) -> Result<Digest, Refusal>
-        ensures makes { PutsManifest S.names repo.now bytes.now result desk.old desk.new }
-        ensures digest { IfOk result (λ d. d ≡ sha256_text bytes.now) }
-        ensures too_long { max_manifest < length bytes.now → FailsWith IsLengthRefusal result }
-        ensures size { IfErr result (λ e. e ≡ SizeInvalid → max_manifest < length bytes.now) }
-        ensures no_manifest { RefusesNonManifest bytes.now result }
-        ensures invalid { IfErr result (λ e. e ≡ ManifestInvalid → IsNoManifest bytes.now) }
-    {
-        self.locked(rt).check_tenant(desk, repo, bytes)?;
-        match self.read_manifest(repo, bytes) {
-            Ok((manifest, record)) => self.locked(rt).keep_manifest(desk, repo, manifest, record),
-            Err(unread) => Err(self.locked(rt).refuse_manifest(desk, repo, bytes, unread)),
-        }
-    }
-
-    /// Returns the manifest that a repository has under a digest (OCI Distribution Specification 1.1, "Pulling
-    /// manifests"). Its bytes are shared, not copied.
-    pub fn get_manifest(
-        &self,
-        rt: &impl Wait,
-        desk: &mut Desk<S>,
-        repo: &RepoName,
-        digest: &Digest,
-    ) -> Result<Arc<Manifest, Global>, Refusal>
-        ensures makes { GetsManifest S.names repo.now digest.now result desk.old desk.new }
-        ensures digest { IfOk result (λ m. sha256_text (arc_value m) ≡ digest.now) }
-    {
-        self.locked(rt).get_manifest(desk, repo, digest)
-    }
-
-    /// Removes a manifest from a repository (OCI Distribution Specification 1.1, "Deleting Manifests").
-    ///
-    /// # Memory
-    ///
-    /// Allocates nothing.
-    pub fn delete_manifest(
-        &self,
-        rt: &impl Wait,
-        desk: &mut Desk<S>,
-        repo: &RepoName,
-        digest: &Digest,
-    ) -> Result<(), Refusal>
-        ensures { DeletesManifest S.names repo.now digest.now result desk.old desk.new }
-    {
-        self.locked(rt).delete_manifest(desk, repo, digest)
-    }
-
     /// Removes a repository that has no link, no manifest and no session. Its name no longer counts for the limit of 1,024.
     ///
     /// # Memory
@@ -398,119 +293,6 @@ impl<S: Naming> Store<S> {
         ensures { RemovesRepo S.names repo.now result desk.old desk.new }
     {
         self.locked(rt).remove_repo(desk, repo)
-    }
-
-    /// Leases a blob that a repository has. No sweep frees the blob's slot before the lease is given back.
-    pub fn lease(
-        &self,
-        rt: &impl Wait,
-        desk: &mut Desk<S>,
-        repo: &RepoName,
-        digest: &Digest,
-    ) -> Result<Lease<'_, S>, Refusal>
-        ensures makes { LeasesBlob S.names repo.now digest.now result desk.old desk.new }
-        ensures leased { IfOk result (λ l. IsFullLease digest.now l) }
-    {
-        let (pin, blob) = self.locked(rt).lease(&self.pins, desk, repo, digest)?;
-        Ok(Lease::new(&self.pins, pin, blob))
-    }
-
-    /// Condemns each live blob that no repository links, and frees or retires the slot of each condemned blob without a
-    /// lease. Returns the counts. The sweep is the last step of a legal history, by a writer that makes no other step.
-    ///
-    /// # Cost
-    ///
-    /// That of `store_book::Book::sweep`, under the lock.
-    ///
-    /// # Memory
-    ///
-    /// Allocates nothing, except an entry for each freed blob that lies in a file.
-    pub fn sweep(&self, rt: &impl Wait) -> Swept
-        ensures { IsSweepOfSome S.names result }
-    {
-        self.locked(rt).sweep(&self.pins)
-    }
-
-    /// Sweeps as `sweep` does, as a step of the desk's.
-    ///
-    /// # Memory
-    ///
-    /// Allocates nothing, except an entry for each freed blob that lies in a file.
-    pub fn sweep_at(&self, rt: &impl Wait, desk: &mut Desk<S>) -> Swept
-        ensures { Makes S.names.opening (SweepCall result) desk.old desk.new }
-    {
-        self.locked(rt).sweep_at(&self.pins, desk)
-    }
-
-    /// Sweeps as `sweep_at` does, but gives the lock back after each `PART_BLOBS` blobs without links. Returns the sums of
-    /// the counts.
-    ///
-    /// The parts go over each slot once. Each part is a step of the desk's, and steps of others may come between two of
-    /// them. A blob that loses its last link meanwhile is left for the next sweep if its slot was passed.
-    ///
-    /// # Cost
-    ///
-    /// That of `sweep_at`. After each part but the last, the thread pauses for longer than another thread rests before
-    /// it tries the lock again.
-    ///
-    /// # Memory
-    ///
-    /// Allocates nothing, except an entry for each freed blob that lies in a file.
-    pub fn sweep_in_parts(&self, rt: &impl Wait, desk: &mut Desk<S>) -> Swept
-        ensures { MakesAllParts S.names result desk.old desk.new }
-    {
-        let mut swept = Swept {
-            condemned: 0,
-            freed: 0,
-            held: 0,
-            retired: 0,
-        };
-        let mut from = Some(0);
-        'parts: while let Some(slot) = from {
-            let part = self
-                .locked(rt)
-                .sweep_part(&self.pins, desk, slot, PART_BLOBS);
-            add_part(&mut swept, &part.swept);
-            from = part.next;
-            self.pause_before(rt, from);
-        }
-        swept
-    }
-
-    /// Pauses before the part of a sweep that starts at a slot, if there is one.
-    fn pause_before(&self, rt: &impl Wait, next: Option<u32>) {
-        if next.is_some() {
-            self.rest
-                .park_timeout(rt, 0, Duration::from_micros(2 * REST_MICROS));
-        }
-    }
-
-    /// Checks a lease against the book, and returns it unchanged. Under the lock, its slot is in use, in the lease's
-    /// generation and with its digest, which the lease's content has (`has_digest`).
-    ///
-    /// # Memory
-    ///
-    /// Allocates nothing.
-    pub fn verify<'s>(&'s self, rt: &impl Wait, lease: Lease<'s, S>) -> Lease<'s, S>
-        ensures same { result ≡ lease.entry }
-        ensures kept { InSomeBook S.names (HasPin lease.entry.hold) }
-        ensures content { has_digest lease.entry.hold.digest lease.entry.bytes ≡ true }
-    {
-        let _ = lease.digest();
-        let (pin, blob) = lease.into_parts();
-        let pin = self.locked(rt).verify(&self.pins, pin);
-        Lease::new(&self.pins, pin, blob)
-    }
-
-    /// Returns the word of a slot: its generation, its state, and the sum of the weights of its leases.
-    ///
-    /// # Memory
-    ///
-    /// Allocates nothing.
-    pub fn word(&self, rt: &impl Wait, slot: u32) -> u64
-        requires { slot < S.names.slots }
-    {
-        self.locked(rt).word(&self.pins, slot)
     }
 
     /// Writes the text of the book, as `store_book::Book::print` does, under the lock. It is the text of some book of
