@@ -1,7 +1,7 @@
 //! Which repositories link contents, by the log of a folder.
 
 use crate::error::FolderError;
-use crate::listing::Listing;
+use crate::listing::{Listing, list_error};
 use crate::progress::Work;
 use crate::segment::Segment;
 use blob_digest::Digest;
@@ -10,7 +10,6 @@ use log_rewriting::{Receiver, RewriteError, give_changes};
 use std::alloc::{AllocError, Global};
 use std::collections::{BTreeMap, BTreeSet};
 use std::io;
-use store_replay::FolderFile;
 
 /// The repositories of the open sessions of a tenant, by the sessions' numbers.
 type SessionRepos = BTreeMap<u64, Vec<u8>>;
@@ -127,11 +126,6 @@ impl Receiver for Holders {
         self.note(change)?;
         Ok(())
     }
-}
-
-/// Returns the error for names in the folder that cannot be read.
-fn list_error(error: io::Error) -> FolderError {
-    FolderError::of_file("read", FolderFile::Folder, error)
 }
 
 /// Returns the repositories that link contents of these digests, by the log of a folder.

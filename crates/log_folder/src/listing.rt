@@ -1,5 +1,6 @@
 //! The segments of a folder, by the names of its files.
 
+use crate::error::FolderError;
 use blob_digest::decimal;
 use std::alloc::Global;
 use std::{fs, io};
@@ -27,6 +28,11 @@ fn number_after(name: &str, prefix: &str) -> Option<u64> {
         return None;
     }
     decimal(digits.as_bytes())
+}
+
+/// Returns the error for names in the folder that cannot be read.
+pub(crate) fn list_error(error: io::Error) -> FolderError {
+    FolderError::of_file("read", FolderFile::Folder, error)
 }
 
 impl Listing {
