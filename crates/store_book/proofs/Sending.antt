@@ -46,7 +46,7 @@ settings_send : IsSend TenantSettings.the_row
 settings_send = search (sendable, crosses, maps) depth 60 fits 20000
 
 links_send : IsSend Links.the_row
-links_send = search (manifest_table_send, tenant_repos_send, holders_send, settings_send, sendable, crosses) depth 60 fits 20000
+links_send = search (manifest_table_send, tenant_repos_send, holders_send, settings_send, sendable, crosses, maps) depth 60 fits 20000
 
 uploads_send : IsSend Uploads.the_row
 uploads_send = search (content_send, sendable, crosses, maps, sets) depth 60 fits 20000
