@@ -1,12 +1,12 @@
 -- A part of a sweep that reaches every stored blob is a sweep.
-use Rattle.std.proofs.Common.{◌≡◌, ℕ, ◌+◌, Bool, true, false, cond, not, Option, Some, None, refl, sym, ap, ◌∙◌, subst, arith}
-use Rattle.std.specs.Prelude.{◌&&◌, is_none}
+use Rattle.std.proofs.Common.{◌≡◌, ℕ, Bool, true, cond, not, Option, Some, None, refl, sym, ap, ◌∙◌, subst}
+use Rattle.std.specs.Prelude.{◌&&◌}
 use Rattle.std.specs.List.{count_by}
 use Rattle.std.specs.Cmp.Lexicographic.{nat_list_cmp_total}
-use Rattle.std.specs.FinMap.{entries, get, same_map}
+use Rattle.std.specs.FinMap.{entries, get}
 use Rattle.std.proofs.lemmas.Map.Lookups.{exact_bytes}
 use Rattle.spec_lib.specs.Texts.{Text}
-use Rattle.spec_lib.proofs.Maps.{sum_alike, sum_zero, term}
+use Rattle.spec_lib.proofs.Maps.{sum_alike, term}
 use Rattle.store_model.specs.Catalog.{Resident, Catalog}
 use Rattle.store_model.specs.declared.swept.Swept.{Swept}
 use Rattle.store_model.specs.Sweep.{is_orphan, IsAfterSweep, IsSweep, IsSweepOf}

@@ -16,7 +16,7 @@ use Rattle.spec_lib.proofs.Lists.{list_any_count, sum_by-ones, witness}
 use Rattle.spec_lib.proofs.Maps.{get-remove_other, term}
 use Rattle.spec_lib.proofs.Options.{nothing, some_none, some_same}
 use Rattle.spec_lib.proofs.Outcomes.{bound_ok, not_refused, some_of_ok}
-use Rattle.store_model.specs.Catalog.{Catalog, CheckedIn, HandRecord, Resident, SessionNumber, Tenant, holds, link_count, opening, tenant_of, ContentRules}
+use Rattle.store_model.specs.Catalog.{Catalog, CheckedIn, HandRecord, Resident, SessionNumber, Tenant, holds, link_count, opening, tenant_of}
 use Rattle.store_model.specs.Commands.{check_share, check_quota, chunk_length_check, close, finish, fits_stored, has_slot, is_digest_accepted, is_full_for, mount, session_of_hand, start, tenant, is_named}
 use Rattle.store_model.specs.Durable.{Agrees, AreReturnedAsTaken, Change, DurableState, IsReturnedAsTaken, SessionSealed, TakenSessions, after_change, change_of, changes_of, chunk_change, command_change, filled_chunk, initial_durable, mount_change, session_key, taken_after_step}
 use Rattle.store_model.specs.Histories.{AreSteps, CommandCall, FinishCall, MayLeadTo, PutBackCall, State, Step, SweepCall, SweepPartCall, TakeCall, initial_state}

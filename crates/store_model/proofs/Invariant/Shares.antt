@@ -6,7 +6,7 @@ use Rattle.std.specs.Ordering.{eq_by_cmp}
 use Rattle.std.specs.Cmp.{IsTotalOrder}
 use Rattle.std.specs.Cmp.Lexicographic.{nat_list_cmp_total}
 use Rattle.std.specs.List.{filter, list_any}
-use Rattle.std.specs.FinMap.{FinMap, contains_key, entries, get, get-insert, insert, IsAntisymmetric, len, len-entries, len-insert, same_map}
+use Rattle.std.specs.FinMap.{FinMap, contains_key, entries, get, get-insert, IsAntisymmetric, len, len-entries, len-insert, same_map}
 use Rattle.std.proofs.lemmas.Bool.{lt-leb, or_right}
 use Rattle.std.proofs.lemmas.List.{length-map}
 use Rattle.std.proofs.lemmas.List.Sums.{count_by-le-length, length-filter}

@@ -9,7 +9,7 @@ use Rattle.std.specs.List.{sum_by, count_by, list_any}
 use Rattle.std.specs.FinMap.{FinMap, IsAntisymmetric, contains_key, contains_key-keys, empty, entries, get, get-empty, keys, remove}
 use Rattle.std.proofs.lemmas.Bool.{false_from_ne_true, ltb-false, or_parts, true≢false}
 use Rattle.std.proofs.lemmas.Map.Lookups.{exact_bytes}
-use Rattle.blob_digest.proofs.KeyOrders.{exact_link, exact_number, link_cmp_total, number_cmp_total}
+use Rattle.blob_digest.proofs.KeyOrders.{exact_link, exact_number, number_cmp_total}
 use Rattle.spec_lib.specs.Sets as set
 use Rattle.spec_lib.specs.Texts.{Text, same_text, text_cmp}
 use Rattle.spec_lib.proofs.Lists.{list_any_count, list_any_weaker}

@@ -10,7 +10,6 @@ use Rattle.blob_digest.specs.declared.refusal.Refusal.{Refusal}
 use Rattle.blob_digest.specs.declared.refusal.Refusal.TheVariants.{DigestInvalid, StoreFull}
 use Rattle.blob_digest.proofs.KeyOrders.{number_cmp_total, exact_number, link_cmp_total, exact_link}
 use Rattle.spec_lib.specs.Outcomes.{◌>>=◌, refuse}
-use Rattle.spec_lib.specs.Sets as kept_set
 use Rattle.spec_lib.specs.Texts.{Text}
 use Rattle.spec_lib.proofs.Agreement.{agree_insert, agree_remove, unseen_insert, unseen_remove}
 use Rattle.spec_lib.proofs.Maps.{got-insert, got-remove}

@@ -14,7 +14,7 @@ use Rattle.blob_digest.specs.declared.refusal.Refusal.{Refusal}
 use Rattle.blob_digest.specs.declared.refusal.Refusal.TheVariants.{NameUnknown, DigestInvalid, SizeInvalid, BlobUnknown, ManifestInvalid, ManifestUnknown, ManifestBlobUnknown, Quota, StoreFull, LimitReached, RepoInUse}
 use Rattle.blob_digest.specs.Digests.{sha256_text}
 use Rattle.oci_manifest.specs.Manifests.{refs_of}
-use Rattle.spec_lib.specs.Texts.{Text, same_text}
+use Rattle.spec_lib.specs.Texts.{Text}
 use Rattle.store_model.specs.Catalog.{SessionNumber, CheckedIn, Session, Resident, Catalog, session_number_cmp, tenant_of, is_repo_of, holds, next_number_of, received_length, ContentRules}
 use Rattle.store_model.specs.Commands
 use Rattle.spec_lib.specs.Outcomes.{◌>>=◌, refuse}
@@ -25,7 +25,6 @@ use Rattle.store_model.specs.Runs as runs
 use Rattle.store_model.specs.Runs.{Command, Answer, map_outcome, reading_outcome, outcome, repo_of}
 use Rattle.store_model.specs.Noninterference.{always_has_slot, isolated_outcome, close_content, uploaded_pair, uploads_of_command}
 use Rattle.blob_digest.proofs.KeyOrders.{number_cmp_total, exact_number, link_cmp_total, exact_link}
-use Rattle.spec_lib.proofs.Texts.{same_itself}
 use Rattle.spec_lib.proofs.Options.{option_eq_some}
 use Rattle.spec_lib.proofs.Outcomes.{bound_ok}
 use Rattle.spec_lib.proofs.Agreement.{AgreeOn, agree_insert, agree_remove}
