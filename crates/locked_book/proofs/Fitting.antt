@@ -58,8 +58,8 @@ use Rattle.store_model.proofs.Durable.Crashes.{step_sound}
 use Rattle.store_model.proofs.Durable.Histories.{after_record_tenants, step_agrees}
 use Rattle.store_model.proofs.Invariant.SessionTenants.{session_owner}
 use Rattle.locked_book.specs.CutLogs.{changes_in}
-use Rattle.locked_book.specs.Described.{described, place}
-use Rattle.locked_book.specs.Logging.{is_beyond, is_noted, length_after, logged_change, name_at}
+use Rattle.locked_book.specs.Described.{IsLogged, described, logged_change, name_at, place}
+use Rattle.locked_book.specs.Logging.{is_beyond, is_noted, length_after}
 use Rattle.locked_book.specs.History.{steps_of}
 use Rattle.locked_book.specs.Names.{StoreNames}
 use Rattle.locked_book.specs.Restoring.{IsRestorable, logged_changes, opening_state}
@@ -124,8 +124,6 @@ digest_short rules digest content = by rules.on_disk
     by true is = vouched_short digest content is
     by false is = hashed_short digest content is
 
--- ---- notes
-
 -- ---- descriptions
 
 -- the key is of the tenant of some repository
@@ -178,15 +176,17 @@ noted_in_files None n noted = absurd cc
 noted_in_files (Some l) n noted = refl
 
 -- the descriptions of steps describe their changes as they are kept
-pub all_described : (tenants : List Tenant) (longest : Option ℕ) (steps : List Step) → AllByRecursion (Describes tenants) (changes_of tenants steps) →
-    map (described tenants (is_some longest)) (logged_changes longest tenants steps) ≡ map (kept_change (is_some longest)) (changes_of tenants steps)
-all_described tenants longest [] all = refl
-all_described tenants longest (step ∷ steps) all = by (all_described tenants longest steps) (change_of tenants step) all
+pub all_described : (longest : Option ℕ) (tenants : List Tenant) (steps : List Step) → AllByRecursion (IsLogged longest tenants) steps → AllByRecursion (Describes tenants) (changes_of tenants steps) →
+    map (described tenants (is_some longest)) (logged_changes longest steps) ≡ map (kept_change (is_some longest)) (changes_of tenants steps)
+all_described longest tenants [] each all = refl
+all_described longest tenants (step ∷ steps) each all =
+    ap (λ l. map (described tenants (is_some longest)) (cons_option l (logged_changes longest steps))) each.0
+    ∙ by (all_described longest tenants steps each.1) (change_of tenants step) all
   where
     by : (AllByRecursion (Describes tenants) (changes_of tenants steps) →
-        map (described tenants (is_some longest)) (logged_changes longest tenants steps) ≡ map (kept_change (is_some longest)) (changes_of tenants steps)) →
+        map (described tenants (is_some longest)) (logged_changes longest steps) ≡ map (kept_change (is_some longest)) (changes_of tenants steps)) →
         (o : Option Change) → AllByRecursion (Describes tenants) (cons_option o (changes_of tenants steps)) →
-        map (described tenants (is_some longest)) (cons_option (option_map (logged_change tenants (is_noted longest step)) o) (logged_changes longest tenants steps)) ≡ map (kept_change (is_some longest)) (cons_option o (changes_of tenants steps))
+        map (described tenants (is_some longest)) (cons_option (option_map (logged_change tenants (is_noted longest step)) o) (logged_changes longest steps)) ≡ map (kept_change (is_some longest)) (cons_option o (changes_of tenants steps))
     by again None all = again all
     by again (Some c) all = λ i. described_is tenants (is_some longest) (is_noted longest step) c all.0.2 (noted_in_files longest (length_after step)) i ∷ again all.1 i
 
@@ -195,13 +195,15 @@ fits : (tenants : List Tenant) (noted : Bool) (c : Change) → Describes tenants
 fits tenants false c d = d.0
 fits tenants true c d = d.1
 
-pub all_fit : (longest : Option ℕ) (tenants : List Tenant) (steps : List Step) → AllByRecursion (Describes tenants) (changes_of tenants steps) → AllByRecursion IsChange (logged_changes longest tenants steps)
-all_fit longest tenants [] all = tt
-all_fit longest tenants (step ∷ steps) all = by (all_fit longest tenants steps) (change_of tenants step) all
+pub all_fit : (longest : Option ℕ) (tenants : List Tenant) (steps : List Step) → AllByRecursion (IsLogged longest tenants) steps → AllByRecursion (Describes tenants) (changes_of tenants steps) → AllByRecursion IsChange (logged_changes longest steps)
+all_fit longest tenants [] each all = tt
+all_fit longest tenants (step ∷ steps) each all =
+    subst (λ l. AllByRecursion IsChange (cons_option l (logged_changes longest steps))) (sym each.0)
+    (by (all_fit longest tenants steps each.1) (change_of tenants step) all)
   where
-    by : (AllByRecursion (Describes tenants) (changes_of tenants steps) → AllByRecursion IsChange (logged_changes longest tenants steps)) →
+    by : (AllByRecursion (Describes tenants) (changes_of tenants steps) → AllByRecursion IsChange (logged_changes longest steps)) →
         (o : Option Change) → AllByRecursion (Describes tenants) (cons_option o (changes_of tenants steps)) →
-        AllByRecursion IsChange (cons_option (option_map (logged_change tenants (is_noted longest step)) o) (logged_changes longest tenants steps))
+        AllByRecursion IsChange (cons_option (option_map (logged_change tenants (is_noted longest step)) o) (logged_changes longest steps))
     by again None all = again all
     by again (Some c) all = (fits tenants (is_noted longest step) c all.0, again all.1)
 

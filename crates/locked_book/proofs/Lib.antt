@@ -14,6 +14,7 @@ pub mod Restoring
 pub mod CutLogs
 pub mod Fitting
 pub mod Logging
+pub mod LoggedSteps
 pub mod NoteLengths
 pub mod NotedRecords
 pub mod TenantNames

@@ -21,7 +21,6 @@ use Rattle.locked_book.specs.Counting.{IsKeptState, StoreContent, has_room, with
 use Rattle.locked_book.specs.History.{Adds, DeskView, state_of}
 use Rattle.locked_book.specs.Names.{StoreNames, setting_of}
 use Rattle.locked_book.specs.Performing.{HasLeaseOutcome, HasOutcome, Performs, PerformsStep, RepliesBy, Tries, TriesBy, TriesCommand, abandoned_bytes, abandoned_of, performed_outcome, tried_outcome}
-use Rattle.locked_book.specs.Logging.{NamesTenant}
 use Rattle.locked_book.specs.Results.{HashesTo}
 use Rattle.locked_book.specs.Returns.{MayReturn, ReturnsFilledHand}
 use Rattle.locked_book.specs.Totals.{CanCount, Counts, amounts_with, counts_after, counts_with}
@@ -31,7 +30,6 @@ use Rattle.locked_book.proofs.Counted.{is_step, lends, paired, plus_nothing}
 use Rattle.locked_book.proofs.Keeping.{counted_kept, uncounted_kept}
 use Rattle.locked_book.proofs.Rooms.{room_given}
 use Rattle.locked_book.proofs.SessionSums.{Sums, abandon_sums, delete_manifest_sums, delete_sums, lease_sums, mount_sums, put_manifest_sums, remove_repo_sums, start_sums, still_sums}
-use Rattle.locked_book.proofs.TenantNames.{abandon_names}
 
 -- ---- the amounts of commands of one step
 
@@ -278,27 +276,6 @@ module _ (names : StoreNames) (b b' : BookState) (k : Counts) (step : Step) (tri
           adds = subst (λ s. Adds C d.trace s d'.trace) t.is adds;
         };
       })
-
-  -- if it abandons a session, the session's key has a tenant of the store
-  pub names_tenant : (hands reserve : ℕ) → IsKeptState names b k hands reserve → NamesTenant names.setting.tenants step
-  names_tenant hands reserve was = subst (NamesTenant names.setting.tenants) (sym t.is) (by t.command t.reply (command_is_step (record { book = b; counts = k }) (record { book = b'; counts = after }) t.command t.reply (t.has after refl)))
-    where
-      after : Counts
-      after = counts_with k (abandoned_bytes (CommandCall t.command t.reply))
-
-      by : (command : Command) (reply : Result Answer Refusal) → IsStep (state_of (record { book = b; counts = k })) (CommandCall command reply) (state_of (record { book = b'; counts = after })) → NamesTenant names.setting.tenants (CommandCall command reply)
-      by (Start r) reply h = tt
-      by (Status r n) reply h = tt
-      by (Append r n g x) reply h = tt
-      by (Close r n d g x) reply h = tt
-      by (Abandon r n) reply h = abandon_names (record { book = b; counts = k }) (record { book = b'; counts = after }) names.setting.tenants r n reply (ap (λ s. s.tenants) was.7) h
-      by (Mount r d from) reply h = tt
-      by (Delete r d) reply h = tt
-      by (PutManifest r x) reply h = tt
-      by (GetManifest r d) reply h = tt
-      by (DeleteManifest r d) reply h = tt
-      by (RemoveRepo r) reply h = tt
-      by (Lease r d) reply h = tt
 
   -- it returns no hand
   pub returns_nothing : (own : List Step) → MayReturn own step

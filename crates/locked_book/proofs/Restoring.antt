@@ -1,26 +1,25 @@
 -- The log of a history restores the state to which the history leads.
 use Rattle.std.proofs.Common.{◌≡◌, ◌∙◌, ℕ, true, List, [], ◌∷◌, ◌++◌, Option, None, Some, ap, refl, subst, sym}
-use Rattle.std.specs.Prelude.{◌==◌, if◌then◌else◌, Bool}
-use Rattle.std.specs.Option.{option_map}
+use Rattle.std.specs.Prelude.{◌==◌, if◌then◌else◌}
 use Rattle.std.specs.FinMap as fmap
 use Rattle.std.specs.List.{AllByRecursion, cons_option}
 use Rattle.ghost_log.specs.declared.view.Entry.{Entry}
 use Rattle.ghost_log.specs.Entries.{events_by}
 use Rattle.durable_log.specs.Encoding.{encode}
 use Rattle.log_records.specs.Records.{records_bytes}
-use Rattle.store_model.specs.Catalog.{Tenant}
-use Rattle.store_model.specs.Durable.{Agrees, AreReturnedAsTaken, Change, change_of}
 use Rattle.log_records.specs.Changes as logged
+use Rattle.store_model.specs.Durable.{Agrees, AreReturnedAsTaken}
 use Rattle.store_model.specs.Histories.{LeadsTo, State, Step, initial_state}
 use Rattle.store_model.specs.Lanes.{IsPaired, LaneSteps, all_steps, steps_by}
 use Rattle.store_model.specs.Recovery.{IsWellFormedStep}
 use Rattle.store_model.proofs.Durable.Histories.{logs_extend, new_stores_agree}
 use Rattle.store_model.proofs.Durable.Lanes.{lanes_return_hands}
 use Rattle.locked_book.specs.History.{LogLeadsTo, steps_of}
-use Rattle.locked_book.specs.Logging.{change_bytes, has_log, is_noted, logged_change, recorded_bytes, step_bytes}
+use Rattle.locked_book.specs.Logging.{change_bytes, has_log, logged_step, recorded_bytes, step_bytes}
 use Rattle.locked_book.specs.Names.{OpensNew, StoreNames}
 use Rattle.locked_book.specs.Restoring.{IsRestorable, logged_changes, opening_state}
 use Rattle.locked_book.specs.Returns.{AreReturned, AreWellFormed}
+use Rattle.locked_book.proofs.LoggedSteps.{steps_logged}
 use Rattle.locked_book.specs.declared.policy.LogPolicy.{LogPolicy}
 use Rattle.locked_book.specs.declared.policy.LogPolicy.TheVariants as policy
 
@@ -57,24 +56,23 @@ returned_as_taken names history s opens leads returned formed =
 
 -- ---- the bytes of the log
 
-change_first : (tenants : List Tenant) (noted : Bool) (change : Option Change) (rest : List logged.Change) →
-    change_bytes tenants noted change ++ records_bytes rest ≡ records_bytes (cons_option (option_map (logged_change tenants noted) change) rest)
-change_first tenants noted None rest = refl
-change_first tenants noted (Some c) rest = refl
+change_first : (change : Option logged.Change) (rest : List logged.Change) → change_bytes change ++ records_bytes rest ≡ records_bytes (cons_option change rest)
+change_first None rest = refl
+change_first (Some c) rest = refl
 
--- the records of the steps are those of their changes
-records_of_steps : (longest : Option ℕ) (tenants : List Tenant) (history : List (Entry Step)) → encode (step_bytes longest tenants) history ≡ records_bytes (logged_changes longest tenants (steps_of history))
-records_of_steps longest tenants [] = refl
-records_of_steps longest tenants (e ∷ es) =
-    ap (λ bytes. step_bytes longest tenants e.event ++ bytes) (records_of_steps longest tenants es)
-    ∙ change_first tenants (is_noted longest e.event) (change_of tenants e.event) (logged_changes longest tenants (steps_of es))
+-- the records of the steps are those of what the log describes of them
+records_of_steps : (longest : Option ℕ) (history : List (Entry Step)) → encode (step_bytes longest) history ≡ records_bytes (logged_changes longest (steps_of history))
+records_of_steps longest [] = refl
+records_of_steps longest (e ∷ es) =
+    ap (λ bytes. step_bytes longest e.event ++ bytes) (records_of_steps longest es)
+    ∙ change_first (logged_step longest e.event) (logged_changes longest (steps_of es))
 
-pub history_records : (p : LogPolicy) (longest : Option ℕ) (tenants : List Tenant) (history : List (Entry Step)) → has_log p ≡ true →
-    encode (recorded_bytes p longest tenants) history ≡ records_bytes (logged_changes longest tenants (steps_of history))
-history_records policy.NoLog longest tenants history some = absurd cc
-history_records policy.Never longest tenants history some = records_of_steps longest tenants history
-history_records policy.Closes longest tenants history some = records_of_steps longest tenants history
-history_records policy.Each longest tenants history some = records_of_steps longest tenants history
+pub history_records : (p : LogPolicy) (longest : Option ℕ) (history : List (Entry Step)) → has_log p ≡ true →
+    encode (recorded_bytes p longest) history ≡ records_bytes (logged_changes longest (steps_of history))
+history_records policy.NoLog longest history some = absurd cc
+history_records policy.Never longest history some = records_of_steps longest history
+history_records policy.Closes longest history some = records_of_steps longest history
+history_records policy.Each longest history some = records_of_steps longest history
 
 -- ---- the durable state
 
@@ -84,7 +82,8 @@ restorable names history s opens leads returned formed =
     let all = returned_as_taken names history s opens leads returned formed in
     record {
       leads = leads;
-      records = history_records names.policy names.longest names.setting.tenants history;
+      records = history_records names.policy names.longest history;
+      describes = steps_logged names.longest names.setting.tenants (steps_of history) fmap.empty (opening_state names) (initial_state names.opening) s opening refl opens.sound leads all formed;
       agrees = logs_extend fmap.empty (opening_state names) (initial_state names.opening) (steps_of history) s opening leads all;
       opens = opens;
       opening = opening;

@@ -31,10 +31,15 @@ returned_after name b w step agrees returned may = λ n. ⊎_elim
     (eqb_tells w.number n)
 
 -- a desk holds the hand that it has just checked out, whatever was filled in
-pub holds_taken : (own own' : List Step) (repo : Text) (number : ℕ) (range : Option ByteRange) (len : ℕ) (taken hand : HandRecord) →
-    own' ≡ own ++ TakeCall repo number range len (Ok taken) ∷ [] → hand.key ≡ taken.key → hand.chunks ≡ taken.chunks → IsHeld hand own'
-holds_taken own own' repo number range len taken hand made key chunks =
-    (taken, ap held_hand made ∙ fold-append hand_after None own (TakeCall repo number range len (Ok taken) ∷ []), key, chunks)
+pub holds_taken : (own own' : List Step) (repo : Text) (number : ℕ) (range : Option ByteRange) (len : ℕ) (taken hand : HandRecord) (last : Option Text) →
+    own' ≡ own ++ TakeCall repo number range len (Ok taken) ∷ [] → hand ≡ record taken { last = last } → IsHeld hand own'
+holds_taken own own' repo number range len taken hand last made is = (
+  taken,
+  ap held_hand made ∙ fold-append hand_after None own (TakeCall repo number range len (Ok taken) ∷ []),
+  ap (λ (h : HandRecord). h.key) is,
+  ap (λ (h : HandRecord). h.repo) is,
+  ap (λ (h : HandRecord). h.chunks) is,
+)
 
 -- ---- well-formed steps
 

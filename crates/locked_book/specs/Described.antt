@@ -1,14 +1,15 @@
 -- The changes that the records of a log describe, and the descriptions of changes.
-use Rattle.std.specs.Prelude.{ℕ, Bool, List, get_or, position}
-use Rattle.std.specs.Option.{option_map_or}
+use Rattle.std.specs.Prelude.{◌≡◌, ℕ, Bool, List, Option, get_or, position}
+use Rattle.std.specs.Option.{option_map, option_map_or}
 use Rattle.blob_digest.specs.Tenants.{no_tenant}
 use Rattle.content_files.specs.Chunks.{read_notes}
-use Rattle.locked_book.specs.Logging.{logged_chunk, logged_seal}
+use Rattle.locked_book.specs.Logging.{is_noted, logged_chunk, logged_seal, logged_step}
 use Rattle.log_records.specs.Changes as logged
 use Rattle.noted_logs.specs.Noted.{as_kept}
 use Rattle.spec_lib.specs.Texts.{Text, same_text}
 use Rattle.store_model.specs.Catalog.{Tenant}
-use Rattle.store_model.specs.Durable.{BlobLinked, BlobStored, BlobUnlinked, Change, ChunkReceived, ManifestDeleted, ManifestPut, NumberSet, RepoAdded, RepoRemoved, SessionDropped, SessionOpened, SessionSealed, session_key}
+use Rattle.store_model.specs.Durable.{BlobLinked, BlobStored, BlobUnlinked, Change, ChunkReceived, ManifestDeleted, ManifestPut, NumberSet, RepoAdded, RepoRemoved, SessionDropped, SessionOpened, SessionSealed, change_of, session_key}
+use Rattle.store_model.specs.Histories.{Step}
 
 -- the place of the tenant with this name
 abbrev pub place : List Tenant → Text → ℕ
@@ -54,3 +55,8 @@ logged_change tenants noted (RepoRemoved repo) = logged.RepoRemoved repo
 logged_change tenants noted (RepoAdded repo) = logged.RepoAdded repo
 logged_change tenants noted (NumberSet t n) = logged.NumberSet (name_at tenants t) n
 logged_change tenants noted (BlobStored digest bytes) = logged.BlobStored digest bytes
+
+-- the log describes the step's change, if it has one
+abbrev pub IsLogged : Option ℕ → List Tenant → Step → Type 0
+IsLogged longest tenants step =
+    logged_step longest step ≡ option_map (logged_change tenants (is_noted longest step)) (change_of tenants step)

@@ -1,6 +1,7 @@
 -- What the log of a store restores.
 use Rattle.std.specs.Prelude.{◌≡◌, ◌++◌, ℕ, true, List, Option, filter_map}
 use Rattle.std.specs.FinMap as fmap
+use Rattle.std.specs.List.{AllByRecursion}
 use Rattle.ghost_log.specs.declared.view.Entry.{Entry}
 use Rattle.ghost_log.specs.Entries.{IsPrefix}
 use Rattle.durable_log.specs.Encoding.{encode}
@@ -9,6 +10,7 @@ use Rattle.log_records.specs.Changes as logged
 use Rattle.log_records.specs.Records.{records_bytes}
 use Rattle.store_model.specs.Durable.{Agrees, AgreesAfter, AreReturnedAsTaken, DurableState, initial_durable}
 use Rattle.store_model.specs.Histories.{IsLegal, State, Step}
+use Rattle.locked_book.specs.Described.{IsLogged}
 use Rattle.locked_book.specs.History.{DeskView, LogLeadsTo, SeesAll, steps_of}
 use Rattle.locked_book.specs.Logging.{has_log, logged_step, recorded_bytes}
 use Rattle.locked_book.specs.Names.{OpensNew, StoreNames}
@@ -26,12 +28,13 @@ logged_changes longest steps = filter_map (logged_step longest) steps
 abbrev pub opening_state : StoreNames → DurableState
 opening_state names = initial_durable names.setting.tenants
 
--- A history leads to this state, and its log restores the state: the log has the records of the changes of its steps,
--- and the durable state after these changes agrees with the catalog. The other fields are the premises under which a
--- store survives crashes (`StoresSurviveCrashes`).
+-- A history leads to this state, and its log restores the state: the log has the records of its steps, each of which
+-- describes the step's change, and the durable state after these changes agrees with the catalog. The other fields are
+-- the premises under which a store survives crashes (`StoresSurviveCrashes`).
 pub record IsRestorable (names : StoreNames) (history : List (Entry Step)) (s : State) : Type 0 where
   pub leads : LogLeadsTo names.opening history s
   pub records : has_log names.policy ≡ true → records_of names history ≡ records_bytes (logged_changes names.longest (steps_of history))
+  pub describes : AllByRecursion (IsLogged names.longest names.setting.tenants) (steps_of history)
   pub agrees : AgreesAfter fmap.empty (opening_state names) (steps_of history) s.catalog
   pub opens : OpensNew names
   pub opening : Agrees fmap.empty (opening_state names) names.opening

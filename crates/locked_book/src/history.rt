@@ -7,7 +7,7 @@ ghost use Rattle.store_model.specs.Histories.{IsLegal, State};
 ghost use Rattle.locked_book.specs.Calls.{step_of};
 ghost use Rattle.locked_book.specs.History.{Adds, Allows, IsPart, LeadsOn, LogLeadsTo, SeesAll, steps_of};
 ghost use Rattle.locked_book.specs.Durability.{IsConfirmed, log_trace};
-ghost use Rattle.locked_book.specs.Logging.{IsSmall, IsUnrecorded, NamesTenant, promises, recorded_bytes};
+ghost use Rattle.locked_book.specs.Logging.{IsSmall, IsUnrecorded, promises, recorded_bytes};
 ghost use Rattle.locked_book.specs.Names.{OpensNew};
 ghost use Rattle.locked_book.specs.Recording.{IsRecord};
 ghost use Rattle.locked_book.specs.Restoring.{IsRestorable, RestoresItsStates, records_of};

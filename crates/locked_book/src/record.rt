@@ -9,7 +9,7 @@ ghost use Rattle.log_records.specs.Changes as logged;
 ghost use Rattle.log_records.specs.Changes.{IsChange, change_view, max_body};
 ghost use Rattle.log_records.specs.Records.{record_bytes};
 ghost use Rattle.locked_book.specs.Calls.{step_of};
-ghost use Rattle.locked_book.specs.Logging.{IsSmall, NamesTenant, chunk_bytes, logged_chunk, logged_seal, manifest_bytes, mount_bytes, seal_bytes, step_bytes};
+ghost use Rattle.locked_book.specs.Logging.{IsSmall, chunk_bytes, logged_chunk, logged_seal, manifest_bytes, mount_bytes, seal_bytes, step_bytes};
 ghost use Rattle.locked_book.specs.Recording.{IsRecordOf, RecordsNotedChunk, RecordsNotedSeal};
 
 use crate::call::Call;

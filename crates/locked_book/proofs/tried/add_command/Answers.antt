@@ -3,7 +3,7 @@ use Rattle.locked_book.specs.Calls.{step_of}
 use Rattle.locked_book.specs.History.{DeskView}
 use Rattle.locked_book.specs.Performing.{PerformsStep}
 use Rattle.locked_book.specs.Totals.{amounts_with, counts_with}
-use Rattle.locked_book.proofs.Performing.{has_space, names_tenant, performs_step, still_kept, tried_step}
+use Rattle.locked_book.proofs.Performing.{has_space, performs_step, still_kept, tried_step}
 use Rattle.locked_book.proofs.tried.add_command.Goals as goal
 
 pub count_command-requires : goal.count_command-requires
@@ -32,6 +32,3 @@ returns-clause-performs g c =
     let amounts = c.count_command.ensures.desk ∙ ap (amounts_with c.desk.inside.tally) c.abandoned_bytes.ensures in
     subst (λ (d : DeskView). PerformsStep g.S.Naming.names.opening (step_of c.args.call) c.args.before.now.value c.args.counters.now c.args.book.now c.count_command.new.self d (record { amounts = c.count_command.new.desk; trace = c.add.new.writer })) c.desk.view_is
     (performs_step g.S.Naming.names c.args.before.now.value c.args.book.now c.args.counters.now (step_of c.args.call) c.requires.tries g.S.Naming.names.opening c.count_command.new.self (record { amounts = c.desk.inside.tally; trace = c.desk.inside.writer }) (record { amounts = c.count_command.new.desk; trace = c.add.new.writer }) counted amounts c.add.ensures.adds)
-
-pub add-requires-clause-tenant : goal.add-requires-clause-tenant
-add-requires-clause-tenant g c = names_tenant g.S.Naming.names c.args.before.now.value c.args.book.now c.args.counters.now (step_of c.args.call) c.requires.tries c.args.out.now.hands c.args.out.now.reserve c.requires.records.0

@@ -53,7 +53,7 @@ returns-clause-leads g c = λ s s' run last.
     (leaves_on opening c.self.inside.backlog.history c.writer.inside.writer.number (step_of c.args.call) s s' (subst (λ es. LogLeadsTo opening es s) (sym c.self.view_is) run) last)
 
 pub append-requires-clause-bytes : goal.append-requires-clause-bytes
-append-requires-clause-bytes g c = λ recording. sym (unrecorded g.S.Naming.names.policy g.S.Naming.names.longest g.S.Naming.names.setting.tenants c.args.call c.requires.unrecorded).0
+append-requires-clause-bytes g c = λ recording. sym (unrecorded g.S.Naming.names.policy g.S.Naming.names.longest c.args.call c.requires.unrecorded).0
 
 pub append-requires-clause-promised : goal.append-requires-clause-promised
-append-requires-clause-promised g c = sym (unrecorded g.S.Naming.names.policy g.S.Naming.names.longest g.S.Naming.names.setting.tenants c.args.call c.requires.unrecorded).1
+append-requires-clause-promised g c = sym (unrecorded g.S.Naming.names.policy g.S.Naming.names.longest c.args.call c.requires.unrecorded).1

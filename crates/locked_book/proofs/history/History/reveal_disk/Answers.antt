@@ -17,4 +17,4 @@ returns-clause-written g c =
     let whole = c.reveal_order.ensures.whole in
     subst (λ h. IsPrefix d.written (names.log.base ++ records_of names h)) c.self.view_is
     (prefix_trans d.written (names.log.base ++ records_of names d.taken) (names.log.base ++ records_of names history) whole.in_order
-    (prefix_after names.log.base (records_of names d.taken) (records_of names history) (encode_prefix (recorded_bytes names.policy names.longest names.setting.tenants) d.taken history whole.of)))
+    (prefix_after names.log.base (records_of names d.taken) (records_of names history) (encode_prefix (recorded_bytes names.policy names.longest) d.taken history whole.of)))

@@ -1,4 +1,3 @@
-use Rattle.std.proofs.Common.{ap}
 use Rattle.locked_book.specs.History.{state_of}
 use Rattle.locked_book.proofs.Counted.{takes}
 use Rattle.locked_book.proofs.TenantNames.{take_names}
@@ -12,6 +11,5 @@ invariant_of-self g c = (c.check_out-result.ensures.kept, c.add_unrecorded.ensur
 
 pub returns-clause-names : goal.returns-clause-names
 returns-clause-names g c =
-    take_names (record { book = c.self.inside.book; counts = c.self.inside.counters }) (record { book = c.check_out-result.new.book; counts = c.self.inside.counters }) g.S.Naming.names.setting.tenants c.args.repo.now c.args.number c.args.range c.args.len c.check_out-result.result
-    (ap (λ s. s.tenants) c.self.invariant.0.7)
+    take_names (record { book = c.self.inside.book; counts = c.self.inside.counters }) (record { book = c.check_out-result.new.book; counts = c.self.inside.counters }) c.args.repo.now c.args.number c.args.range c.args.len c.check_out-result.result
     (takes (record { book = c.self.inside.book; counts = c.self.inside.counters }) (record { book = c.check_out-result.new.book; counts = c.self.inside.counters }) c.args.repo.now c.args.number c.args.range c.args.len c.check_out-result.result c.check_out-result.ensures.does)
