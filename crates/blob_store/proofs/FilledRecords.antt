@@ -1,5 +1,5 @@
 -- The records of hands that were filled, and whether they have notes.
-use Rattle.std.proofs.Common.{◌≡◌, ◌+◌, ◌∙◌, ℕ, Bool, Option, Some, None, Ok, List, [], ◌∷◌, ap, length, refl, sym}
+use Rattle.std.proofs.Common.{◌≡◌, ◌+◌, ◌∙◌, ℕ, Bool, Option, Some, None, Ok, [], ◌∷◌, ap, length, refl, sym}
 use Rattle.std.specs.List.{sum_by}
 use Rattle.std.specs.Option.{option_map}
 use Rattle.blob_digest.specs.Names.{tenant_name}
@@ -10,7 +10,7 @@ use Rattle.spec_lib.specs.Texts.{Text}
 use Rattle.spec_lib.proofs.Outcomes.{bound_ok}
 use Rattle.blob_digest.specs.Outcomes.{DoesExactly}
 use Rattle.blob_digest.specs.declared.range.ByteRange.{ByteRange}
-use Rattle.store_model.specs.Catalog.{HandRecord, Tenant}
+use Rattle.store_model.specs.Catalog.{HandRecord}
 use Rattle.store_model.specs.Commands as commands
 use Rattle.store_model.specs.Sessions.{hand_in}
 use Rattle.locked_book.specs.Counting.{StoreContent, take_outcome}
@@ -40,14 +40,14 @@ taken_open k k' repo number range len hand does =
 pub emptied : (taken filled empty : HandRecord) (bytes : Text) → taken.last ≡ None → filled ≡ record taken { last = Some bytes } → empty ≡ record filled { last = None } → empty ≡ taken
 emptied taken filled empty bytes unfilled full is = is ∙ ap (λ (h : HandRecord). record h { last = None }) full ∙ (λ i. record taken { last = sym unfilled i })
 
-module _ (p : LogPolicy) (longest : Option ℕ) (tenants : List Tenant) (h : HandRecord) (repo : Text) (number : ℕ) (noted : Bool) (of : IsHandOf tenants repo number h) where
+module _ (p : LogPolicy) (longest : Option ℕ) (h : HandRecord) (repo : Text) (number : ℕ) (noted : Bool) (of : IsHandOf repo number h) where
   -- the record of a chunk is that of the check-in of a hand that it fills
   pub check_in_recorded : (bytes : Text) → noted ≡ is_beyond longest (sum_by length h.chunks + length bytes) →
-      chunk_bytes p noted (tenant_name repo) number bytes ≡ check_in_bytes p longest tenants (record h { last = Some bytes })
+      chunk_bytes p noted (tenant_name repo) number bytes ≡ check_in_bytes p longest (record h { last = Some bytes })
   check_in_recorded [] is = refl
-  check_in_recorded (b ∷ bytes) is = λ i. logged_by p (record_bytes (logged_chunk (is i) (sym of.0 i) (sym of.1 i) (b ∷ bytes)))
+  check_in_recorded (b ∷ bytes) is = λ i. logged_by p (record_bytes (logged_chunk (is i) (tenant_name (sym of.0 i)) (sym of.1 i) (b ∷ bytes)))
 
   -- the record of a close is that of the finish of a hand that its last chunk fills
   pub finish_recorded : (digest bytes : Text) → noted ≡ is_beyond longest (sum_by length h.chunks + length bytes) →
-      seal_bytes p noted (tenant_name repo) number digest bytes ≡ finish_bytes p longest tenants (record h { last = Some bytes }) digest
-  finish_recorded digest bytes is = λ i. logged_by p (record_bytes (logged_seal (is i) (sym of.0 i) (sym of.1 i) digest bytes))
+      seal_bytes p noted (tenant_name repo) number digest bytes ≡ finish_bytes p longest (record h { last = Some bytes }) digest
+  finish_recorded digest bytes is = λ i. logged_by p (record_bytes (logged_seal (is i) (tenant_name (sym of.0 i)) (sym of.1 i) digest bytes))

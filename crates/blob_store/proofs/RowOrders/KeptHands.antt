@@ -47,7 +47,7 @@ module _ (hands : CheckedOutSessions) (C X : Catalog) (kept : KeepsHands hands C
   key = (p.t, n)
 
   abbrev hand : HandRecord
-  hand = record { key = key; chunks = p.checked.chunks; reserved = len; last = None }
+  hand = record { repo = p.checked.s.repo; key = key; chunks = p.checked.chunks; reserved = len; last = None }
 
   hand_is : hand ≡ h
   hand_is = taken_hand C X r n len g h stepped

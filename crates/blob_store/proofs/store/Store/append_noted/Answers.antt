@@ -1,4 +1,4 @@
-use Rattle.std.proofs.Common.{◌≡◌, ◌+◌, ◌∙◌, Err, None, Ok, inr, ap, is_some, length, refl, subst, sym, true}
+use Rattle.std.proofs.Common.{◌≡◌, ◌+◌, ◌∙◌, Err, None, Some, Ok, inr, ap, is_some, length, refl, subst, sym, true}
 use Rattle.std.specs.List.{sum_by}
 use Rattle.blob_digest.specs.Names.{tenant_name}
 use Rattle.content_files.specs.Chunks.{read_notes}
@@ -23,13 +23,13 @@ put_back-requires-clause-bytes g c =
     sym (ap is_some c.in-Some.is) ∙ c.notes_if.ensures.there ∙ in_file c.home_of-home.result names.longest c.len_after.result c.home_of-home.ensures ∙ ap (is_beyond names.longest) long in
     let made = c.in-Ok-noted_chunk_record.ensures.made chunk (c.in-Ok.ensures.noted ∙ sym c.in-Some.ensures.same) in
     made ∙ ap (λ (p : LogPolicy). chunk_bytes p true (tenant_name c.args.repo.now) c.args.number chunk) c.self.invariant.1
-    ∙ check_in_recorded names.policy names.longest names.setting.tenants taken c.args.repo.now c.args.number true c.in_ok-hand.ensures.names chunk noted
-    ∙ ap (check_in_bytes names.policy names.longest names.setting.tenants) (sym c.in-Ok.ensures.ok)
+    ∙ check_in_recorded names.policy names.longest taken c.args.repo.now c.args.number true c.in_ok-hand.ensures.names chunk noted
+    ∙ ap (check_in_bytes names.policy names.longest) (sym c.in-Ok.ensures.ok)
 
 pub put_back-requires-clause-held : goal.put_back-requires-clause-held
 put_back-requires-clause-held g c =
-    holds_taken c.args.desk.now.trace.own c.take.new.desk.trace.own c.args.repo.now c.args.number None c.args.len c.in_ok-hand.hand c.in-Ok.hand
-    c.in_ok-hand.ensures.makes.adds.own (ap (λ (h : HandRecord). h.key) c.in-Ok.ensures.ok) (ap (λ (h : HandRecord). h.chunks) c.in-Ok.ensures.ok)
+    holds_taken c.args.desk.now.trace.own c.take.new.desk.trace.own c.args.repo.now c.args.number None c.args.len c.in_ok-hand.hand c.in-Ok.hand (Some (read_notes c.args.notes.now))
+    c.in_ok-hand.ensures.makes.adds.own c.in-Ok.ensures.ok
 
 pub returns-in_default : goal.returns-in_default
 returns-in_default g c =

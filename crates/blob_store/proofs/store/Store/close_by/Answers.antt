@@ -1,4 +1,4 @@
-use Rattle.std.proofs.Common.{◌≡◌, ◌+◌, ◌∙◌, Err, None, inr, ap, is_some, length, subst, sym}
+use Rattle.std.proofs.Common.{◌≡◌, ◌+◌, ◌∙◌, Err, None, Some, inr, ap, is_some, length, subst, sym}
 use Rattle.std.specs.List.{sum_by}
 use Rattle.blob_digest.specs.Names.{tenant_name}
 use Rattle.store_model.specs.Catalog.{HandRecord}
@@ -21,13 +21,13 @@ finish-requires-clause-bytes g c =
     let noted = c.notes_if-notes.ensures.there ∙ in_file c.home_of-home.result names.longest c.len_after-2.result c.home_of-home.ensures ∙ ap (is_beyond names.longest) long in
     c.in-Ok-seal_record.ensures.made
     ∙ ap (λ (p : LogPolicy). seal_bytes p (is_some c.notes_if-notes.result) (tenant_name c.args.repo.now) c.args.number c.args.digest.now bytes) c.self.invariant.1
-    ∙ finish_recorded names.policy names.longest names.setting.tenants taken c.args.repo.now c.args.number (is_some c.notes_if-notes.result) c.in_ok-hand.ensures.names c.args.digest.now bytes noted
-    ∙ ap (λ (h : HandRecord). finish_bytes names.policy names.longest names.setting.tenants h c.args.digest.now) (sym c.in-Ok.ensures.ok)
+    ∙ finish_recorded names.policy names.longest taken c.args.repo.now c.args.number (is_some c.notes_if-notes.result) c.in_ok-hand.ensures.names c.args.digest.now bytes noted
+    ∙ ap (λ (h : HandRecord). finish_bytes names.policy names.longest h c.args.digest.now) (sym c.in-Ok.ensures.ok)
 
 pub finish-requires-clause-held : goal.finish-requires-clause-held
 finish-requires-clause-held g c =
-    holds_taken c.args.desk.now.trace.own c.take.new.desk.trace.own c.args.repo.now c.args.number c.args.range (length c.args.bytes.now) c.in_ok-hand.hand c.in-Ok.hand
-    c.in_ok-hand.ensures.makes.adds.own (ap (λ (h : HandRecord). h.key) c.in-Ok.ensures.ok) (ap (λ (h : HandRecord). h.chunks) c.in-Ok.ensures.ok)
+    holds_taken c.args.desk.now.trace.own c.take.new.desk.trace.own c.args.repo.now c.args.number c.args.range (length c.args.bytes.now) c.in_ok-hand.hand c.in-Ok.hand (Some c.args.bytes.now)
+    c.in_ok-hand.ensures.makes.adds.own c.in-Ok.ensures.ok
 
 pub returns-clause-steps : goal.returns-clause-steps
 returns-clause-steps g c =

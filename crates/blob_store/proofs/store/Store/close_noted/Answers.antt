@@ -1,4 +1,4 @@
-use Rattle.std.proofs.Common.{◌≡◌, ◌+◌, ◌∙◌, Err, None, Ok, inr, ap, is_some, length, refl, subst, sym, true}
+use Rattle.std.proofs.Common.{◌≡◌, ◌+◌, ◌∙◌, Err, None, Some, Ok, inr, ap, is_some, length, refl, subst, sym, true}
 use Rattle.std.specs.List.{sum_by}
 use Rattle.blob_digest.specs.Names.{tenant_name}
 use Rattle.content_files.specs.Chunks.{read_notes}
@@ -23,13 +23,13 @@ finish-requires-clause-bytes g c =
     sym (ap is_some c.in-Some.is) ∙ c.notes_if.ensures.there ∙ in_file c.home_of-home.result names.longest c.len_after.result c.home_of-home.ensures ∙ ap (is_beyond names.longest) long in
     let made = c.in-Ok-noted_seal_record.ensures.made chunk (c.in-Ok.ensures.noted ∙ sym c.in-Some.ensures.same) in
     made ∙ ap (λ (p : LogPolicy). seal_bytes p true (tenant_name c.args.repo.now) c.args.number c.args.digest.now chunk) c.self.invariant.1
-    ∙ finish_recorded names.policy names.longest names.setting.tenants taken c.args.repo.now c.args.number true c.in_ok-hand.ensures.names c.args.digest.now chunk noted
-    ∙ ap (λ (h : HandRecord). finish_bytes names.policy names.longest names.setting.tenants h c.args.digest.now) (sym c.in-Ok.ensures.ok)
+    ∙ finish_recorded names.policy names.longest taken c.args.repo.now c.args.number true c.in_ok-hand.ensures.names c.args.digest.now chunk noted
+    ∙ ap (λ (h : HandRecord). finish_bytes names.policy names.longest h c.args.digest.now) (sym c.in-Ok.ensures.ok)
 
 pub finish-requires-clause-held : goal.finish-requires-clause-held
 finish-requires-clause-held g c =
-    holds_taken c.args.desk.now.trace.own c.take.new.desk.trace.own c.args.repo.now c.args.number None c.args.len c.in_ok-hand.hand c.in-Ok.hand
-    c.in_ok-hand.ensures.makes.adds.own (ap (λ (h : HandRecord). h.key) c.in-Ok.ensures.ok) (ap (λ (h : HandRecord). h.chunks) c.in-Ok.ensures.ok)
+    holds_taken c.args.desk.now.trace.own c.take.new.desk.trace.own c.args.repo.now c.args.number None c.args.len c.in_ok-hand.hand c.in-Ok.hand (Some (read_notes c.args.notes.now))
+    c.in_ok-hand.ensures.makes.adds.own c.in-Ok.ensures.ok
 
 pub returns-in_default : goal.returns-in_default
 returns-in_default g c =
