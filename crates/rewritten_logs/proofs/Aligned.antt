@@ -1,5 +1,5 @@
 -- The records of a log beside the changes that they describe, and bytes that are read in two parts.
-use Rattle.std.proofs.Common.{◌≡◌, ◌∙◌, ℕ, zero, suc, Bool, List, [], ◌∷◌, ◌++◌, Option, Some, None, ap, refl, sym, append_assoc, append-nil}
+use Rattle.std.proofs.Common.{◌≡◌, ◌∙◌, ℕ, zero, suc, Bool, List, [], ◌∷◌, ◌++◌, Option, Some, None, ap, refl, subst, sym, append_assoc, append-nil}
 use Rattle.std.specs.Prelude.{take}
 use Rattle.std.specs.List.{AllByRecursion, cons_option}
 use Rattle.std.specs.Option.{option_map}
@@ -10,7 +10,8 @@ use Rattle.log_records.specs.Changes.{IsChange}
 use Rattle.log_records.specs.Laws.{AreChangesIn, HasNoRecord}
 use Rattle.log_records.specs.Records.{record_bytes, records_bytes}
 use Rattle.log_records.proofs.Apart.{records_apart}
-use Rattle.locked_book.specs.Logging.{is_noted, logged_change}
+use Rattle.locked_book.specs.Described.{IsLogged, logged_change}
+use Rattle.locked_book.specs.Logging.{is_noted}
 use Rattle.locked_book.specs.Restoring.{logged_changes}
 use Rattle.store_model.specs.Catalog.{Tenant}
 use Rattle.store_model.specs.Durable.{Change, change_of, changes_of}
@@ -29,12 +30,14 @@ AreLogsOf tenants [] (c ∷ cs) = ⊥
 AreLogsOf tenants (l ∷ ls) [] = ⊥
 AreLogsOf tenants (l ∷ ls) (c ∷ cs) = IsLogOf tenants l c × AreLogsOf tenants ls cs
 
-pub steps_logged : (longest : Option ℕ) (tenants : List Tenant) (steps : List Step) → AreLogsOf tenants (logged_changes longest tenants steps) (changes_of tenants steps)
-steps_logged longest tenants [] = tt
-steps_logged longest tenants (step ∷ steps) = by (steps_logged longest tenants steps) (change_of tenants step)
+pub steps_logged : (longest : Option ℕ) (tenants : List Tenant) (steps : List Step) → AllByRecursion (IsLogged longest tenants) steps → AreLogsOf tenants (logged_changes longest steps) (changes_of tenants steps)
+steps_logged longest tenants [] all = tt
+steps_logged longest tenants (step ∷ steps) all =
+    subst (λ l. AreLogsOf tenants (cons_option l (logged_changes longest steps)) (cons_option (change_of tenants step) (changes_of tenants steps))) (sym all.0)
+    (by (steps_logged longest tenants steps all.1) (change_of tenants step))
   where
-    by : AreLogsOf tenants (logged_changes longest tenants steps) (changes_of tenants steps) → (o : Option Change) →
-        AreLogsOf tenants (cons_option (option_map (logged_change tenants (is_noted longest step)) o) (logged_changes longest tenants steps)) (cons_option o (changes_of tenants steps))
+    by : AreLogsOf tenants (logged_changes longest steps) (changes_of tenants steps) → (o : Option Change) →
+        AreLogsOf tenants (cons_option (option_map (logged_change tenants (is_noted longest step)) o) (logged_changes longest steps)) (cons_option o (changes_of tenants steps))
     by again None = again
     by again (Some c) = ((is_noted longest step, refl), again)
 

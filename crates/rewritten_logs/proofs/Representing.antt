@@ -14,8 +14,7 @@ use Rattle.blob_digest.specs.Names.{tenant_name}
 use Rattle.blob_digest.proofs.KeyOrders.{exact_link, link_cmp_total, number_cmp_total}
 use Rattle.content_files.specs.Chunks.{chunk_notes}
 use Rattle.log_records.specs.Changes as logged
-use Rattle.locked_book.specs.Described.{place}
-use Rattle.locked_book.specs.Logging.{logged_change, name_at}
+use Rattle.locked_book.specs.Described.{logged_change, name_at, place}
 use Rattle.locked_book.proofs.Fitting.{Describes, IsOwned, place_owned}
 use Rattle.log_state.specs.LoggedStates.{AreSame, LoggedState, after_chunk, after_logged, after_seal, found_at, initial_logged, key_in, place_in, with_blob, with_manifest}
 use Rattle.log_state.specs.Sessions.{OpenSession, with_logged}

@@ -20,6 +20,7 @@ use Rattle.noted_logs.specs.Noted.{AreNotedContents, IsNoted, noted_chunks, note
 use Rattle.noted_logs.proofs.Noting.{notes_determine}
 use Rattle.noted_logs.proofs.ReadBack.{chunks_are_read_back}
 use Rattle.locked_book.specs.CutLogs.{RestoresFirstSteps, changes_in, logged_in}
+use Rattle.locked_book.specs.Described.{IsLogged}
 use Rattle.locked_book.specs.History.{steps_of}
 use Rattle.locked_book.specs.Names.{StoreNames}
 use Rattle.locked_book.specs.Restoring.{logged_changes}
@@ -147,13 +148,13 @@ replacement tenants written base (Replaced front files more base' before same) =
 -- ---- restarts
 
 -- the changes that a store kept are those that its first records describe
-kept_logged : (names : StoreNames) (history : List (Entry Step)) (bytes : List ℕ) (k : RestoresFirstSteps names history bytes) →
+kept_logged : (names : StoreNames) (history : List (Entry Step)) (bytes : List ℕ) (k : RestoresFirstSteps names history bytes) → AllByRecursion (IsLogged names.longest names.setting.tenants) (steps_of history) →
     AreLogsOf names.setting.tenants (take (length k.kept) (logged_in names history)) k.kept
-kept_logged names history bytes k =
+kept_logged names history bytes k all =
     let n = length k.kept in
     let tenants = names.setting.tenants in
     subst (AreLogsOf tenants (take n (logged_in names history))) (ap (take n) k.split ∙ take-append_seam k.kept k.lost)
-    (take_logged tenants n (logged_in names history) (changes_in names history) (steps_logged names.longest tenants (steps_of history)))
+    (take_logged tenants n (logged_in names history) (changes_in names history) (steps_logged names.longest tenants (steps_of history) all))
 
 pub rewritten_logs_restart : RewrittenLogsRestart
 rewritten_logs_restart names history s other replayed t written base rest restores again some too same_tenants replaced of is =
@@ -162,21 +163,22 @@ rewritten_logs_restart names history s other replayed t written base rest restor
     let st = replacement tenants written base replaced in
     let D = initial_durable tenants in
     let ds = changes_of tenants (steps_of replayed) in
-    let theirs = logged_changes other.longest tenants (steps_of replayed) in
+    let theirs = logged_changes other.longest (steps_of replayed) in
     let described_all : AllByRecursion (Describes tenants) ds = subst (λ ts. AllByRecursion (Describes ts) (changes_of ts (steps_of replayed))) same_tenants (history_described other replayed t again) in
-    let bytes : base ++ rest ≡ records_bytes theirs = sym is ∙ again.records too ∙ ap (λ ts. records_bytes (logged_changes other.longest ts (steps_of replayed))) same_tenants in
-    let whole : AreChangesIn (base ++ rest) theirs [] = subst (λ (b : List ℕ). AreChangesIn b theirs []) (sym bytes) (read_back theirs (all_fit other.longest tenants (steps_of replayed) described_all)) in
+    let each_theirs : AllByRecursion (IsLogged other.longest tenants) (steps_of replayed) = subst (λ ts. AllByRecursion (IsLogged other.longest ts) (steps_of replayed)) same_tenants again.describes in
+    let bytes : base ++ rest ≡ records_bytes theirs = sym is ∙ again.records too in
+    let whole : AreChangesIn (base ++ rest) theirs [] = subst (λ (b : List ℕ). AreChangesIn b theirs []) (sym bytes) (read_back theirs (all_fit other.longest tenants (steps_of replayed) each_theirs described_all)) in
     let behind = read_behind base rest [] st.changes theirs st.reads_files whole in
     let kept_theirs : LinksKept D ds = subst (λ ts. LinksKept (initial_durable ts) (changes_of ts (steps_of replayed))) same_tenants (history_kept other replayed t again) in
     let S = state_after (names_in tenants) theirs in
     let r_theirs : Represents tenants S (after_changes D ds) =
-    represents_all tenants theirs ds _ D (steps_logged other.longest tenants (steps_of replayed)) described_all kept_theirs (represents_new tenants) in
+    represents_all tenants theirs ds _ D (steps_logged other.longest tenants (steps_of replayed) each_theirs) described_all kept_theirs (represents_new tenants) in
     let mine = take (length first.kept) (logged_in names history) in
     let front = read_behind written rest first.rest st.records mine st.reads first.read in
     let same_rest = one_way rest front.more behind.more first.rest [] front.read behind.read in
     let all_mine : AllByRecursion (Describes tenants) (first.kept ++ first.lost) = subst (AllByRecursion (Describes tenants)) first.split (history_described names history s restores) in
     let links_mine : LinksKept D (first.kept ++ first.lost) = subst (LinksKept D) first.split (history_kept names history s restores) in
-    let logs_mine : AreLogsOf tenants (st.records ++ front.more) first.kept = subst (λ ls. AreLogsOf tenants ls first.kept) front.both (kept_logged names history (written ++ rest) first) in
+    let logs_mine : AreLogsOf tenants (st.records ++ front.more) first.kept = subst (λ ls. AreLogsOf tenants ls first.kept) front.both (kept_logged names history (written ++ rest) first restores.describes) in
     let r_mine = represents_more tenants st.records st.changes front.more first.kept logs_mine (all_first (Describes tenants) first.kept first.lost all_mine) (kept_first first.kept first.lost D links_mine).0 st.represents in
     let r_mine' : Represents tenants S (after_changes D first.kept) =
     subst (λ ls. Represents tenants (state_after (names_in tenants) ls) (after_changes D first.kept)) (ap (λ ms. st.changes ++ ms) same_rest.0 ∙ sym behind.both) r_mine in
