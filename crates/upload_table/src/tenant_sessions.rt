@@ -150,7 +150,8 @@ impl TenantSessions {
         ensures fits { length result.1.value.bytes + len < 2 ^ 64 }
         ensures session { fmap.get self.old.sessions number
             ≡ Some (home_session result.0.value result.1.value) }
-        ensures taken { self.new ≡ with_chunks_here self.old number (out_chunks result.1.value len) }
+        ensures taken { self.new ≡ with_chunks_here self.old number
+            (out_chunks result.1.value len) }
     {
         match place_of(self.rows.as_slice(), number, Some(place)) {
             Ok(i) => {
